@@ -1,0 +1,72 @@
+use borrow.Author.Needs.{needs}
+use Rattle.archive.proofs.value_part.Statement.{statement}
+use Rattle.archive.proofs.value_part.Tie as tie
+use Rattle.archive.proofs.value_part.Reads as reads
+use Rattle.archive.proofs.value_part.Lts as lts
+use Rattle.archive.proofs.holds.Reads as holds-reads
+use Rattle.archive.proofs.index.Reads as index-reads
+
+-- src/lib.rt:122:9
+holds-requires : tie.Need-holds-requires
+holds-requires c κs = search needs
+
+-- src/lib.rt:123:9
+slice-aggregate-result : tie.Need-slice-aggregate-result
+slice-aggregate-result c = search needs
+
+-- src/lib.rt:123:9
+returns : tie.Need-returns
+returns c = ?
+
+-- src/lib.rt:125:9
+index-requires : tie.Need-index-requires
+index-requires c κs = search needs
+
+-- src/lib.rt:126:13
+add-a : tie.Need-add-a
+add-a c = ?
+
+-- src/lib.rt:126:13
+add-a-2 : tie.Need-add-a-2
+add-a-2 c = ?
+
+-- src/lib.rt:127:17
+mul-e : tie.Need-mul-e
+mul-e c = search needs
+
+-- src/lib.rt:127:13
+add-e : tie.Need-add-e
+add-e c = ?
+
+-- src/lib.rt:128:5
+sub-result : tie.Need-sub-result
+sub-result c = search needs
+
+-- src/lib.rt:128:5
+part-result-start : tie.Need-part-result-start
+part-result-start c = search needs
+
+-- src/lib.rt:128:5
+part-result-end : tie.Need-part-result-end
+part-result-end c = ?
+
+-- src/lib.rt:119:1
+returns-2 : tie.Need-returns-2
+returns-2 c = ?
+
+pub value-part-spec : {M : Type 1} → statement M
+value-part-spec =
+    tie.close
+    (tie.spec
+    holds-requires
+    slice-aggregate-result
+    returns
+    index-requires
+    add-a
+    add-a-2
+    mul-e
+    add-e
+    sub-result
+    part-result-start
+    part-result-end
+    returns-2)

@@ -1,0 +1,61 @@
+-- Record check: the first record of some bytes, number 12, then number 5, else 0.
+use Prim.Native.Nat.{ℕ, _+_, _*_, _-_}
+use mathlib.Core.List.{List}
+use mathlib.Core.Bool.{Bool, _&&_, not, cond}
+use lib.ListN.{length, getD}
+use lib.Dec.{eqb, ltb, leb}
+use Rattle.lists.specs.Tests.{allTo}
+use Rattle.le.specs.Le.{u16At, u32At}
+use Rattle.layout.specs.Record.{recordLength}
+
+-- the fields of a record, at their places: "sizes first: reads n (2 bytes), writes m (2), commit number (4), transaction (4), station (1), its kind (1)"
+abbrev pub readCount : List ℕ → ℕ
+readCount s = u16At s 0
+
+abbrev pub writeCount : List ℕ → ℕ
+writeCount s = u16At s 2
+
+abbrev pub commitNumber : List ℕ → ℕ
+commitNumber s = u32At s 4
+
+abbrev pub transactionNumber : List ℕ → ℕ
+transactionNumber s = u32At s 8
+
+abbrev pub stationNumber : List ℕ → ℕ
+stationNumber s = getD s 12 0
+
+abbrev pub stationKind : List ℕ → ℕ
+stationKind s = getD s 13 0
+
+-- the length that a record's own sizes give it
+abbrev pub lengthOf : List ℕ → ℕ
+lengthOf s = recordLength (readCount s) (writeCount s)
+
+-- "n and m are 0 to 256"; "(also station above 7, kind above 1, transaction 0)"
+unfoldable pub headOk : ℕ → ℕ → ℕ → ℕ → ℕ → Bool
+headOk n m transaction station kind = leb n 256 && leb m 256 && not (eqb transaction 0) && leb station 7 && leb kind 1
+
+-- the header: its numbers, and "two zero bytes"
+unfoldable pub headAt : List ℕ → Bool
+headAt s =
+    headOk (readCount s) (writeCount s) (transactionNumber s) (stationNumber s) (stationKind s) && eqb (getD s 14 0) 0 && eqb (getD s 15 0) 0
+
+-- the address at a + i is below the one behind it
+unfoldable pub riseAt : List ℕ → ℕ → ℕ → Bool
+riseAt s a i = ltb (getD s (a + i) 0) (getD s (a + i + 1) 0)
+
+-- "addresses rise strictly": the n addresses from a
+unfoldable pub rises : List ℕ → ℕ → ℕ → Bool
+rises s a n = allTo (riseAt s a) (n - 1)
+
+-- "within reads and within writes": the addresses start right behind the header, reads first
+unfoldable pub addressesRise : List ℕ → Bool
+addressesRise s = rises s 16 (readCount s) && rises s (16 + readCount s) (writeCount s)
+
+-- the layout of a record whose bytes are all there
+abbrev pub laidOut : List ℕ → Bool
+laidOut s = headAt s && addressesRise s
+
+-- "the check takes the first record of its bytes (12, then 5)"
+unfoldable pub checkOf : List ℕ → ℕ
+checkOf s = cond (ltb (length s) 16) 12 (cond (ltb (length s) (lengthOf s)) 12 (cond (laidOut s) 0 5))

@@ -1,0 +1,5 @@
+-- What record check and record writer give, from the bytes handed in.
+pub mod Check
+pub mod Write
+pub mod Facts
+pub mod Stores

@@ -1,0 +1,208 @@
+// Record check and record writer of document 01, for the heads' C firmware, which calls them directly.
+ghost use mathlib.Core.Path.{_≡_};
+ghost use mathlib.Core.List.{_++_};
+ghost use Prim.Native.Nat.{_+_, _*_, _-_, _≤_, _<_};
+ghost use lib.ListN.{length, take, drop};
+ghost use Rattle.record.specs.Check.{lengthOf, headOk, headAt, riseAt, rises as Check·rises, addressesRise, checkOf};
+ghost use Rattle.record.specs.Write.{fits as Write·fits, recordBytes, written, writeOf};
+ghost use Rattle.layout.specs.Record.{header, recordLength};
+ghost use lib.Seq.{sets};
+
+// Whether the numbers of a header are in range.
+fn head_ok(reads: u32, writes: u32, transaction: u32, station: u32, kind: u32) -> bool
+    ensures { λ r. ⌜ r ≡ headOk reads writes transaction station kind ⌝ }
+{
+    (reads <= 256) & (writes <= 256) & (transaction != 0) & (station <= 7) & (kind <= 1)
+}
+
+fn rise_at(s: &[u8], a: usize, i: usize) -> bool
+    requires { ⌜ a + i + 1 < length (now s) ⌝ }
+    ensures { λ r. ⌜ r ≡ riseAt (now (s .entry)) a i ⌝ }
+{
+    s[a + i] < s[a + i + 1]
+}
+
+// How many neighbours n addresses have.
+fn pairs(n: usize) -> usize
+    ensures { λ r. ⌜ r ≡ n - 1 ⌝ }
+{
+    if n == 0 { 0 } else { n - 1 }
+}
+
+// Whether the n addresses from a rise strictly. No test leaves the loop early, so that it compiles to vector code.
+fn rises(s: &[u8], a: usize, n: usize) -> bool
+    requires { ⌜ a + n ≤ length (now s) ⌝ }
+    ensures { λ r. ⌜ r ≡ Check·rises (now (s .entry)) a n ⌝ }
+{
+    let e = pairs(n);
+    let mut ok = true;
+    let mut i = 0;
+    while i < e {
+        ok &= rise_at(s, a, i);
+        i += 1;
+    }
+    ok
+}
+
+// The length that a record's own sizes give it.
+fn record_length(s: &[u8]) -> usize
+    requires { ⌜ 16 ≤ length (now s) ⌝ }
+    ensures { λ r. ⌜ r ≡ lengthOf (now (s .entry)) ⌝ }
+{
+    16 + 9 * (le::index(le::get_u16(s, 0)) + le::index(le::get_u16(s, 2)))
+}
+
+// Whether a header's numbers are in range and its two last bytes are 0.
+fn head_at(s: &[u8]) -> bool
+    requires { ⌜ 16 ≤ length (now s) ⌝ }
+    ensures { λ r. ⌜ r ≡ headAt (now (s .entry)) ⌝ }
+{
+    head_ok(
+        le::get_u16(s, 0),
+        le::get_u16(s, 2),
+        le::get_u32(s, 8),
+        le::wide(s[12]),
+        le::wide(s[13]),
+    )
+        & (s[14] == 0)
+        & (s[15] == 0)
+}
+
+// Whether the addresses of a record whose bytes are all there rise, within its reads and within its writes.
+fn addresses_rise(s: &[u8]) -> bool
+    requires { ⌜ (16 ≤ length (now s)) × (lengthOf (now s) ≤ length (now s)) ⌝ }
+    ensures { λ r. ⌜ r ≡ addressesRise (now (s .entry)) ⌝ }
+{
+    let n = le::index(le::get_u16(s, 0));
+    let m = le::index(le::get_u16(s, 2));
+    rises(s, 16, n) & rises(s, 16 + n, m)
+}
+
+// The number of the first record of these bytes: 12 where they end inside it, then 5 where its layout is broken, else 0.
+// Any commit number is taken: it is 0 on the way up, and what an archive asks of it is the archive reader's to say.
+#[no_mangle]
+pub extern "C" fn wax_record_check(bytes: &[u8]) -> u32
+    ensures { λ r. ⌜ r ≡ checkOf (now (bytes .entry)) ⌝ }
+{
+    if bytes.len() < 16 {
+        return 12;
+    }
+    if bytes.len() < record_length(bytes) {
+        return 12;
+    }
+    if head_at(bytes) & addresses_rise(bytes) {
+        return 0;
+    }
+    5
+}
+
+// Copies `from` over all of `to`.
+fn fill(to: &mut [u8], from: &[u8])
+    requires { ⌜ length (now to) ≡ length (now from) ⌝ }
+    ensures { λ _. ⌜ now (to .exit) ≡ now (from .entry) ⌝ }
+{
+    bytes::copy(from, to);
+}
+
+fn put_header(
+    out: &mut [u8],
+    reads: u32,
+    writes: u32,
+    commit: u32,
+    transaction: u32,
+    station: u32,
+    kind: u32,
+)
+    requires { ⌜ (16 ≤ length (now out)) × (station < 256) × (kind < 256) ⌝ }
+    ensures { λ _. ⌜ now (out .exit) ≡ sets (now (out .entry)) 0 (header reads writes commit transaction station kind) ⌝ }
+{
+    le::put_u16(out, 0, reads);
+    le::put_u16(out, 2, writes);
+    le::put_u32(out, 4, commit);
+    le::put_u32(out, 8, transaction);
+    le::put_u8(out, 12, station as u8);
+    le::put_u8(out, 13, kind as u8);
+    le::put_u8(out, 14, 0);
+    le::put_u8(out, 15, 0);
+}
+
+// Whether the arguments make a record.
+fn fits(
+    reads: u32,
+    writes: u32,
+    transaction: u32,
+    station: u32,
+    kind: u32,
+    addresses: &[u8],
+    values: &[u8],
+) -> bool
+    ensures { λ r. ⌜ r ≡ Write·fits reads writes transaction station kind (now (addresses .entry)) (now (values .entry)) ⌝ }
+{
+    let n = le::index(reads);
+    let m = le::index(writes);
+    if addresses.len() != n + m {
+        return false;
+    }
+    head_ok(reads, writes, transaction, station, kind)
+        & (values.len() == 8 * (n + m))
+        & rises(addresses, 0, n)
+        & rises(addresses, n, m)
+}
+
+// The addresses start right behind the header, and the values right behind those: each is written to its own part of the output.
+fn put_record(
+    out: &mut [u8],
+    reads: u32,
+    writes: u32,
+    commit: u32,
+    transaction: u32,
+    station: u32,
+    kind: u32,
+    addresses: &[u8],
+    values: &[u8],
+)
+    requires { ⌜ (length (now addresses) ≡ reads + writes) × (length (now values) ≡ 8 * (reads + writes)) × (recordLength reads writes ≤ length (now out)) × (station < 256) × (kind < 256) ⌝ }
+    ensures { λ _. ⌜ now (out .exit) ≡ recordBytes reads writes commit transaction station kind (now (addresses .entry)) (now (values .entry)) ++ drop (recordLength reads writes) (now (out .entry)) ⌝ }
+{
+    put_header(out, reads, writes, commit, transaction, station, kind);
+    let a = 16 + addresses.len();
+    let e = a + values.len();
+    fill(&mut out[16..a], addresses);
+    fill(&mut out[a..e], values);
+}
+
+// Writes a record to the start of `out`: 1 where `out` is under the record's length, then 5 where the arguments make no
+// record, else 0. `values` has 8 bytes for each address, the lowest first. A refusal changes nothing.
+#[no_mangle]
+pub extern "C" fn wax_record_write(
+    reads: u32,
+    writes: u32,
+    commit: u32,
+    transaction: u32,
+    station: u32,
+    kind: u32,
+    addresses: &[u8],
+    values: &[u8],
+    out: &mut [u8],
+) -> u32
+    ensures { λ r. ⌜ written (now (out .exit)) r ≡ writeOf reads writes commit transaction station kind (now (addresses .entry)) (now (values .entry)) (now (out .entry)) ⌝ }
+{
+    if out.len() < 16 + 9 * (le::index(reads) + le::index(writes)) {
+        return 1;
+    }
+    if !fits(reads, writes, transaction, station, kind, addresses, values) {
+        return 5;
+    }
+    put_record(
+        out,
+        reads,
+        writes,
+        commit,
+        transaction,
+        station,
+        kind,
+        addresses,
+        values,
+    );
+    0
+}

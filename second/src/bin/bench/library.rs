@@ -1,0 +1,143 @@
+//! Check, replay and writer over one archive: the second implementation, the proved library, a plain copy.
+
+use crate::measure::{time, Times};
+use second::archive::Playback;
+use second::record::{self, Header, View};
+use second::{ffi, numbers};
+use std::cell::RefCell;
+use std::hint::black_box;
+
+pub struct Bench {
+    archive: Vec<u8>,
+    /// As long as the archive, and written before the first round.
+    out: RefCell<Vec<u8>>,
+    rounds: usize,
+}
+
+impl Bench {
+    pub fn new(archive: Vec<u8>, rounds: usize) -> Bench {
+        let out = RefCell::new(archive.clone());
+        Bench {
+            archive,
+            out,
+            rounds,
+        }
+    }
+
+    pub fn check(&self) -> Times {
+        let records = views(&self.archive).len();
+        let (mut second, mut proved) = (0, 0);
+        let times = self.time(
+            &mut || second = walk(black_box(&self.archive), check_second),
+            &mut || proved = walk(black_box(&self.archive), ffi::record_check),
+        );
+        assert_eq!((second, proved), (records, records), "check: records");
+        times
+    }
+
+    pub fn replay(&self) -> Times {
+        let [mut second, mut proved] = [const { (numbers::END, Playback::FRESH) }; 2];
+        let times = self.time(
+            &mut || second = replay(black_box(&self.archive), numbers::archive_replay),
+            &mut || proved = replay(black_box(&self.archive), ffi::archive_replay),
+        );
+        assert_eq!(second.0, numbers::OK, "replay: accepted");
+        assert!(second == proved, "replay: results differ");
+        times
+    }
+
+    pub fn write(&self) -> Times {
+        let views = views(&self.archive);
+        self.assert_writes(&views, write_second);
+        self.assert_writes(&views, ffi::record_write);
+        self.time(
+            &mut || write(black_box(&views), &mut self.out.borrow_mut(), write_second),
+            &mut || {
+                write(
+                    black_box(&views),
+                    &mut self.out.borrow_mut(),
+                    ffi::record_write,
+                )
+            },
+        )
+    }
+
+    fn assert_writes(&self, views: &[View], writer: impl Writer) {
+        let mut out = self.out.borrow_mut();
+        out.fill(0xA5);
+        write(views, &mut out, writer);
+        assert!(*out == self.archive, "writer: bytes differ");
+    }
+
+    fn time(&self, second: &mut dyn FnMut(), proved: &mut dyn FnMut()) -> Times {
+        let mut copy = || plain_copy(black_box(&self.archive), &mut self.out.borrow_mut());
+        let settle = || plain_copy(&self.archive, &mut self.out.borrow_mut());
+        time(self.rounds, &settle, [second, proved, &mut copy])
+    }
+}
+
+/// The records of an accepted archive.
+fn views(archive: &[u8]) -> Vec<View<'_>> {
+    let mut views = Vec::new();
+    let mut rest = archive;
+    while let Ok(view) = View::first(rest) {
+        views.push(view);
+        rest = &rest[view.length()..];
+    }
+    views
+}
+
+#[inline(never)]
+fn plain_copy(archive: &[u8], out: &mut [u8]) {
+    out.copy_from_slice(archive);
+}
+
+/// Checks record behind record; how many were accepted.
+#[inline(never)]
+fn walk(archive: &[u8], check: impl Fn(&[u8]) -> u32) -> usize {
+    let (mut rest, mut accepted) = (archive, 0);
+    while !rest.is_empty() && check(rest) == numbers::OK {
+        rest = &rest[length_of_checked(rest)..];
+        accepted += 1;
+    }
+    accepted
+}
+
+/// Length of the first record, which has passed its check.
+fn length_of_checked(bytes: &[u8]) -> usize {
+    let size = |at: usize| usize::from(u16::from_le_bytes([bytes[at], bytes[at + 1]]));
+    record::HEADER + record::ENTRY * (size(0) + size(2))
+}
+
+/// Not inlined: one call for each record, as on the other side.
+#[inline(never)]
+fn check_second(bytes: &[u8]) -> u32 {
+    numbers::record_check(bytes)
+}
+
+#[inline(never)]
+fn replay(archive: &[u8], replay: impl Fn(&[u8], &mut Playback) -> u32) -> (u32, Playback) {
+    let mut playback = Playback::FRESH;
+    let answer = replay(archive, &mut playback);
+    (answer, playback)
+}
+
+trait Writer: Fn(&Header, &[u8], &[u8], &mut [u8]) -> u32 {}
+impl<T: Fn(&Header, &[u8], &[u8], &mut [u8]) -> u32> Writer for T {}
+
+/// Writes record behind record.
+#[inline(never)]
+fn write(views: &[View], mut out: &mut [u8], writer: impl Writer) {
+    for view in views {
+        if writer(&view.header, view.addresses, view.values, out) != numbers::OK {
+            return;
+        }
+        out = &mut out[view.length()..];
+    }
+}
+
+/// Not inlined: one call for each record, as on the other side.
+#[inline(never)]
+fn write_second(header: &Header, addresses: &[u8], values: &[u8], out: &mut [u8]) -> u32 {
+    numbers::record_write(header, addresses, values, out)
+}

@@ -1,0 +1,153 @@
+//! Times the proved library against the second implementation and a plain copy; prints a table for docs/PERFORMANCE.md.
+
+mod library;
+mod measure;
+mod program;
+
+use measure::{proved_over, rates, Job, Times};
+use second::generate::{self, Size};
+use second::options::Options;
+use second::random::Random;
+use std::process;
+
+const USAGE: &str = "bench [--megabytes N] [--rounds N] [--seed N] [--gate] [--playback PROGRAM --file FILE]
+  --gate      exit 1 if the proved library takes more than 1.3 times as long
+  --playback  time the program too, on FILE, which is written anew and then removed";
+const MEGABYTE: usize = 1_000_000;
+const PLAYBACK_MEGABYTES: usize = 200;
+/// Where the linker puts a loop is worth up to 30 %: only more than that is a fault.
+const GATE: f64 = 1.3;
+
+fn main() {
+    let options = Options::read(
+        USAGE,
+        &["--megabytes", "--rounds", "--seed", "--playback", "--file"],
+        &["--gate"],
+    );
+    let bench = Bench {
+        length: options.number("--megabytes", 64) as usize * MEGABYTE,
+        rounds: options.number("--rounds", 15).max(1) as usize,
+        seed: options.seed("--seed", 1),
+    };
+    let rows = bench.library();
+    bench.print(&rows);
+    if let Some(program) = options.text("--playback") {
+        let file = options.text("--file").unwrap_or_else(|| options.misused());
+        bench.playback(program, file);
+    }
+    if options.has("--gate") {
+        gate(&rows);
+    }
+}
+
+struct Bench {
+    length: usize,
+    rounds: usize,
+    seed: u64,
+}
+
+/// One kind of work on one archive.
+struct Row {
+    work: &'static str,
+    records: &'static str,
+    megabytes: f64,
+    times: Times,
+}
+
+impl Bench {
+    fn library(&self) -> Vec<Row> {
+        let small = self.rows("small, 1 to 3 each", Size::Small);
+        let large = self.rows("large, 256 each", Size::Large);
+        small.into_iter().chain(large).collect()
+    }
+
+    fn rows(&self, records: &'static str, size: Size) -> [Row; 3] {
+        let archive = self.archive(size, self.length);
+        let megabytes = archive.len() as f64 / MEGABYTE as f64;
+        let bench = library::Bench::new(archive, self.rounds);
+        [
+            ("check", bench.check()),
+            ("replay", bench.replay()),
+            ("writer", bench.write()),
+        ]
+        .map(|(work, times)| Row {
+            work,
+            records,
+            megabytes,
+            times,
+        })
+    }
+
+    fn archive(&self, size: Size, length: usize) -> Vec<u8> {
+        generate::archive_of_length(&mut Random::new(self.seed), size, length)
+    }
+
+    fn print(&self, rows: &[Row]) {
+        println!(
+            "Medians of {} rounds in one process, the three taking turns, seed {}.\n\
+             Ratios are of times in the same round, below 1 where proved is faster; in brackets the middle half of them.\n\
+             Check and writer: one call for each record on both sides, none inlined. Replay: one call.\n\
+             Before each timed run the archive was copied once into the output buffer, so no page is met for the first time.\n",
+            self.rounds, self.seed
+        );
+        println!("| work | records | MB | second MB/s | proved MB/s | copy MB/s | proved / second | proved / copy |");
+        println!("|---|---|---|---|---|---|---|---|");
+        for row in rows {
+            row.print();
+        }
+    }
+
+    fn playback(&self, program: &str, file: &str) {
+        let archive = self.archive(Size::Small, PLAYBACK_MEGABYTES * MEGABYTE);
+        match program::playback(self.rounds, &archive, program, file) {
+            Ok(times) => print_playback(&times),
+            Err(error) => {
+                eprintln!("bench: {program} on {file}: {error}");
+                process::exit(2)
+            }
+        }
+    }
+}
+
+impl Row {
+    fn print(&self) {
+        let [second, proved, copy] = rates(self.megabytes, &self.times);
+        println!(
+            "| {} | {} | {:.0} | {second:.0} | {proved:.0} | {copy:.0} | {} | {} |",
+            self.work,
+            self.records,
+            self.megabytes,
+            proved_over(&self.times, Job::Second),
+            proved_over(&self.times, Job::Copy)
+        );
+    }
+
+    fn too_slow(&self) -> bool {
+        proved_over(&self.times, Job::Second).median > GATE
+    }
+}
+
+fn print_playback(times: &Times) {
+    let [second, proved, copy] = rates(PLAYBACK_MEGABYTES as f64, times);
+    println!(
+        "\nPlayback program on a file of {PLAYBACK_MEGABYTES} MB, small records, in the page cache; all print to /dev/null.\n\
+         `cat` reads the same file; the second implementation plays it in the benchmark's own process.\n\n\
+         | second MB/s | playback MB/s | cat MB/s | playback / second | playback / cat |\n\
+         |---|---|---|---|---|\n\
+         | {second:.0} | {proved:.0} | {copy:.0} | {} | {} |",
+        proved_over(times, Job::Second),
+        proved_over(times, Job::Copy)
+    );
+}
+
+/// Ends the program with 1 if the proved library is too slow somewhere.
+fn gate(rows: &[Row]) {
+    let mut slow = rows.iter().filter(|row| row.too_slow()).peekable();
+    if slow.peek().is_none() {
+        return;
+    }
+    for row in slow {
+        eprintln!("bench: {} of {}: above {GATE}", row.work, row.records);
+    }
+    process::exit(1)
+}

@@ -1,0 +1,33 @@
+//! The second implementation: the record, the archive and its playback, written from document 01 alone.
+//!
+//! It shares no code with the proved library. `compare` runs both on the same inputs, `bench` times both.
+
+pub mod archive;
+#[cfg(feature = "proved")]
+pub mod ffi;
+pub mod generate;
+pub mod numbers;
+pub mod options;
+pub mod random;
+pub mod record;
+pub mod text;
+
+#[cfg(test)]
+mod tests;
+
+/// Why a call is turned back, by document 01's number.
+#[derive(Clone, Copy, Debug, PartialEq, Eq)]
+#[repr(u32)]
+pub enum Refusal {
+    Buffer = 1,
+    Record = 5,
+    Short = 12,
+    Sequence = 13,
+    Replay = 14,
+}
+
+impl Refusal {
+    pub fn number(self) -> u32 {
+        self as u32
+    }
+}

@@ -1,0 +1,77 @@
+//! Command lines: words, `--name VALUE` and `--name`.
+
+use std::collections::HashMap;
+use std::process;
+use std::time::{SystemTime, UNIX_EPOCH};
+
+pub struct Options {
+    usage: &'static str,
+    words: Vec<String>,
+    values: HashMap<&'static str, String>,
+}
+
+impl Options {
+    /// The program's own command line; one that does not fit ends the program with its usage.
+    pub fn read(
+        usage: &'static str,
+        with_value: &[&'static str],
+        plain: &[&'static str],
+    ) -> Options {
+        let mut options = Options {
+            usage,
+            words: Vec::new(),
+            values: HashMap::new(),
+        };
+        let mut arguments = std::env::args().skip(1);
+        while let Some(argument) = arguments.next() {
+            if let Some(name) = with_value.iter().find(|name| **name == argument) {
+                let value = arguments.next().unwrap_or_else(|| options.misused());
+                options.values.insert(name, value);
+            } else if let Some(name) = plain.iter().find(|name| **name == argument) {
+                options.values.insert(name, String::new());
+            } else if argument.starts_with('-') {
+                options.misused()
+            } else {
+                options.words.push(argument);
+            }
+        }
+        options
+    }
+
+    pub fn misused(&self) -> ! {
+        eprintln!("usage: {}", self.usage);
+        process::exit(2)
+    }
+
+    pub fn words(&self) -> &[String] {
+        &self.words
+    }
+
+    pub fn has(&self, name: &str) -> bool {
+        self.values.contains_key(name)
+    }
+
+    pub fn text(&self, name: &str) -> Option<&str> {
+        self.values.get(name).map(String::as_str)
+    }
+
+    pub fn number(&self, name: &str, default: u64) -> u64 {
+        self.text(name).map_or(default, |text| {
+            text.parse().unwrap_or_else(|_| self.misused())
+        })
+    }
+
+    /// A seed: a number, or `random` for the clock's.
+    pub fn seed(&self, name: &str, default: u64) -> u64 {
+        match self.text(name) {
+            Some("random") => clock(),
+            _ => self.number(name, default),
+        }
+    }
+}
+
+fn clock() -> u64 {
+    SystemTime::now()
+        .duration_since(UNIX_EPOCH)
+        .map_or(0, |time| time.as_nanos() as u64)
+}

@@ -1,0 +1,1 @@
+#[test] fn dummy() {}
