@@ -1,1 +1,2 @@
-#[test] fn dummy() {}
+#[test]
+fn dummy() {}

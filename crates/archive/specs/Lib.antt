@@ -2,3 +2,4 @@
 pub mod Read
 pub mod Parts
 pub mod Told
+pub mod Facts

@@ -3,8 +3,8 @@ use Prim.Native.Nat.{ℕ, zero, suc, _+_, _-_, _≤_}
 use mathlib.Core.Path.{_≡_, refl, sym, ap, _∙_}
 use mathlib.Core.List.{List, [], _∷_, _++_, append-assoc, append-nil}
 use native.Mathlib.Omega.{arith}
-use lib.ListN.{length, take, drop, set, drop-of-length-le}
-use lib.Seq.{sets, sets-eq, drop-drop, take-length}
+use lib.ListN.{length, take, drop, set, drop-of-length-le, length-drop}
+use lib.Seq.{sets, sets-eq, drop-drop, take-length, take-all}
 
 -- a run behind a run is one run
 pub sets-join : (x y s : List ℕ) (a b : ℕ) → b ≡ a + length x → sets (sets s a x) b y ≡ sets s a (x ++ y)
@@ -31,3 +31,7 @@ put-part x y s a k ey e h = rw ey (part-sets x s a k e h)
 -- a copy over a list of the same length is the list copied
 pub copy-whole : (from to : List ℕ) → length to ≡ length from → take (length from) from ++ drop (length from) to ≡ from
 copy-whole from to e = rw (take-length, drop-of-length-le to {i = length from} (omega arith), append-nil)
+
+-- a part that is lent to the end is the list from its start on
+pub to-the-end : (s : List ℕ) (a : ℕ) → take (length s - a) (drop a s) ≡ drop a s
+to-the-end s a = take-all (length s - a) (drop a s) (rw length-drop (omega arith))

@@ -10,7 +10,8 @@ use second::options::Options;
 use second::random::Random;
 use std::process;
 
-const USAGE: &str = "bench [--megabytes N] [--rounds N] [--seed N] [--gate] [--playback PROGRAM --file FILE]
+const USAGE: &str =
+    "bench [--megabytes N] [--rounds N] [--seed N] [--gate] [--playback PROGRAM --file FILE]
   --gate      exit 1 if the proved library takes more than 1.3 times as long
   --playback  time the program too, on FILE, which is written anew and then removed";
 const MEGABYTE: usize = 1_000_000;

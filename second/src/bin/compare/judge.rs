@@ -1,0 +1,303 @@
+//! Gives each call to both implementations and compares answer and every byte of the buffers afterwards.
+
+use second::archive::Playback;
+use second::record::Header;
+use second::{ffi, numbers};
+use std::fmt::Debug;
+use std::process;
+
+/// Elements before and behind a lent buffer that must stay as they are.
+const GUARD: usize = 16;
+/// Longest input that a report shows whole.
+const SHOWN: usize = 200;
+
+pub struct Judge {
+    seed: u64,
+    round: u64,
+    kind: &'static str,
+    counts: Vec<(&'static str, u64)>,
+}
+
+/// What a call gave: its number, playback's last commit number, the lent buffer.
+#[derive(PartialEq)]
+struct Answer<'a, T> {
+    number: u32,
+    last: Option<u32>,
+    buffer: &'a [T],
+}
+
+impl Judge {
+    pub fn new(seed: u64) -> Judge {
+        Judge {
+            seed,
+            round: 0,
+            kind: "",
+            counts: Vec::new(),
+        }
+    }
+
+    /// The cases that follow are of this round and kind.
+    pub fn begin(&mut self, round: u64, kind: &'static str) {
+        self.round = round;
+        self.kind = kind;
+        if self.counts.iter().all(|(known, _)| *known != kind) {
+            self.counts.push((kind, 0));
+        }
+    }
+
+    pub fn counts(&self) -> &[(&'static str, u64)] {
+        &self.counts
+    }
+
+    pub fn total(&self) -> u64 {
+        self.counts.iter().map(|(_, count)| count).sum()
+    }
+
+    pub fn record_check(&mut self, bytes: &[u8]) {
+        let second = Answer::<u8>::number(numbers::record_check(bytes));
+        let proved = Answer::number(ffi::record_check(bytes));
+        self.agree(second, proved, || {
+            format!("record_check\nbytes: {}", hex(bytes))
+        });
+    }
+
+    /// The writer, with so many bytes lent for the record.
+    pub fn record_write(&mut self, header: &Header, addresses: &[u8], values: &[u8], room: usize) {
+        let call = |write: fn(&Header, &[u8], &[u8], &mut [u8]) -> u32| {
+            lend(room, pattern_byte, |out| {
+                write(header, addresses, values, out)
+            })
+        };
+        let second = call(numbers::record_write);
+        let proved = call(ffi::record_write);
+        self.agree_on_buffers(second, proved, || {
+            format!(
+                "record_write, {room} bytes of room\n{header:?}\naddresses: {}\nvalues: {}",
+                hex(addresses),
+                hex(values)
+            )
+        });
+    }
+
+    /// The reader, with so many fields lent.
+    pub fn archive_read(&mut self, archive: &[u8], at: usize, last: u32, room: usize) {
+        let call = |read: fn(&[u8], usize, u32, &mut [u64]) -> u32| {
+            lend(room, pattern_word, |fields| read(archive, at, last, fields))
+        };
+        let second = call(numbers::archive_read);
+        let proved = call(ffi::archive_read);
+        self.agree_on_buffers(second, proved, || {
+            format!(
+                "archive_read at {at}, last {last}, {room} fields of room\narchive: {}",
+                hex(archive)
+            )
+        });
+    }
+
+    pub fn archive_entry(&mut self, archive: &[u8], at: usize, entries: u32, i: u32, room: usize) {
+        let call = |entry: fn(&[u8], usize, u32, u32, &mut [u64]) -> u32| {
+            lend(room, pattern_word, |out| {
+                entry(archive, at, entries, i, out)
+            })
+        };
+        let second = call(numbers::archive_entry);
+        let proved = call(ffi::archive_entry);
+        self.agree_on_buffers(second, proved, || {
+            format!(
+                "archive_entry at {at}, entries {entries}, i {i}, {room} numbers of room\narchive: {}",
+                hex(archive)
+            )
+        });
+    }
+
+    /// Plays an archive; gives the answer and what it left.
+    pub fn archive_replay(&mut self, archive: &[u8], start: &Playback) -> (u32, Playback) {
+        let call = |replay: fn(&[u8], &mut Playback) -> u32| {
+            let mut playback = start.clone();
+            (replay(archive, &mut playback), playback)
+        };
+        let second = call(numbers::archive_replay);
+        let proved = call(ffi::archive_replay);
+        self.agree(Answer::playback(&second), Answer::playback(&proved), || {
+            format!("archive_replay\n{}\narchive: {}", show(start), hex(archive))
+        });
+        proved
+    }
+
+    /// Plays the first record of these bytes; gives the answer and what it left.
+    pub fn playback_record(&mut self, record: &[u8], start: &Playback) -> (u32, Playback) {
+        let call = |play: fn(&mut Playback, &[u8]) -> u32| {
+            let mut playback = start.clone();
+            (play(&mut playback, record), playback)
+        };
+        let second = call(numbers::playback_record);
+        let proved = call(ffi::playback_record);
+        self.agree(Answer::playback(&second), Answer::playback(&proved), || {
+            format!("playback_record\n{}\nbytes: {}", show(start), hex(record))
+        });
+        proved
+    }
+
+    /// Record by record must come to the same as the whole archive at once.
+    pub fn play_through(&mut self, archive: &[u8], start: &Playback) {
+        let whole = self.archive_replay(archive, start);
+        let mut stepped = (numbers::OK, start.clone());
+        let mut rest = archive;
+        while stepped.0 == numbers::OK && !rest.is_empty() {
+            stepped = self.playback_record(rest, &stepped.1);
+            rest = &rest[first_length(rest).min(rest.len())..];
+        }
+        self.agree(Answer::playback(&stepped), Answer::playback(&whole), || {
+            format!(
+                "playback_record by record (first answer) and archive_replay (second answer)\n{}\narchive: {}",
+                show(start),
+                hex(archive)
+            )
+        });
+    }
+
+    fn agree_on_buffers<T: PartialEq + Debug>(
+        &mut self,
+        second: (u32, Vec<T>),
+        proved: (u32, Vec<T>),
+        call: impl FnOnce() -> String,
+    ) {
+        self.agree(Answer::buffer(&second), Answer::buffer(&proved), call);
+    }
+
+    fn agree<T: PartialEq + Debug>(
+        &mut self,
+        second: Answer<T>,
+        proved: Answer<T>,
+        call: impl FnOnce() -> String,
+    ) {
+        self.count();
+        if second != proved {
+            let at = second.first_difference(&proved);
+            self.differ(&call(), &second.show(at), &proved.show(at));
+        }
+    }
+
+    /// One case more of the present kind.
+    pub fn count(&mut self) {
+        let of_kind = self.counts.iter_mut().find(|(kind, _)| *kind == self.kind);
+        of_kind.expect("a kind was begun").1 += 1;
+    }
+
+    /// Reports a difference and ends the program.
+    pub fn differ(&self, call: &str, second: &str, proved: &str) -> ! {
+        println!("DIFFERENCE, seed {}, round {}", self.seed, self.round);
+        println!("kind: {}\ncall: {call}", self.kind);
+        println!("second: {second}\nproved: {proved}");
+        process::exit(1)
+    }
+}
+
+impl<'a, T: PartialEq + Debug> Answer<'a, T> {
+    fn number(number: u32) -> Answer<'a, T> {
+        Answer {
+            number,
+            last: None,
+            buffer: &[],
+        }
+    }
+
+    fn buffer((number, buffer): &'a (u32, Vec<T>)) -> Answer<'a, T> {
+        Answer {
+            number: *number,
+            last: None,
+            buffer,
+        }
+    }
+
+    fn first_difference(&self, other: &Answer<T>) -> Option<usize> {
+        self.buffer
+            .iter()
+            .zip(other.buffer)
+            .position(|(a, b)| a != b)
+    }
+
+    fn show(&self, at: Option<usize>) -> String {
+        let mut text = format!("number {}", self.number);
+        if let Some(last) = self.last {
+            text += &format!(", last {last}");
+        }
+        if let Some(at) = at {
+            text += &format!(", lent buffer at {}: {:?}", self.place(at), self.buffer[at]);
+        }
+        text
+    }
+
+    /// The place as the caller counts it; playback's values have no guard before them.
+    fn place(&self, at: usize) -> isize {
+        at as isize
+            - if self.last.is_some() {
+                0
+            } else {
+                GUARD as isize
+            }
+    }
+}
+
+impl<'a> Answer<'a, u64> {
+    fn playback((number, playback): &'a (u32, Playback)) -> Answer<'a, u64> {
+        Answer {
+            number: *number,
+            last: Some(playback.last),
+            buffer: &playback.values,
+        }
+    }
+}
+
+/// Lends a buffer filled with a pattern, guards on both sides; gives the answer and all of it afterwards.
+fn lend<T>(
+    room: usize,
+    pattern: fn(usize) -> T,
+    call: impl FnOnce(&mut [T]) -> u32,
+) -> (u32, Vec<T>) {
+    let mut buffer: Vec<T> = (0..GUARD + room + GUARD).map(pattern).collect();
+    let number = call(&mut buffer[GUARD..GUARD + room]);
+    (number, buffer)
+}
+
+/// Differs from place to place, and is never 0, which a stray write would most likely store.
+fn pattern_byte(at: usize) -> u8 {
+    (at % 251) as u8 + 3
+}
+
+fn pattern_word(at: usize) -> u64 {
+    u64::from_le_bytes([pattern_byte(at); 8])
+}
+
+/// Length that the size fields of the first record claim; 0 without a header.
+fn first_length(bytes: &[u8]) -> usize {
+    match bytes {
+        [n0, n1, m0, m1, ..] => {
+            let size = |low, high| usize::from(u16::from_le_bytes([low, high]));
+            16 + 9 * (size(*n0, *n1) + size(*m0, *m1))
+        }
+        _ => 0,
+    }
+}
+
+fn show(start: &Playback) -> String {
+    let values = &start.values;
+    let fresh = values.iter().all(|value| *value == 0);
+    let values = if fresh { "zero" } else { "not zero" };
+    format!("from last {}, values {values}", start.last)
+}
+
+/// Bytes in hexadecimal; of a long part both ends.
+pub fn hex(bytes: &[u8]) -> String {
+    let text = |bytes: &[u8]| {
+        let bytes: Vec<String> = bytes.iter().map(|byte| format!("{byte:02x}")).collect();
+        bytes.join(" ")
+    };
+    let length = bytes.len();
+    if length <= SHOWN {
+        format!("({length}) {}", text(bytes))
+    } else {
+        let (front, back) = (&bytes[..SHOWN / 2], &bytes[length - SHOWN / 2..]);
+        format!("({length}) {} .. {}", text(front), text(back))
+    }
+}

@@ -1,0 +1,162 @@
+//! The playback program on archives, given through a pipe in pieces of odd sizes.
+
+use crate::judge::{hex, Judge};
+use second::archive::Playback;
+use second::generate::{self, Size};
+use second::random::Random;
+use second::record::{ENTRY, HEADER};
+use second::text;
+use std::io::{self, ErrorKind, Read, Write};
+use std::process::{Command, Stdio};
+use std::thread;
+
+/// How the archive goes into the pipe.
+const PIECES: [usize; 9] = [7, 16, 33, 1_000, 4_095, 4_096, 4_097, 65_537, 1_000_000];
+
+pub struct Program<'a> {
+    judge: &'a mut Judge,
+    path: &'a str,
+}
+
+impl Program<'_> {
+    pub fn new<'a>(judge: &'a mut Judge, path: &'a str) -> Program<'a> {
+        Program { judge, path }
+    }
+
+    pub fn compare(&mut self, random: &mut Random) -> io::Result<()> {
+        self.judge.begin(0, "playback program, small archives");
+        self.small(random)?;
+        self.judge.begin(0, "playback program, any archives");
+        self.any(random)?;
+        self.judge.begin(0, "playback program, over 2 MB");
+        self.long(random)
+    }
+
+    /// Byte by byte: empty, well-formed, damaged, cut.
+    fn small(&mut self, random: &mut Random) -> io::Result<()> {
+        self.run(&[], 1)?;
+        for _ in 0..40 {
+            let count = 1 + random.below(4);
+            let archive = fresh(random, Size::Tiny, count);
+            self.run(&archive, 1)?;
+            self.run(&damaged(random, &archive), 1)?;
+            self.run(&archive[..random.below(archive.len())], 1)?;
+        }
+        Ok(())
+    }
+
+    fn any(&mut self, random: &mut Random) -> io::Result<()> {
+        for _ in 0..60 {
+            let count = 1 + random.below(100);
+            let archive = fresh(random, Size::Mixed, count);
+            let piece = random.pick(&PIECES);
+            self.run(&archive, piece)?;
+            self.run(&damaged(random, &archive), piece)?;
+            self.run(&archive[..random.below(archive.len())], piece)?;
+        }
+        Ok(())
+    }
+
+    /// Longer than any buffer; near the end a record claims 65,535 reads and writes, and they are there or not.
+    fn long(&mut self, random: &mut Random) -> io::Result<()> {
+        let claimed = HEADER + ENTRY * 2 * usize::from(u16::MAX);
+        for size in [Size::Small, Size::Large] {
+            let archive = generate::archive_of_length(random, size, 2_200_000);
+            self.run(&archive, random.pick(&PIECES[3..]))?;
+            self.run(&archive[..archive.len() - 1], 65_536)?;
+            for length in [
+                HEADER,
+                5_000,
+                claimed - 1,
+                claimed,
+                claimed + 1,
+                2 * claimed,
+            ] {
+                let mut claiming = archive.clone();
+                claiming.extend([255; 4]);
+                claiming.extend(random.bytes(length - 4));
+                self.run(&claiming, random.pick(&PIECES[3..]))?;
+            }
+        }
+        Ok(())
+    }
+
+    fn run(&mut self, archive: &[u8], piece: usize) -> io::Result<()> {
+        self.judge.count();
+        let printed = printed(self.path, archive, piece)?;
+        let expected = text::playback(archive);
+        if printed != expected.as_bytes() {
+            let call = format!(
+                "{}, pieces of {piece}\narchive: {}",
+                self.path,
+                hex(archive)
+            );
+            let at = expected
+                .bytes()
+                .zip(&printed)
+                .take_while(|(a, b)| a == *b)
+                .count();
+            let proved = from_line(&printed, at);
+            self.judge
+                .differ(&call, &from_line(expected.as_bytes(), at), &proved);
+        }
+        Ok(())
+    }
+}
+
+fn fresh(random: &mut Random, size: Size, count: usize) -> Vec<u8> {
+    generate::archive(&generate::commits(random, &Playback::FRESH, size, count))
+}
+
+/// One byte changed.
+fn damaged(random: &mut Random, archive: &[u8]) -> Vec<u8> {
+    let mut archive = archive.to_vec();
+    let at = random.below(archive.len());
+    archive[at] ^= 1 << random.below(8);
+    archive
+}
+
+/// The text from the line of this place on, shortened.
+fn from_line(text: &[u8], at: usize) -> String {
+    let before = &text[..at.min(text.len())];
+    let line = before
+        .iter()
+        .rposition(|byte| *byte == b'\n')
+        .map_or(0, |end| end + 1);
+    let shown = &text[line..text.len().min(line + 80)];
+    format!(
+        "{} bytes, from byte {line}: {:?}",
+        text.len(),
+        String::from_utf8_lossy(shown)
+    )
+}
+
+/// What the program prints for the archive.
+fn printed(path: &str, archive: &[u8], piece: usize) -> io::Result<Vec<u8>> {
+    let mut child = Command::new(path)
+        .stdin(Stdio::piped())
+        .stdout(Stdio::piped())
+        .spawn()?;
+    let (stdin, stdout) = (child.stdin.take(), child.stdout.take());
+    let mut printed = Vec::new();
+    thread::scope(|scope| {
+        let feeding = scope.spawn(|| feed(stdin.expect("piped"), archive, piece));
+        stdout.expect("piped").read_to_end(&mut printed)?;
+        feeding.join().expect("does not panic")
+    })?;
+    child.wait()?;
+    Ok(printed)
+}
+
+/// Writes the archive in pieces; a program may end before it has read all.
+fn feed(mut pipe: impl Write, archive: &[u8], piece: usize) -> io::Result<()> {
+    for piece in archive.chunks(piece) {
+        match pipe.write_all(piece) {
+            Err(error) if error.kind() == ErrorKind::BrokenPipe => break,
+            result => result?,
+        }
+        // lets the reader meet a pipe that holds one piece only
+        thread::yield_now();
+    }
+    Ok(())
+}
