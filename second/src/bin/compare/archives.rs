@@ -19,7 +19,7 @@ fn positions(records: &[Record]) -> Vec<usize> {
 }
 
 fn few(random: &mut Random, start: &Playback) -> Vec<Record> {
-    let count = random.below(4);
+    let count = 1 + random.below(3);
     generate::commits(random, start, Size::Tiny, count)
 }
 
@@ -67,14 +67,15 @@ pub fn read_records(judge: &mut Judge, random: &mut Random) {
     }
 }
 
-/// Every change of a small archive, read at each record.
+/// Every byte of a record, and of what lies before it, takes every other value.
 pub fn read_changed(judge: &mut Judge, random: &mut Random) {
-    let records = few(random, &Playback::FRESH);
-    let positions = positions(&records);
-    every_change(&generate::archive(&records), |changed| {
-        for (last, at) in positions.iter().enumerate() {
-            judge.archive_read(changed, *at, last as u32, FIELDS);
-        }
+    let start = start(random);
+    let at = random.below(5);
+    let mut archive = random.bytes(at);
+    let records = generate::commits(random, &start, Size::Tiny, 1);
+    archive.extend(generate::archive(&records));
+    every_change(&archive, |changed| {
+        judge.archive_read(changed, at, start.last, FIELDS)
     });
 }
 
@@ -190,21 +191,14 @@ pub fn replay_two_faults(judge: &mut Judge, random: &mut Random) {
     for _ in 0..300 {
         let start = start(random);
         let mut archive = generate::archive(&few(random, &start));
-        if archive.is_empty() {
-            continue;
-        }
         for _ in 0..2 {
             let at = random.below(archive.len());
-            archive[at] = random.pick(&[0, 1, 2, 8, 255, random_byte(at)]);
+            let any = random.byte();
+            archive[at] = random.pick(&[0, 1, 2, 8, 255, any]);
         }
         let length = archive.len() - random.below(2) * random.below(archive.len());
         judge.archive_replay(&archive[..length], &start);
     }
-}
-
-/// A byte that goes with the place.
-fn random_byte(at: usize) -> u8 {
-    (at as u8).wrapping_mul(151)
 }
 
 /// One read, or two, show a wrong value.

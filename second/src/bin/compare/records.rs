@@ -3,7 +3,7 @@
 use crate::judge::Judge;
 use second::generate::{self, Size};
 use second::random::Random;
-use second::record::{Header, Record, ENTRY, HEADER};
+use second::record::{Header, ENTRY, HEADER};
 
 const SIZES: [u16; 6] = [0, 1, 255, 256, 257, u16::MAX];
 /// The last ones: 16 + 9 × count comes to little if it is counted in 32 bits.
@@ -131,16 +131,12 @@ pub fn check_random(judge: &mut Judge, random: &mut Random) {
 
 /// Makes most header bytes small: else hardly any record is long enough or in range.
 pub fn tame(bytes: &mut [u8], random: &mut Random) {
-    for (byte, bound) in bytes.iter_mut().zip([4, 1, 4, 1].iter().cycle()).take(4) {
-        *byte %= bound;
-    }
-    for byte in bytes.iter_mut().take(HEADER).skip(4) {
-        if !random.one_in(16) {
-            *byte %= 2;
+    // sizes, commit number, transaction, station, kind, the two zero bytes
+    let bounds = [4, 1, 4, 1, 3, 1, 1, 1, 3, 1, 1, 1, 8, 2, 1, 1];
+    for (byte, bound) in bytes.iter_mut().zip(bounds) {
+        if !random.one_in(40) {
+            *byte %= bound;
         }
-    }
-    for byte in bytes.iter_mut().skip(14).take(2) {
-        *byte = u8::from(random.one_in(16));
     }
 }
 
@@ -166,6 +162,7 @@ pub fn order_broken(judge: &mut Judge, random: &mut Random) {
 }
 
 /// The writer's arguments.
+#[derive(Clone)]
 struct Order {
     header: Header,
     addresses: Vec<u8>,
@@ -173,16 +170,13 @@ struct Order {
 }
 
 impl Order {
-    fn of(record: &Record) -> Order {
+    fn random(random: &mut Random, size: Size) -> Order {
+        let record = generate::record(random, size);
         Order {
             header: record.header(),
             addresses: record.addresses(),
             values: record.values(),
         }
-    }
-
-    fn random(random: &mut Random, size: Size) -> Order {
-        Order::of(&generate::record(random, size))
     }
 
     fn write(&self, judge: &mut Judge, room: usize) {
@@ -291,19 +285,13 @@ pub fn write_lengths(judge: &mut Judge, random: &mut Random) {
         let other = [8 * entries + 8, (8 * entries).saturating_sub(8), entries];
         for addresses in around(entries).into_iter().chain([8 * entries]) {
             for values in around(8 * entries).into_iter().chain(other) {
-                let mut order = Order::of(&Record::decode(&good_bytes(&good)).unwrap());
+                let mut order = good.clone();
                 order.addresses.resize(addresses, 255);
                 order.values.resize(values, 255);
                 order.write_around(judge);
             }
         }
     }
-}
-
-fn good_bytes(order: &Order) -> Vec<u8> {
-    let mut bytes = vec![0; order.header.length() as usize];
-    second::record::write(&order.header, &order.addresses, &order.values, &mut bytes).unwrap();
-    bytes
 }
 
 /// Several arguments wrong at once: which number comes first?

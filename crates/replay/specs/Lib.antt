@@ -1,0 +1,4 @@
+-- What playback keeps, and how each record changes it.
+pub mod Replay
+pub mod Played
+pub mod Fuel

@@ -1,0 +1,55 @@
+-- One record replayed on 256 values: the reader's numbers, then 14, else its writes are stored.
+use Prim.Native.Nat.{ℕ, zero, suc, _+_, _*_}
+use mathlib.Core.List.{List}
+use mathlib.Core.Bool.{Bool, cond}
+use lib.ListN.{drop, getD, set}
+use lib.Dec.{eqb}
+use Rattle.lists.specs.Tests.{allTo}
+use Rattle.le.specs.Le.{u64At}
+use Rattle.record.specs.Check.{readCount, writeCount}
+use Rattle.archive.specs.Read.{readOf}
+use Rattle.archive.specs.declared.Fields.{Fields}
+use Rattle.archive.specs.declared.Answer.{Answer}
+use Rattle.archive.specs.declared.Answer.the-variants.{Record, End, Refused}
+
+-- address and value of entry i of the record at the start of t, n reads and m writes
+abbrev pub addressAt : List ℕ → ℕ → ℕ
+addressAt t i = getD t (16 + i) 0
+
+abbrev pub valueAt : List ℕ → ℕ → ℕ → ℕ
+valueAt t k i = u64At t (16 + k + 8 * i)
+
+-- read i of a record of k entries is the value there
+unfoldable pub readAgrees : List ℕ → List ℕ → ℕ → ℕ → Bool
+readAgrees t v k i = eqb (getD v (addressAt t i) 0) (valueAt t k i)
+
+-- "Replay: a read differs from the value left by earlier records": here none does
+unfoldable pub readsAgree : List ℕ → List ℕ → Bool
+readsAgree t v = allTo (readAgrees t v (readCount t + writeCount t)) (readCount t)
+
+-- the values after the c entries from the n-th of a record of k entries are stored, in order
+unfoldable pub storedTo : List ℕ → List ℕ → ℕ → ℕ → ℕ → List ℕ
+storedTo t v k n zero = v
+storedTo t v k n (suc c) = set (storedTo t v k n c) (addressAt t (n + c)) (valueAt t k (n + c))
+
+-- the values after the record's writes
+unfoldable pub stored : List ℕ → List ℕ → List ℕ
+stored t v = storedTo t v (readCount t + writeCount t) (readCount t) (writeCount t)
+
+-- the values afterwards, and the answer
+pub record Replayed : Type 0 where
+  pub values : List ℕ
+  pub answer : Answer
+
+abbrev pub replayed : List ℕ → Answer → Replayed
+replayed v a = record { values = v; answer = a }
+
+-- what the reader's answer leads to: t is the archive from the record's start on
+abbrev pub onAnswer : List ℕ → List ℕ → Answer → Replayed
+onAnswer t v (Record f) = cond (readsAgree t v) (replayed (stored t v) (Record f)) (replayed v (Refused 14))
+onAnswer t v End = replayed v End
+onAnswer t v (Refused k) = replayed v (Refused k)
+
+-- the record at `at`, "changed by each accepted record"
+unfoldable pub replayOf : List ℕ → ℕ → ℕ → List ℕ → Replayed
+replayOf s at last v = onAnswer (drop at s) v (readOf s at last)

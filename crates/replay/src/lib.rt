@@ -1,0 +1,129 @@
+// Replay of document 01: each record of an archive, read and played on 256 values.
+ghost use mathlib.Core.Path.{_≡_};
+ghost use Prim.Native.Nat.{_+_, _*_, _≤_, _<_};
+ghost use lib.ListN.{length, set};
+ghost use Rattle.record.specs.Check.{lengthOf, readCount, writeCount};
+ghost use Rattle.replay.specs.Played.{played, recordPlayed, archivePlayed};
+ghost use Rattle.replay.specs.Replay.{addressAt, valueAt, readAgrees, readsAgree, storedTo, stored, replayed, onAnswer, replayOf};
+use archive::Answer;
+use archive::Fields;
+
+fn place(x: u8) -> usize
+    ensures { λ r. ⌜ (r ≡ x) × (r < 256) ⌝ }
+{
+    x as usize
+}
+
+// Whether read i of a record of k entries is the value there.
+fn read_agrees(t: &[u8], values: &[u64; 256], k: usize, i: usize) -> bool
+    requires { ⌜ (i < k) × (16 + 9 * k ≤ length (now t)) ⌝ }
+    ensures { λ r. ⌜ r ≡ readAgrees (now (t .entry)) (now (values .entry)) k i ⌝ }
+{
+    values[place(t[16 + i])] == le::get_u64(t, 16 + k + 8 * i)
+}
+
+// Whether every read of the record at the start of `t` is the value there. No test leaves the loop early.
+fn reads_agree(t: &[u8], values: &[u64; 256]) -> bool
+    requires { ⌜ (16 ≤ length (now t)) × (lengthOf (now t) ≤ length (now t)) ⌝ }
+    ensures { λ r. ⌜ r ≡ readsAgree (now (t .entry)) (now (values .entry)) ⌝ }
+{
+    let n = le::index(le::get_u16(t, 0));
+    let k = n + le::index(le::get_u16(t, 2));
+    let mut ok = true;
+    let mut i = 0;
+    while i < n {
+        ok &= read_agrees(t, values, k, i);
+        i += 1;
+    }
+    ok
+}
+
+// Stores entry i of a record of k entries.
+fn store_entry(t: &[u8], values: &mut [u64; 256], k: usize, i: usize)
+    requires { ⌜ (i < k) × (16 + 9 * k ≤ length (now t)) ⌝ }
+    ensures { λ _. ⌜ now (values .exit) ≡ set (now (values .entry)) (addressAt (now (t .entry)) i) (valueAt (now (t .entry)) k i) ⌝ }
+{
+    let a = place(t[16 + i]);
+    values[a] = le::get_u64(t, 16 + k + 8 * i);
+}
+
+// Stores the writes of the record at the start of `t`.
+fn store_writes(t: &[u8], values: &mut [u64; 256])
+    requires { ⌜ (16 ≤ length (now t)) × (lengthOf (now t) ≤ length (now t)) ⌝ }
+    ensures { λ _. ⌜ now (values .exit) ≡ stored (now (t .entry)) (now (values .entry)) ⌝ }
+{
+    let n = le::index(le::get_u16(t, 0));
+    let m = le::index(le::get_u16(t, 2));
+    let k = n + m;
+    let mut c = 0;
+    while c < m {
+        store_entry(t, values, k, n + c);
+        c += 1;
+    }
+}
+
+// Plays the record at the start of `part`, whose fields the reader gave: 14 where a read differs from the value there.
+fn play(part: &[u8], f: Fields, values: &mut [u64; 256]) -> Answer
+    requires { ⌜ (16 ≤ length (now part)) × (lengthOf (now part) ≤ length (now part)) ⌝ }
+    ensures { λ r. ⌜ replayed (now (values .exit)) r ≡ onAnswer (now (part .entry)) (now (values .entry)) (Answer.Record f) ⌝ }
+{
+    if !reads_agree(part, values) {
+        return Answer::Refused(14);
+    }
+    store_writes(part, values);
+    Answer::Record(f)
+}
+
+// Replays the record at position `at` of an archive whose last commit number before it is `last`: the reader's answer, or 14
+// where a read differs from the value there. Only an accepted record changes the values.
+pub fn replay(archive: &[u8], at: usize, last: u32, values: &mut [u64; 256]) -> Answer
+    ensures { λ r. ⌜ replayed (now (values .exit)) r ≡ replayOf (now (archive .entry)) at last (now (values .entry)) ⌝ }
+{
+    match archive::read(archive, at, last) {
+        Answer::Record(f) => play(&archive[at..], f, values),
+        Answer::End => Answer::End,
+        Answer::Refused(number) => Answer::Refused(number),
+    }
+}
+
+// Plays the first record of these bytes on lent values behind a lent last commit number: 0, 12 (also for no bytes), 5, 13 or
+// 14. Only 0 changes them.
+fn play_record(bytes: &[u8], last: &mut u32, values: &mut [u64; 256]) -> u32
+    ensures { λ r. ⌜ played (now (values .exit)) (now (last .exit)) r ≡ recordPlayed (now (bytes .entry)) (now (last .entry)) (now (values .entry)) ⌝ }
+{
+    let before = *last;
+    match replay(bytes, 0, before, values) {
+        Answer::Record(f) => {
+            *last = f.commit;
+            0
+        }
+        Answer::End => 12,
+        Answer::Refused(number) => number,
+    }
+}
+
+// Plays a whole archive, record by record: 0 at its end, else the number of the first record refused, with the values and
+// the last commit number as the records before it left them.
+#[no_mangle]
+pub extern "C" fn wax_archive_replay(archive: &[u8], values: &mut [u64; 256], last: &mut u32) -> u32
+    ensures { λ r. ⌜ played (now (values .exit)) (now (last .exit)) r ≡ archivePlayed (now (archive .entry)) (now (last .entry)) (now (values .entry)) ⌝ }
+{
+    let mut at = 0;
+    let mut commit = *last;
+    loop {
+        match replay(archive, at, commit, values) {
+            Answer::Record(f) => {
+                at = f.end;
+                commit = f.commit;
+            }
+            Answer::End => {
+                *last = commit;
+                return 0;
+            }
+            Answer::Refused(number) => {
+                *last = commit;
+                return number;
+            }
+        }
+    }
+}
