@@ -2,35 +2,51 @@
 
 use crate::archive::Playback;
 use crate::record::Header;
-use std::fmt::Write;
 
 const HEADING: &str = "commit station transaction reads writes";
 
 /// Heading, a line for each commit, then how it ended.
 pub fn playback(archive: &[u8]) -> String {
-    let mut text = format!("{HEADING}\n");
+    let mut text = format!("{HEADING}\n").into_bytes();
     let mut playback = Playback::FRESH;
     let mut rest = archive;
     let ending = loop {
         if rest.is_empty() {
-            break format!("end {}", playback.last);
+            break format!("end {}\n", playback.last);
         }
         match playback.record(rest) {
             Ok(view) => {
-                line(&mut text, &view.header);
+                push_line(&mut text, &view.header);
                 rest = &rest[view.length()..];
             }
-            Err(refusal) => break format!("refused {} after {}", refusal.number(), playback.last),
+            Err(refusal) => {
+                break format!("refused {} after {}\n", refusal.number(), playback.last)
+            }
         }
     };
-    text + &ending + "\n"
+    text.extend(ending.bytes());
+    String::from_utf8(text).expect("digits, letters and spaces")
 }
 
-fn line(text: &mut String, header: &Header) {
-    writeln!(
-        text,
-        "{} {} {} {} {}",
-        header.commit, header.station, header.transaction, header.reads, header.writes
-    )
-    .expect("a String takes every text");
+fn push_line(text: &mut Vec<u8>, header: &Header) {
+    push_number(text, header.commit, b' ');
+    push_number(text, header.station, b' ');
+    push_number(text, header.transaction, b' ');
+    push_number(text, header.reads, b' ');
+    push_number(text, header.writes, b'\n');
+}
+
+/// A number in decimal. By hand: `write!` would take most of a long archive's time.
+fn push_number(text: &mut Vec<u8>, mut number: u32, end: u8) {
+    let mut digits = [end; 11];
+    let mut at = digits.len() - 1;
+    loop {
+        at -= 1;
+        digits[at] = b'0' + (number % 10) as u8;
+        number /= 10;
+        if number == 0 {
+            break;
+        }
+    }
+    text.extend_from_slice(&digits[at..]);
 }

@@ -127,3 +127,18 @@ pub extern "C" fn wax_archive_replay(archive: &[u8], values: &mut [u64; 256], la
         }
     }
 }
+
+// What playback keeps: a value for each address, and the last commit number. All zeros before the first record.
+#[repr(C)]
+pub struct Playback {
+    pub values: [u64; 256],
+    pub last: u32,
+}
+
+// Plays the first record of these bytes: 0, 12 (also for no bytes), 5, 13 or 14. Only 0 changes the playback.
+#[no_mangle]
+pub extern "C" fn wax_playback_record(playback: &mut Playback, bytes: &[u8]) -> u32
+    ensures { λ r. ⌜ played (now (playback .exit) .values) (now (playback .exit) .last) r ≡ recordPlayed (now (bytes .entry)) (now (playback .entry) .last) (now (playback .entry) .values) ⌝ }
+{
+    play_record(bytes, &mut playback.last, &mut playback.values)
+}

@@ -64,7 +64,7 @@ fn main() {
     let seed = options.seed("--seed", 20_250_101);
     println!("seed {seed}");
     let mut judge = Judge::new(seed);
-    library(&mut judge, seed, options.number("--cases", 2_000_000));
+    library(&mut judge, seed, options.number("--cases", 5_000_000));
     if let Some(program) = options.text("--playback") {
         let outcome = Program::new(&mut judge, program).compare(&mut Random::new(seed));
         if let Err(error) = outcome {

@@ -3,7 +3,7 @@
 use crate::judge::Judge;
 use second::generate::{self, Size};
 use second::random::Random;
-use second::record::{Header, ENTRY, HEADER};
+use second::record::{Header, Record, ENTRY, HEADER};
 
 const SIZES: [u16; 6] = [0, 1, 255, 256, 257, u16::MAX];
 /// The last ones: 16 + 9 × count comes to little if it is counted in 32 bits.
@@ -142,7 +142,12 @@ pub fn tame(bytes: &mut [u8], random: &mut Random) {
 
 /// Two neighbours equal or exchanged, at each place: check and writer.
 pub fn order_broken(judge: &mut Judge, random: &mut Random) {
-    let record = generate::record(random, Size::Mixed);
+    for _ in 0..5 {
+        order_broken_in(judge, &generate::record(random, Size::Mixed));
+    }
+}
+
+fn order_broken_in(judge: &mut Judge, record: &Record) {
     let (header, values) = (record.header(), record.values());
     let mut broken = |addresses: &[u8]| {
         let mut bytes = record.encode();
@@ -201,9 +206,11 @@ pub fn write_well_formed(judge: &mut Judge, random: &mut Random) {
 
 /// Any room from none to more than enough.
 pub fn write_rooms(judge: &mut Judge, random: &mut Random) {
-    let order = Order::random(random, Size::Small);
-    for room in 0..order.header.length() as usize + 20 {
-        order.write(judge, room);
+    for _ in 0..5 {
+        let order = Order::random(random, Size::Small);
+        for room in 0..order.header.length() as usize + 20 {
+            order.write(judge, room);
+        }
     }
 }
 
