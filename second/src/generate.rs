@@ -56,7 +56,7 @@ pub fn addresses(random: &mut Random, count: usize) -> Vec<u8> {
 /// The members of a set of addresses, rising.
 fn members(set: [u64; ADDRESSES / 64]) -> Vec<u8> {
     let mut members = Vec::with_capacity(ADDRESSES);
-    for (first, mut word) in (0u8..).step_by(64).zip(set) {
+    for (first, mut word) in (0..=255u8).step_by(64).zip(set) {
         while word != 0 {
             members.push(first + word.trailing_zeros() as u8);
             word &= word - 1;

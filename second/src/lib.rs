@@ -10,10 +10,8 @@ pub mod numbers;
 pub mod options;
 pub mod random;
 pub mod record;
+pub mod samples;
 pub mod text;
-
-#[cfg(test)]
-mod tests;
 
 /// Why a call is turned back, by document 01's number.
 #[derive(Clone, Copy, Debug, PartialEq, Eq)]

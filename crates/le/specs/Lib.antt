@@ -2,3 +2,4 @@
 pub mod Le
 pub mod Width
 pub mod Laws
+pub mod Parts

@@ -1,22 +1,16 @@
 //! Writes an archive, or the text that playback prints for it, to standard output.
 
-use second::archive::Playback;
 use second::generate::{self, Size};
 use second::options::Options;
 use second::random::Random;
-use second::record::Record;
-use second::text;
+use second::{samples, text};
 use std::io::{self, Write};
 use std::process;
 
-const USAGE: &str = "make_archive c12|damaged|longer|random [--seed N|random] [--bytes N] [--size tiny|small|mixed|large] [--text]
-  --seed, --bytes, --size  for random: the seed, the least length, the records' sizes
-  --text                   the text that playback prints, in place of the archive";
-/// Commits of the longer sample.
-const LONGER: usize = 200;
-/// Seed of the longer sample: samples stay as they are.
-const SAMPLE_SEED: u64 = 12;
-
+const USAGE: &str = "make_archive c12|damaged|longer [--text]
+       make_archive random [--seed N|random] [--bytes N] [--size tiny|small|mixed|large] [--text]
+  --bytes  the least length
+  --text   the text that playback prints, in place of the archive";
 fn main() {
     let options = Options::read(USAGE, &["--seed", "--bytes", "--size"], &["--text"]);
     let archive = archive(&options);
@@ -35,54 +29,11 @@ fn archive(options: &Options) -> Vec<u8> {
     let [name] = options.words() else {
         options.misused()
     };
-    match name.as_str() {
-        "c12" => generate::archive(&c12()),
-        "damaged" => generate::archive(&damaged()),
-        "longer" => generate::archive(&longer()),
-        "random" => random(options),
-        _ => options.misused(),
+    if name == "random" {
+        return random(options);
     }
-}
-
-/// Document 01's case C12, then a read of what it wrote by station 1.
-fn c12() -> Vec<Record> {
-    vec![
-        Record {
-            reads: vec![(8, 0)],
-            writes: vec![(8, 1)],
-            commit: 1,
-            transaction: 1,
-            station: 0,
-            kind: 0,
-        },
-        Record {
-            reads: vec![(8, 1)],
-            writes: vec![],
-            commit: 2,
-            transaction: 1,
-            station: 1,
-            kind: 1,
-        },
-    ]
-}
-
-/// The same, then a read of a value that was never written: number 14 after 2.
-fn damaged() -> Vec<Record> {
-    let mut records = c12();
-    records.push(Record {
-        reads: vec![(8, 2)],
-        writes: vec![(9, 3)],
-        commit: 3,
-        transaction: 2,
-        station: 0,
-        kind: 0,
-    });
-    records
-}
-
-fn longer() -> Vec<Record> {
-    let random = &mut Random::new(SAMPLE_SEED);
-    generate::commits(random, &Playback::FRESH, Size::Tiny, LONGER)
+    let records = samples::named(name).unwrap_or_else(|| options.misused());
+    generate::archive(&records)
 }
 
 fn random(options: &Options) -> Vec<u8> {

@@ -1,13 +1,16 @@
 //! Gives each call to both implementations and compares answer and every byte of the buffers afterwards.
 
 use second::archive::Playback;
-use second::record::Header;
+use second::record::{Header, ENTRY, HEADER};
 use second::{ffi, numbers};
+use std::collections::BTreeMap;
 use std::fmt::Debug;
 use std::process;
 
 /// Elements before and behind a lent buffer that must stay as they are.
 const GUARD: usize = 16;
+/// Bytes that are lent to the writer at most.
+pub const MOST_ROOM: usize = HEADER + ENTRY * 2 * 65_536;
 /// Longest input that a report shows whole.
 const SHOWN: usize = 200;
 
@@ -16,6 +19,10 @@ pub struct Judge {
     round: u64,
     kind: &'static str,
     counts: Vec<(&'static str, u64)>,
+    answers: BTreeMap<u32, u64>,
+    /// What lent buffers hold before a call.
+    bytes: Vec<u8>,
+    words: Vec<u64>,
 }
 
 /// What a call gave: its number, playback's last commit number, the lent buffer.
@@ -33,6 +40,11 @@ impl Judge {
             round: 0,
             kind: "",
             counts: Vec::new(),
+            answers: BTreeMap::new(),
+            bytes: (0..GUARD + MOST_ROOM + GUARD).map(pattern).collect(),
+            words: (0..GUARD + 100 + GUARD)
+                .map(|at| u64::from_le_bytes([pattern(at); 8]))
+                .collect(),
         }
     }
 
@@ -47,6 +59,11 @@ impl Judge {
 
     pub fn counts(&self) -> &[(&'static str, u64)] {
         &self.counts
+    }
+
+    /// How often each number was the answer.
+    pub fn answers(&self) -> &BTreeMap<u32, u64> {
+        &self.answers
     }
 
     pub fn total(&self) -> u64 {
@@ -64,7 +81,7 @@ impl Judge {
     /// The writer, with so many bytes lent for the record.
     pub fn record_write(&mut self, header: &Header, addresses: &[u8], values: &[u8], room: usize) {
         let call = |write: fn(&Header, &[u8], &[u8], &mut [u8]) -> u32| {
-            lend(room, pattern_byte, |out| {
+            lend(&self.bytes, room, |out| {
                 write(header, addresses, values, out)
             })
         };
@@ -82,7 +99,7 @@ impl Judge {
     /// The reader, with so many fields lent.
     pub fn archive_read(&mut self, archive: &[u8], at: usize, last: u32, room: usize) {
         let call = |read: fn(&[u8], usize, u32, &mut [u64]) -> u32| {
-            lend(room, pattern_word, |fields| read(archive, at, last, fields))
+            lend(&self.words, room, |fields| read(archive, at, last, fields))
         };
         let second = call(numbers::archive_read);
         let proved = call(ffi::archive_read);
@@ -96,9 +113,7 @@ impl Judge {
 
     pub fn archive_entry(&mut self, archive: &[u8], at: usize, entries: u32, i: u32, room: usize) {
         let call = |entry: fn(&[u8], usize, u32, u32, &mut [u64]) -> u32| {
-            lend(room, pattern_word, |out| {
-                entry(archive, at, entries, i, out)
-            })
+            lend(&self.words, room, |out| entry(archive, at, entries, i, out))
         };
         let second = call(numbers::archive_entry);
         let proved = call(ffi::archive_entry);
@@ -172,6 +187,7 @@ impl Judge {
         call: impl FnOnce() -> String,
     ) {
         self.count();
+        *self.answers.entry(second.number).or_default() += 1;
         if second != proved {
             let at = second.first_difference(&proved);
             self.differ(&call(), &second.show(at), &proved.show(at));
@@ -249,24 +265,16 @@ impl<'a> Answer<'a, u64> {
     }
 }
 
-/// Lends a buffer filled with a pattern, guards on both sides; gives the answer and all of it afterwards.
-fn lend<T>(
-    room: usize,
-    pattern: fn(usize) -> T,
-    call: impl FnOnce(&mut [T]) -> u32,
-) -> (u32, Vec<T>) {
-    let mut buffer: Vec<T> = (0..GUARD + room + GUARD).map(pattern).collect();
+/// Lends a buffer with guards on both sides; gives the answer and all of it afterwards.
+fn lend<T: Clone>(pattern: &[T], room: usize, call: impl FnOnce(&mut [T]) -> u32) -> (u32, Vec<T>) {
+    let mut buffer = pattern[..GUARD + room + GUARD].to_vec();
     let number = call(&mut buffer[GUARD..GUARD + room]);
     (number, buffer)
 }
 
 /// Differs from place to place, and is never 0, which a stray write would most likely store.
-fn pattern_byte(at: usize) -> u8 {
+fn pattern(at: usize) -> u8 {
     (at % 251) as u8 + 3
-}
-
-fn pattern_word(at: usize) -> u64 {
-    u64::from_le_bytes([pattern_byte(at); 8])
 }
 
 /// Length that the size fields of the first record claim; 0 without a header.
@@ -274,7 +282,7 @@ fn first_length(bytes: &[u8]) -> usize {
     match bytes {
         [n0, n1, m0, m1, ..] => {
             let size = |low, high| usize::from(u16::from_le_bytes([low, high]));
-            16 + 9 * (size(*n0, *n1) + size(*m0, *m1))
+            HEADER + ENTRY * (size(*n0, *n1) + size(*m0, *m1))
         }
         _ => 0,
     }

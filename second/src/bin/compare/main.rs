@@ -64,7 +64,7 @@ fn main() {
     let seed = options.seed("--seed", 20_250_101);
     println!("seed {seed}");
     let mut judge = Judge::new(seed);
-    library(&mut judge, seed, options.number("--cases", 5_000_000));
+    library(&mut judge, seed, options.number("--cases", 10_000_000));
     if let Some(program) = options.text("--playback") {
         let outcome = Program::new(&mut judge, program).compare(&mut Random::new(seed));
         if let Err(error) = outcome {
@@ -96,5 +96,8 @@ fn print(judge: &Judge) {
     for (kind, count) in judge.counts() {
         println!("{count:>10}  {kind}");
     }
-    println!("{:>10}  cases, no difference", judge.total());
+    let answers = judge.answers().iter();
+    let answers: Vec<String> = answers.map(|(n, count)| format!("{n}: {count}")).collect();
+    println!("answers by number: {}", answers.join(", "));
+    println!("{} cases, no difference", judge.total());
 }

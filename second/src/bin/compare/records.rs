@@ -1,6 +1,6 @@
 //! Cases of record check and record writer.
 
-use crate::judge::Judge;
+use crate::judge::{Judge, MOST_ROOM};
 use second::generate::{self, Size};
 use second::random::Random;
 use second::record::{Header, Record, ENTRY, HEADER};
@@ -191,9 +191,8 @@ impl Order {
     /// Room around what these header fields ask for, where so much can be had.
     fn write_around(&self, judge: &mut Judge) {
         let exact = self.header.length() as usize;
-        let most = HEADER + ENTRY * 2 * 65_536;
         for room in [exact - 1, exact, exact + 1, exact + 100] {
-            self.write(judge, room.min(most));
+            self.write(judge, room.min(MOST_ROOM));
         }
     }
 }

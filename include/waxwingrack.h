@@ -1,0 +1,188 @@
+/*
+ * Waxwingrack: check, write, read and replay the records of a bottling line's archive.
+ *
+ * Link with libwaxwingrack.a. The functions allocate nothing and keep nothing between calls,
+ * so they may run at the same time on different buffers.
+ *
+ * A record, numbers little-endian:
+ *
+ *   bytes 0-1    reads n, 0 to 256
+ *         2-3    writes m, 0 to 256
+ *         4-7    commit number (0 on the way to the server)
+ *         8-11   transaction, not 0
+ *         12     station, 0 to 7
+ *         13     its kind, 0 locking, 1 validating
+ *         14-15  zero
+ *         then   n + m addresses of one byte, reads first,
+ *                strictly rising within reads and within writes
+ *         then   n + m values of 8 bytes, in the same order
+ *
+ * An archive is records one behind the other, commit numbers 1, 2, 3, ...
+ *
+ * Rules for every pointer:
+ *  - it points to as many elements as the length beside it says; with length 0 it may be NULL;
+ *  - bytes need no alignment, the others the alignment of their type;
+ *  - what is written (out, fields, entry, values, last, playback) overlaps nothing else of the call;
+ *  - what is only read is not changed, and nothing is kept after the call.
+ *
+ * Every function answers one of the numbers below. Any answer but WAX_OK leaves every lent byte
+ * as it was; wax_archive_replay alone keeps what the records before the refused one did.
+ */
+#ifndef WAXWINGRACK_H
+#define WAXWINGRACK_H
+
+#include <stddef.h>
+#include <stdint.h>
+
+#ifdef __cplusplus
+extern "C" {
+#endif
+
+/* Answers. */
+#define WAX_OK       UINT32_C(0)
+#define WAX_BUFFER   UINT32_C(1)   /* the buffer for the result is too short */
+#define WAX_RECORD   UINT32_C(5)   /* the record's layout is broken */
+#define WAX_SHORT    UINT32_C(12)  /* the bytes end inside a record */
+#define WAX_SEQUENCE UINT32_C(13)  /* the commit number is not one more than the last */
+#define WAX_REPLAY   UINT32_C(14)  /* a read differs from the value left by earlier records */
+#define WAX_END      UINT32_C(255) /* no record, or no entry, there */
+
+/* Limits and sizes. */
+#define WAX_HEADER_LENGTH  16   /* bytes before the addresses */
+#define WAX_ENTRY_LENGTH   9    /* bytes of an entry: address and value */
+#define WAX_MOST_READS     256
+#define WAX_MOST_WRITES    256
+#define WAX_LONGEST_RECORD 4624 /* WAX_RECORD_LENGTH(256, 256) */
+#define WAX_ADDRESSES      256  /* 32 pages of 8 objects */
+#define WAX_STATIONS       8
+#define WAX_FIELDS         7    /* numbers that wax_archive_read gives */
+#define WAX_ENTRY_FIELDS   2    /* numbers that wax_archive_entry gives */
+
+/* Kinds of station. */
+#define WAX_LOCKING    UINT32_C(0)
+#define WAX_VALIDATING UINT32_C(1)
+
+/* Where wax_archive_read puts what. */
+#define WAX_FIELD_END         0 /* position behind the record */
+#define WAX_FIELD_READS       1
+#define WAX_FIELD_WRITES      2
+#define WAX_FIELD_COMMIT      3
+#define WAX_FIELD_TRANSACTION 4
+#define WAX_FIELD_STATION     5
+#define WAX_FIELD_KIND        6
+
+/* Length in bytes of a record with so many reads and writes. */
+#define WAX_RECORD_LENGTH(reads, writes) \
+    ((size_t)WAX_HEADER_LENGTH + (size_t)WAX_ENTRY_LENGTH * ((size_t)(reads) + (size_t)(writes)))
+
+/*
+ * Record check: is the first record of these bytes well-formed? What lies behind it is not looked at.
+ *
+ *   WAX_SHORT   fewer than 16 bytes, or fewer than the two size fields ask for (whatever they say)
+ *   WAX_RECORD  more than 256 reads or writes, transaction 0, station above 7, kind above 1,
+ *               byte 14 or 15 not 0, or addresses that do not rise strictly
+ *   WAX_OK      else; any commit number is accepted
+ *
+ *   if (wax_record_check(bytes, length) == WAX_OK) { ... }
+ */
+uint32_t wax_record_check(const uint8_t *bytes, size_t length);
+
+/*
+ * Record writer: puts a record at the start of out.
+ *
+ * addresses: reads + writes bytes, reads first. values: 8 bytes each, little-endian, in the same order.
+ *
+ *   WAX_BUFFER  out_length is below 16 + 9 * (reads + writes), whatever the counts
+ *   WAX_RECORD  more than 256 reads or writes, transaction 0, station above 7, kind above 1,
+ *               addresses_length not reads + writes, values_length not 8 * (reads + writes),
+ *               or addresses that do not rise strictly within reads and within writes
+ *   WAX_OK      else: the record's WAX_RECORD_LENGTH(reads, writes) bytes are written,
+ *               those behind stay as they are; any commit number is accepted
+ *
+ *   uint8_t out[WAX_LONGEST_RECORD];
+ *   const uint8_t address[1] = { 8 }, value[8] = { 1 };
+ *   wax_record_write(0, 1, 0, 1, 0, WAX_LOCKING, address, 1, value, 8, out, sizeof out);
+ */
+uint32_t wax_record_write(uint32_t reads, uint32_t writes, uint32_t commit, uint32_t transaction,
+                          uint32_t station, uint32_t kind,
+                          const uint8_t *addresses, size_t addresses_length,
+                          const uint8_t *values, size_t values_length,
+                          uint8_t *out, size_t out_length);
+
+/*
+ * Archive reader: the record at position `at`, behind the commit with number `last` (0 at the start).
+ *
+ *   WAX_BUFFER    fields_length is below WAX_FIELDS; checked first
+ *   WAX_END       at is length: no further record
+ *   WAX_SHORT     at is above length, or the archive ends inside the record
+ *   WAX_RECORD    as wax_record_check
+ *   WAX_SEQUENCE  the commit number is not last + 1 (always so if last is 4,294,967,295)
+ *   WAX_OK        else: fields[0] to fields[6] are set, see WAX_FIELD_*; those behind stay
+ *
+ * The record's addresses start at at + 16, its values right behind those.
+ *
+ *   uint64_t fields[WAX_FIELDS];
+ *   size_t at = 0;
+ *   uint32_t last = 0;
+ *   while (wax_archive_read(archive, length, at, last, fields, WAX_FIELDS) == WAX_OK) {
+ *       last = (uint32_t)fields[WAX_FIELD_COMMIT];
+ *       at = (size_t)fields[WAX_FIELD_END];
+ *   }
+ */
+uint32_t wax_archive_read(const uint8_t *archive, size_t length, size_t at, uint32_t last,
+                          uint64_t *fields, size_t fields_length);
+
+/*
+ * One entry, reads first, then writes, of a record at position `at` that has `entries` = reads + writes.
+ * Only bounds are tested: call it for a record that wax_archive_read has accepted.
+ *
+ *   WAX_BUFFER  entry_length is below WAX_ENTRY_FIELDS
+ *   WAX_END     i is not below entries, or the record would end behind the archive; any numbers may be given
+ *   WAX_OK      else: entry[0] is the address, entry[1] the value
+ *
+ *   uint64_t entry[WAX_ENTRY_FIELDS];
+ *   wax_archive_entry(archive, length, at, entries, 0, entry, WAX_ENTRY_FIELDS);
+ */
+uint32_t wax_archive_entry(const uint8_t *archive, size_t length, size_t at, uint32_t entries, uint32_t i,
+                           uint64_t *entry, size_t entry_length);
+
+/*
+ * Replays a whole archive on 256 values and the last commit number, record by record.
+ * Neither values nor last may be NULL; for a fresh line all of them are 0.
+ *
+ *   WAX_OK        every record was accepted
+ *   WAX_SHORT, WAX_RECORD, WAX_SEQUENCE
+ *                 the first refused record, as wax_archive_read
+ *   WAX_REPLAY    a read of it differs from values[address] as it was before the record
+ *
+ * A refused record changes nothing; what those before it did stays, and last is the last accepted number.
+ *
+ *   uint64_t values[WAX_ADDRESSES] = { 0 };
+ *   uint32_t last = 0;
+ *   uint32_t answer = wax_archive_replay(archive, length, values, &last);
+ */
+uint32_t wax_archive_replay(const uint8_t *archive, size_t length, uint64_t *values, uint32_t *last);
+
+/*
+ * What playback keeps. Set all of it before the first call: zero for a fresh line,
+ *
+ *   wax_playback playback = { { 0 }, 0 };
+ */
+typedef struct wax_playback {
+    uint64_t values[WAX_ADDRESSES];
+    uint32_t last;
+} wax_playback;
+
+/*
+ * Plays the first record of these bytes; playback may not be NULL. Numbers as wax_archive_replay,
+ * WAX_SHORT also for no bytes. What lies behind the record is not looked at.
+ *
+ *   uint32_t answer = wax_playback_record(&playback, record, length);
+ */
+uint32_t wax_playback_record(wax_playback *playback, const uint8_t *record, size_t length);
+
+#ifdef __cplusplus
+}
+#endif
+
+#endif
