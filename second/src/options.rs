@@ -38,6 +38,14 @@ impl Options {
         options
     }
 
+    /// For programs that take no words.
+    pub fn without_words(self) -> Options {
+        if !self.words.is_empty() {
+            self.misused()
+        }
+        self
+    }
+
     pub fn misused(&self) -> ! {
         eprintln!("usage: {}", self.usage);
         process::exit(2)

@@ -126,10 +126,10 @@ pub fn entry(archive: &[u8], at: usize, entries: u32, i: u32) -> Found
     if entries <= i {
         return Found::Nothing;
     }
-    let a = at + 16;
+    let start = at + 16;
     Found::Entry {
-        address: archive[a + le::index(i)],
-        value: le::get_u64(archive, a + le::index(entries) + 8 * le::index(i)),
+        address: archive[start + le::index(i)],
+        value: le::get_u64(archive, start + le::index(entries) + 8 * le::index(i)),
     }
 }
 

@@ -28,8 +28,8 @@ unfolding entryOf
 returns-2 c = simp (sym (c .before .before .holds .ensures), not-false (c .before .before .holds .result) (c .before .if1 .left), le-ltb _ _ (c .if2 .taken))
 
 -- src/lib.rt:129:13
-add-a : tie.Need-add-a
-add-a c = omega (arith, holds _ _ _ (sym (c .before .before .holds .ensures) ∙ not-false (c .before .before .holds .result) (c .before .if1 .left)))
+add-start : tie.Need-add-start
+add-start c = omega (arith, holds _ _ _ (sym (c .before .before .holds .ensures) ∙ not-false (c .before .before .holds .result) (c .before .if1 .left)))
 
 -- src/lib.rt:131:30
 index-requires : tie.Need-index-requires
@@ -79,7 +79,7 @@ entry-spec =
     holds-requires
     returns
     returns-2
-    add-a
+    add-start
     index-requires
     add-t9
     shared-slice-read-t11

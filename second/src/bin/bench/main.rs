@@ -24,7 +24,8 @@ fn main() {
         USAGE,
         &["--megabytes", "--rounds", "--seed", "--playback", "--file"],
         &["--gate"],
-    );
+    )
+    .without_words();
     let bench = Bench {
         length: options.number("--megabytes", 64) as usize * MEGABYTE,
         rounds: options.number("--rounds", 15).max(1) as usize,

@@ -60,7 +60,7 @@ const KINDS: &[(&str, Cases)] = &[
 ];
 
 fn main() {
-    let options = Options::read(USAGE, &["--seed", "--cases", "--playback"], &[]);
+    let options = Options::read(USAGE, &["--seed", "--cases", "--playback"], &[]).without_words();
     let seed = options.seed("--seed", 20_250_101);
     println!("seed {seed}");
     let mut judge = Judge::new(seed);
