@@ -1,4 +1,4 @@
-//! The second implementation: the record, the archive and its playback, written from document 01 alone.
+//! The second implementation: the record, the archive and its playback, written from document 01.
 //!
 //! It shares no code with the proved library. `compare` runs both on the same inputs, `bench` times both.
 

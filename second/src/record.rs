@@ -147,6 +147,13 @@ fn rises(addresses: &[u8]) -> bool {
         .fold(true, |rises, (a, b)| rises & (a < b))
 }
 
+/// Length that the size fields of the first record claim, whether it is there or not.
+#[inline]
+pub fn claimed_length(bytes: &[u8]) -> Option<usize> {
+    let head = bytes.first_chunk()?;
+    Some(Header::read(head).length() as usize)
+}
+
 /// Record check: the first record of these bytes.
 #[inline]
 pub fn check(bytes: &[u8]) -> Result<(), Refusal> {

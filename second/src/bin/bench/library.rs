@@ -96,17 +96,14 @@ fn plain_copy(archive: &[u8], out: &mut [u8]) {
 #[inline(never)]
 fn walk(archive: &[u8], check: impl Fn(&[u8]) -> u32) -> usize {
     let (mut rest, mut accepted) = (archive, 0);
-    while !rest.is_empty() && check(rest) == numbers::OK {
-        rest = &rest[length_of_checked(rest)..];
+    while let Some(length) = record::claimed_length(rest) {
+        if check(rest) != numbers::OK {
+            break;
+        }
+        rest = &rest[length..];
         accepted += 1;
     }
     accepted
-}
-
-/// Length of the first record, which has passed its check.
-fn length_of_checked(bytes: &[u8]) -> usize {
-    let size = |at: usize| usize::from(u16::from_le_bytes([bytes[at], bytes[at + 1]]));
-    record::HEADER + record::ENTRY * (size(0) + size(2))
 }
 
 /// Not inlined: one call for each record, as on the other side.

@@ -1,7 +1,7 @@
 //! Gives each call to both implementations and compares answer and every byte of the buffers afterwards.
 
 use second::archive::Playback;
-use second::record::{Header, ENTRY, HEADER};
+use second::record::{self, Header, ENTRY, HEADER};
 use second::{ffi, numbers};
 use std::collections::BTreeMap;
 use std::fmt::Debug;
@@ -11,6 +11,8 @@ use std::process;
 const GUARD: usize = 16;
 /// Bytes that are lent to the writer at most.
 pub const MOST_ROOM: usize = HEADER + ENTRY * 2 * 65_536;
+/// Whose answers are compared.
+pub const SIDES: [&str; 2] = ["second", "proved"];
 /// Longest input that a report shows whole.
 const SHOWN: usize = 200;
 
@@ -71,9 +73,9 @@ impl Judge {
     }
 
     pub fn record_check(&mut self, bytes: &[u8]) {
-        let second = Answer::<u8>::number(numbers::record_check(bytes));
-        let proved = Answer::number(ffi::record_check(bytes));
-        self.agree(second, proved, || {
+        let second = numbers::record_check(bytes);
+        let proved = ffi::record_check(bytes);
+        self.agree_on_numbers(second, proved, || {
             format!("record_check\nbytes: {}", hex(bytes))
         });
     }
@@ -133,7 +135,7 @@ impl Judge {
         };
         let second = call(numbers::archive_replay);
         let proved = call(ffi::archive_replay);
-        self.agree(Answer::playback(&second), Answer::playback(&proved), || {
+        self.agree_on_playback(&second, &proved, || {
             format!("archive_replay\n{}\narchive: {}", show(start), hex(archive))
         });
         proved
@@ -147,7 +149,7 @@ impl Judge {
         };
         let second = call(numbers::playback_record);
         let proved = call(ffi::playback_record);
-        self.agree(Answer::playback(&second), Answer::playback(&proved), || {
+        self.agree_on_playback(&second, &proved, || {
             format!("playback_record\n{}\nbytes: {}", show(start), hex(record))
         });
         proved
@@ -160,15 +162,22 @@ impl Judge {
         let mut rest = archive;
         while stepped.0 == numbers::OK && !rest.is_empty() {
             stepped = self.playback_record(rest, &stepped.1);
-            rest = &rest[first_length(rest).min(rest.len())..];
+            let length = record::claimed_length(rest).unwrap_or(0);
+            rest = rest.get(length..).unwrap_or(&[]);
         }
-        self.agree(Answer::playback(&stepped), Answer::playback(&whole), || {
+        let answers = [Answer::playback(&stepped), Answer::playback(&whole)];
+        self.agree(["record by record", "at once"], answers, || {
             format!(
-                "playback_record by record (first answer) and archive_replay (second answer)\n{}\narchive: {}",
+                "proved playback\n{}\narchive: {}",
                 show(start),
                 hex(archive)
             )
         });
+    }
+
+    fn agree_on_numbers(&mut self, second: u32, proved: u32, call: impl FnOnce() -> String) {
+        let answers = [second, proved].map(Answer::<u8>::number);
+        self.agree(SIDES, answers, call);
     }
 
     fn agree_on_buffers<T: PartialEq + Debug>(
@@ -177,20 +186,32 @@ impl Judge {
         proved: (u32, Vec<T>),
         call: impl FnOnce() -> String,
     ) {
-        self.agree(Answer::buffer(&second), Answer::buffer(&proved), call);
+        let answers = [&second, &proved].map(Answer::buffer);
+        self.agree(SIDES, answers, call);
+    }
+
+    fn agree_on_playback(
+        &mut self,
+        second: &(u32, Playback),
+        proved: &(u32, Playback),
+        call: impl FnOnce() -> String,
+    ) {
+        let answers = [second, proved].map(Answer::playback);
+        self.agree(SIDES, answers, call);
     }
 
     fn agree<T: PartialEq + Debug>(
         &mut self,
-        second: Answer<T>,
-        proved: Answer<T>,
+        sides: [&str; 2],
+        answers: [Answer<T>; 2],
         call: impl FnOnce() -> String,
     ) {
         self.count();
-        *self.answers.entry(second.number).or_default() += 1;
-        if second != proved {
-            let at = second.first_difference(&proved);
-            self.differ(&call(), &second.show(at), &proved.show(at));
+        let [one, other] = &answers;
+        *self.answers.entry(one.number).or_default() += 1;
+        if one != other {
+            let at = one.first_difference(other);
+            self.differ(&call(), sides, answers.map(|answer| answer.show(at)));
         }
     }
 
@@ -201,10 +222,12 @@ impl Judge {
     }
 
     /// Reports a difference and ends the program.
-    pub fn differ(&self, call: &str, second: &str, proved: &str) -> ! {
+    pub fn differ(&self, call: &str, sides: [&str; 2], answers: [String; 2]) -> ! {
         println!("DIFFERENCE, seed {}, round {}", self.seed, self.round);
         println!("kind: {}\ncall: {call}", self.kind);
-        println!("second: {second}\nproved: {proved}");
+        for (side, answer) in sides.into_iter().zip(answers) {
+            println!("{side}: {answer}");
+        }
         process::exit(1)
     }
 }
@@ -246,12 +269,8 @@ impl<'a, T: PartialEq + Debug> Answer<'a, T> {
 
     /// The place as the caller counts it; playback's values have no guard before them.
     fn place(&self, at: usize) -> isize {
-        at as isize
-            - if self.last.is_some() {
-                0
-            } else {
-                GUARD as isize
-            }
+        let guard = if self.last.is_some() { 0 } else { GUARD };
+        at as isize - guard as isize
     }
 }
 
@@ -275,17 +294,6 @@ fn lend<T: Clone>(pattern: &[T], room: usize, call: impl FnOnce(&mut [T]) -> u32
 /// Differs from place to place, and is never 0, which a stray write would most likely store.
 fn pattern(at: usize) -> u8 {
     (at % 251) as u8 + 3
-}
-
-/// Length that the size fields of the first record claim; 0 without a header.
-fn first_length(bytes: &[u8]) -> usize {
-    match bytes {
-        [n0, n1, m0, m1, ..] => {
-            let size = |low, high| usize::from(u16::from_le_bytes([low, high]));
-            HEADER + ENTRY * (size(*n0, *n1) + size(*m0, *m1))
-        }
-        _ => 0,
-    }
 }
 
 fn show(start: &Playback) -> String {

@@ -1,6 +1,6 @@
 //! The playback program on archives, given through a pipe in pieces of odd sizes.
 
-use crate::judge::{hex, Judge};
+use crate::judge::{hex, Judge, SIDES};
 use second::archive::Playback;
 use second::generate::{self, Size};
 use second::random::Random;
@@ -24,11 +24,11 @@ impl Program<'_> {
     }
 
     pub fn compare(&mut self, random: &mut Random) -> io::Result<()> {
-        self.judge.begin(0, "playback program, small archives");
+        self.judge.begin(0, "playback program: small archives");
         self.small(random)?;
-        self.judge.begin(0, "playback program, any archives");
+        self.judge.begin(0, "playback program: any archives");
         self.any(random)?;
-        self.judge.begin(0, "playback program, over 2 MB");
+        self.judge.begin(0, "playback program: over 2 MB");
         self.long(random)
     }
 
@@ -84,21 +84,13 @@ impl Program<'_> {
     fn run(&mut self, archive: &[u8], piece: usize) -> io::Result<()> {
         self.judge.count();
         let printed = printed(self.path, archive, piece)?;
-        let expected = text::playback(archive);
-        if printed != expected.as_bytes() {
-            let call = format!(
-                "{}, pieces of {piece}\narchive: {}",
-                self.path,
-                hex(archive)
-            );
-            let at = expected
-                .bytes()
-                .zip(&printed)
-                .take_while(|(a, b)| a == *b)
-                .count();
-            let proved = from_line(&printed, at);
-            self.judge
-                .differ(&call, &from_line(expected.as_bytes(), at), &proved);
+        let expected = text::playback(archive).into_bytes();
+        if printed != expected {
+            let call = format!("{}, pieces of {piece}", self.path);
+            let call = format!("{call}\narchive: {}", hex(archive));
+            let at = expected.iter().zip(&printed).position(|(a, b)| a != b);
+            let texts = [expected, printed].map(|text| from_line(&text, at));
+            self.judge.differ(&call, SIDES, texts);
         }
         Ok(())
     }
@@ -116,19 +108,14 @@ fn damaged(random: &mut Random, archive: &[u8]) -> Vec<u8> {
     archive
 }
 
-/// The text from the line of this place on, shortened.
-fn from_line(text: &[u8], at: usize) -> String {
-    let before = &text[..at.min(text.len())];
-    let line = before
-        .iter()
-        .rposition(|byte| *byte == b'\n')
-        .map_or(0, |end| end + 1);
+/// The text from the line of this place on, or its end, shortened.
+fn from_line(text: &[u8], at: Option<usize>) -> String {
+    let before = &text[..at.unwrap_or(text.len().saturating_sub(1))];
+    let newline = before.iter().rposition(|byte| *byte == b'\n');
+    let line = newline.map_or(0, |at| at + 1);
     let shown = &text[line..text.len().min(line + 80)];
-    format!(
-        "{} bytes, from byte {line}: {:?}",
-        text.len(),
-        String::from_utf8_lossy(shown)
-    )
+    let shown = String::from_utf8_lossy(shown);
+    format!("{} bytes, from byte {line}: {shown:?}", text.len())
 }
 
 /// What the program prints for the archive.
@@ -144,8 +131,10 @@ fn printed(path: &str, archive: &[u8], piece: usize) -> io::Result<Vec<u8>> {
         stdout.expect("piped").read_to_end(&mut printed)?;
         feeding.join().expect("does not panic")
     })?;
-    child.wait()?;
-    Ok(printed)
+    match child.wait()?.code() {
+        Some(_) => Ok(printed),
+        None => Err(io::Error::other("ended by a signal")),
+    }
 }
 
 /// Writes the archive in pieces; a program may end before it has read all.

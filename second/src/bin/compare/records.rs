@@ -268,10 +268,10 @@ pub fn write_counts(judge: &mut Judge, random: &mut Random) {
             (random.pick(&COUNTS), writes),
             (reads, random.pick(&COUNTS)),
             (random.pick(&COUNTS), random.pick(&COUNTS)),
-            (reads + 1, writes.wrapping_sub(1)),
+            (reads + 1, writes - 1),
             (reads + writes, 0),
             (0, reads + writes),
-            (reads.wrapping_sub(1), writes + 1),
+            (reads - 1, writes + 1),
         ];
         for (reads, writes) in others {
             (order.header.reads, order.header.writes) = (reads, writes);
