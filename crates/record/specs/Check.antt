@@ -31,6 +31,10 @@ stationKind s = getD s 13 0
 abbrev pub lengthOf : List ℕ → ℕ
 lengthOf s = recordLength (readCount s) (writeCount s)
 
+-- the bytes that a record claims, as far as its own tell: a header where that is not whole
+unfoldable pub claimedLength : List ℕ → ℕ
+claimedLength s = cond (ltb (length s) 16) 16 (lengthOf s)
+
 -- "n and m are 0 to 256"; "(also station above 7, kind above 1, transaction 0)"
 unfoldable pub headOk : ℕ → ℕ → ℕ → ℕ → ℕ → Bool
 headOk n m transaction station kind = leb n 256 && leb m 256 && not (eqb transaction 0) && leb station 7 && leb kind 1

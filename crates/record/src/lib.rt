@@ -3,7 +3,7 @@ ghost use mathlib.Core.Path.{_≡_};
 ghost use mathlib.Core.List.{_++_};
 ghost use Prim.Native.Nat.{_+_, _*_, _-_, _≤_, _<_};
 ghost use lib.ListN.{length, take, drop};
-ghost use Rattle.record.specs.Check.{lengthOf, headOk, headAt, riseAt, rises as Check·rises, addressesRise, checkOf};
+ghost use Rattle.record.specs.Check.{lengthOf, claimedLength, headOk, headAt, riseAt, rises as Check·rises, addressesRise, checkOf};
 ghost use Rattle.record.specs.Write.{fits as Write·fits, recordBytes, written, writeOf};
 ghost use Rattle.layout.specs.Record.{header, recordLength};
 ghost use lib.Seq.{sets};
@@ -50,6 +50,16 @@ fn record_length(s: &[u8]) -> usize
     ensures { λ r. ⌜ r ≡ lengthOf (now (s .entry)) ⌝ }
 {
     16 + 9 * (le::index(le::get_u16(s, 0)) + le::index(le::get_u16(s, 2)))
+}
+
+// The bytes that the first record of these claims, as far as they tell: a header where that is not whole.
+pub fn claimed_length(bytes: &[u8]) -> usize
+    ensures { λ r. ⌜ r ≡ claimedLength (now (bytes .entry)) ⌝ }
+{
+    if bytes.len() < 16 {
+        return 16;
+    }
+    record_length(bytes)
 }
 
 // Whether a header's numbers are in range and its two last bytes are 0.

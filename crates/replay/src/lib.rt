@@ -109,23 +109,15 @@ pub extern "C" fn wax_archive_replay(archive: &[u8], values: &mut [u64; 256], la
     ensures { λ r. ⌜ played (now (values .exit)) (now (last .exit)) r ≡ archivePlayed (now (archive .entry)) (now (last .entry)) (now (values .entry)) ⌝ }
 {
     let mut at = 0;
-    let mut commit = *last;
-    loop {
-        match replay(archive, at, commit, values) {
-            Answer::Record(f) => {
-                at = f.end;
-                commit = f.commit;
-            }
-            Answer::End => {
-                *last = commit;
-                return 0;
-            }
-            Answer::Refused(number) => {
-                *last = commit;
-                return number;
-            }
+    while at < archive.len() {
+        let part = &archive[at..];
+        let number = play_record(part, last, values);
+        if number != 0 {
+            return number;
         }
+        at += record::claimed_length(part);
     }
+    0
 }
 
 // What playback keeps: a value for each address, and the last commit number. All zeros before the first record.
