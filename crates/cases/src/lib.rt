@@ -1,0 +1,1 @@
+// No code: document 01's cases, computed, are in specs/.
