@@ -1,69 +1,52 @@
+-- `archive::put_fields` meets its contract.
 use native.Mathlib.Omega.{arith}
 use lib.ListN.{length-set}
 use borrow.Author.Needs.{needs}
 use Rattle.archive.proofs.put_fields.Statement.{statement}
 use Rattle.archive.proofs.put_fields.Tie as tie
-use Rattle.archive.proofs.put_fields.Reads as reads
-use Rattle.archive.proofs.put_fields.Lts as lts
-use Rattle.le.proofs.long.Reads as long-reads
 
--- src/lib.rt:140:5
 slice-write-out : tie.Need-slice-write-out
 slice-write-out c = search needs
 
--- src/lib.rt:141:14
 long-requires : tie.Need-long-requires
 long-requires c κs = search needs
 
--- src/lib.rt:141:5
 slice-write-out-2 : tie.Need-slice-write-out-2
 slice-write-out-2 c = simp length-set (omega arith)
 
--- src/lib.rt:142:14
 long-requires-2 : tie.Need-long-requires-2
 long-requires-2 c κs = search needs
 
--- src/lib.rt:142:5
 slice-write-out-3 : tie.Need-slice-write-out-3
 slice-write-out-3 c = simp length-set (omega arith)
 
--- src/lib.rt:143:14
 long-requires-3 : tie.Need-long-requires-3
 long-requires-3 c κs = search needs
 
--- src/lib.rt:143:5
 slice-write-out-4 : tie.Need-slice-write-out-4
 slice-write-out-4 c = simp length-set (omega arith)
 
--- src/lib.rt:144:14
 long-requires-4 : tie.Need-long-requires-4
 long-requires-4 c κs = search needs
 
--- src/lib.rt:144:5
 slice-write-out-5 : tie.Need-slice-write-out-5
 slice-write-out-5 c = simp length-set (omega arith)
 
--- src/lib.rt:145:14
 long-requires-5 : tie.Need-long-requires-5
 long-requires-5 c κs = search needs
 
--- src/lib.rt:145:5
 slice-write-out-6 : tie.Need-slice-write-out-6
 slice-write-out-6 c = simp length-set (omega arith)
 
--- src/lib.rt:146:14
 long-requires-6 : tie.Need-long-requires-6
 long-requires-6 c κs = search needs
 
--- src/lib.rt:146:5
 slice-write-out-7 : tie.Need-slice-write-out-7
 slice-write-out-7 c = simp length-set (omega arith)
 
--- src/lib.rt:136:1
 same-length : tie.Need-same-length
 same-length c = search needs
 
--- src/lib.rt:136:1
 returns : tie.Need-returns
 returns c = rw (c .before .before .before .before .before .long .ensures, c .before .before .before .before .long2 .ensures, c .before .before .before .long3 .ensures, c .before .before .long4 .ensures, c .before .long5 .ensures, c .long6 .ensures)
 

@@ -1,63 +1,48 @@
-use Prim.Native.Nat.{ℕ, _+_, _*_, _-_, _≤_}
-use Rattle.archive.specs.Parts.{holdsAt, valuePart}
+-- `archive::value_part` meets its contract.
+use Prim.Native.Nat.{_+_, _*_, _-_}
+use Rattle.archive.specs.Parts.{valuePart}
 use Rattle.archive.specs.Facts.{holds}
-use mathlib.Core.Path.{_≡_, sym, ap, _∙_}
+use mathlib.Core.Path.{_≡_, sym, _∙_}
 use native.Mathlib.Omega.{arith}
 use borrow.Author.Tests.{not-true, not-false}
 use borrow.Author.Needs.{needs}
 use Rattle.archive.proofs.value_part.Statement.{statement}
 use Rattle.archive.proofs.value_part.Tie as tie
-use Rattle.archive.proofs.value_part.Reads as reads
-use Rattle.archive.proofs.value_part.Lts as lts
-use Rattle.archive.proofs.holds.Reads as holds-reads
-use Rattle.le.proofs.index.Reads as index-reads
 
--- src/lib.rt:110:9
 holds-requires : tie.Need-holds-requires
 holds-requires c κs = search needs
 
--- src/lib.rt:111:9
 slice-aggregate-result : tie.Need-slice-aggregate-result
 slice-aggregate-result c = search needs
 
--- src/lib.rt:111:9
 returns : tie.Need-returns
 unfolding valuePart
 returns c = simp (sym (c .before .before .holds .ensures), not-true (c .before .before .holds .result) (c .before .if1 .taken))
 
--- src/lib.rt:113:9
 index-requires : tie.Need-index-requires
 index-requires c κs = search needs
 
--- src/lib.rt:114:13
 add-a : tie.Need-add-a
 add-a c = omega (arith, holds _ _ _ (sym (c .before .before .holds .ensures) ∙ not-false (c .before .before .holds .result) (c .before .if1 .left)))
 
--- src/lib.rt:114:13
 add-a-2 : tie.Need-add-a-2
 add-a-2 c = omega (arith, holds _ _ _ (sym (c .before .before .holds .ensures) ∙ not-false (c .before .before .holds .result) (c .before .if1 .left)))
 
--- src/lib.rt:115:17
 mul-e : tie.Need-mul-e
 mul-e c = search needs
 
--- src/lib.rt:115:13
 add-e : tie.Need-add-e
 add-e c = omega (arith, holds _ _ _ (sym (c .before .before .holds .ensures) ∙ not-false (c .before .before .holds .result) (c .before .if1 .left)))
 
--- src/lib.rt:116:5
 sub-result : tie.Need-sub-result
 sub-result c = search needs
 
--- src/lib.rt:116:5
 part-result-start : tie.Need-part-result-start
 part-result-start c = search needs
 
--- src/lib.rt:116:5
 part-result-end : tie.Need-part-result-end
 part-result-end c = omega (arith, holds _ _ _ (sym (c .before .before .holds .ensures) ∙ not-false (c .before .before .holds .result) (c .before .if1 .left)))
 
--- src/lib.rt:107:1
 returns-2 : tie.Need-returns-2
 unfolding valuePart
 returns-2 c = let g = c .before .before .before .before .before .args in let e : g .at + 16 + g .entries + 8 * g .entries - (g .at + 16 + g .entries) ≡ 8 * g .entries = omega arith in simp (c .before .index .ensures, e, sym (c .before .before .before .holds .ensures), not-false (c .before .before .before .holds .result) (c .before .before .if1 .left))

@@ -1,52 +1,40 @@
-use mathlib.Core.Path.{_≡_, sym, ap, _∙_}
+-- `archive::wax_archive_entry` meets its contract.
+use mathlib.Core.Path.{sym, ap, _∙_}
 use Rattle.archive.specs.Told.{toldEntryOf, toldEntry}
 use borrow.Author.Tests.{lt-ltb, le-ltb}
 use borrow.Author.Needs.{needs}
 use Rattle.archive.proofs.wax_archive_entry.Statement.{statement}
 use Rattle.archive.proofs.wax_archive_entry.Tie as tie
-use Rattle.archive.proofs.wax_archive_entry.Reads as reads
-use Rattle.archive.proofs.wax_archive_entry.Lts as lts
-use Rattle.archive.proofs.entry.Reads as entry-reads
 
--- src/lib.rt:181:9
 returns : tie.Need-returns
 unfolding toldEntryOf
 returns c = simp (lt-ltb _ _ (c .if1 .taken))
 
--- src/lib.rt:183:43
 entry-requires : tie.Need-entry-requires
 entry-requires c κs = search needs
 
--- src/lib.rt:183:24
 enum-known-address : tie.Need-enum-known-address
 enum-known-address c = search needs
 
--- src/lib.rt:184:9
 enum-told : tie.Need-enum-told
 enum-told c = search needs
 
--- src/lib.rt:184:9
 returns-2 : tie.Need-returns-2
 unfolding toldEntryOf
 returns-2 c = simp (le-ltb _ _ (c .before .before .before .if1 .left)) (ap (toldEntry _) (sym (c .enum-told .given .1) ∙ c .before .before .entry .ensures))
 
--- src/lib.rt:186:14
 cast-out : tie.Need-cast-out
 cast-out c = search needs
 
--- src/lib.rt:186:5
 slice-write-out : tie.Need-slice-write-out
 slice-write-out c = search needs
 
--- src/lib.rt:187:5
 slice-write-out-2 : tie.Need-slice-write-out-2
 slice-write-out-2 c = search needs
 
--- src/lib.rt:170:1
 same-length : tie.Need-same-length
 same-length c = search needs
 
--- src/lib.rt:170:1
 returns-3 : tie.Need-returns-3
 unfolding toldEntryOf
 returns-3 c = simp (le-ltb _ _ (c .before .before .before .before .if1 .left)) (ap (toldEntry _) (sym (c .before .address .given .1) ∙ c .before .before .before .entry .ensures))

@@ -1,54 +1,41 @@
-use mathlib.Core.Path.{_≡_, sym, ap, _∙_}
+-- `archive::wax_archive_read` meets its contract.
+use mathlib.Core.Path.{sym, ap, _∙_}
 use Rattle.archive.specs.Told.{told, toldReadOf, toldRead}
 use borrow.Author.Tests.{lt-ltb, le-ltb}
 use borrow.Author.Needs.{needs}
 use Rattle.archive.proofs.wax_archive_read.Statement.{statement}
 use Rattle.archive.proofs.wax_archive_read.Tie as tie
-use Rattle.archive.proofs.wax_archive_read.Reads as reads
-use Rattle.archive.proofs.wax_archive_read.Lts as lts
-use Rattle.archive.proofs.put_fields.Reads as put-fields-reads
-use Rattle.archive.proofs.read.Reads as read-reads
 
--- src/lib.rt:156:9
 returns : tie.Need-returns
 unfolding toldReadOf
 returns c = simp (lt-ltb _ _ (c .if1 .taken))
 
--- src/lib.rt:158:11
 read-requires : tie.Need-read-requires
 read-requires c κs = search needs
 
--- src/lib.rt:159:24
 enum-known-f : tie.Need-enum-known-f
 enum-known-f c = search needs
 
--- src/lib.rt:160:13
 put-fields-requires : tie.Need-put-fields-requires
 put-fields-requires c κs = search needs
 
--- src/lib.rt:163:24
 enum-told : tie.Need-enum-told
 enum-told c = search needs
 
--- src/lib.rt:164:25
 enum-known-number : tie.Need-enum-known-number
 enum-known-number c = search needs
 
--- src/lib.rt:151:1
 same-length : tie.Need-same-length
 same-length c = search needs
 
--- src/lib.rt:151:1
 returns-2 : tie.Need-returns-2
 unfolding toldReadOf
 returns-2 c = simp (le-ltb _ _ (c .before .before .before .before .before .before .before .before .if1 .left)) (ap (λ o. told o 0) (c .before .before .put-fields .ensures) ∙ ap (toldRead _) (sym (c .before .before .before .before .before .f .given .1) ∙ c .before .before .before .before .before .before .before .read .ensures))
 
--- src/lib.rt:151:1
 returns-3 : tie.Need-returns-3
 unfolding toldReadOf
 returns-3 c = simp (le-ltb _ _ (c .before .before .before .if1 .left)) (ap (toldRead _) (sym (c .enum-told .given .1) ∙ c .before .before .read .ensures))
 
--- src/lib.rt:151:1
 returns-4 : tie.Need-returns-4
 unfolding toldReadOf
 returns-4 c = simp (le-ltb _ _ (c .before .before .before .before .if1 .left)) (ap (toldRead _) (sym (c .before .number .given .1) ∙ c .before .before .before .read .ensures))

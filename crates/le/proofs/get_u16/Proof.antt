@@ -1,40 +1,30 @@
+-- `le::get_u16` meets its contract.
 use Rattle.le.specs.Le.{u16At}
 use borrow.Author.Needs.{needs}
 use Rattle.le.proofs.get_u16.Statement.{statement}
 use Rattle.le.proofs.get_u16.Tie as tie
-use Rattle.le.proofs.get_u16.Reads as reads
-use Rattle.le.proofs.get_u16.Lts as lts
-use Rattle.le.proofs.wide.Reads as wide-reads
 
--- src/lib.rt:17:10
 shared-slice-read-wide : tie.Need-shared-slice-read-wide
 shared-slice-read-wide c = search needs
 
--- src/lib.rt:17:5
 wide-requires : tie.Need-wide-requires
 wide-requires c κs = search needs
 
--- src/lib.rt:17:26
 add-wide : tie.Need-add-wide
 add-wide c = search needs
 
--- src/lib.rt:17:24
 shared-slice-read-wide-2 : tie.Need-shared-slice-read-wide-2
 shared-slice-read-wide-2 c = search needs
 
--- src/lib.rt:17:19
 wide-requires-2 : tie.Need-wide-requires-2
 wide-requires-2 c κs = search needs
 
--- src/lib.rt:17:19
 mul-result : tie.Need-mul-result
 mul-result c = search needs
 
--- src/lib.rt:17:5
 add-result : tie.Need-add-result
 add-result c = search needs
 
--- src/lib.rt:13:1
 returns : tie.Need-returns
 unfolding u16At
 returns c = search needs

@@ -1,37 +1,29 @@
+-- `le::put_u16` meets its contract.
 use native.Mathlib.Omega.{arith}
 use lib.ListN.{length-set}
 use Rattle.le.specs.Le.{setU16}
 use borrow.Author.Needs.{needs}
 use Rattle.le.proofs.put_u16.Statement.{statement}
 use Rattle.le.proofs.put_u16.Tie as tie
-use Rattle.le.proofs.put_u16.Reads as reads
-use Rattle.le.proofs.put_u16.Lts as lts
 
--- src/lib.rt:45:13
 cast-s : tie.Need-cast-s
 cast-s c = search needs
 
--- src/lib.rt:45:5
 slice-write-s : tie.Need-slice-write-s
 slice-write-s c = search needs
 
--- src/lib.rt:46:17
 cast-s-2 : tie.Need-cast-s-2
 cast-s-2 c = search needs
 
--- src/lib.rt:46:7
 add-s : tie.Need-add-s
 add-s c = search needs
 
--- src/lib.rt:46:5
 slice-write-s-2 : tie.Need-slice-write-s-2
 slice-write-s-2 c = simp length-set (omega arith)
 
--- src/lib.rt:41:1
 same-length : tie.Need-same-length
 same-length c = search needs
 
--- src/lib.rt:41:1
 returns : tie.Need-returns
 unfolding setU16
 returns c = search needs

@@ -1,17 +1,13 @@
+-- `playback::play` meets its contract. The loop ends because a record ends behind its start (`moves`).
 use borrow.Author.Needs.{needs}
-use mathlib.Core.Path.{_≡_, refl, sym, ap, _∙_}
+use mathlib.Core.Path.{_≡_, sym, ap, _∙_}
 use native.Mathlib.Omega.{arith}
-use Prim.Native.Nat.{ℕ, suc, _+_, _*_, _-_, _≤_, _<_}
-use lib.ListN.{length, length-set}
+use Prim.Native.Nat.{_-_}
+use lib.ListN.{length}
 use Rattle.replay.specs.Replay.{replayed}
 use Rattle.replay.specs.Fuel.{moves}
 use Rattle.playback.proofs.play.Statement.{statement}
 use Rattle.playback.proofs.play.Tie as tie
-use Rattle.playback.proofs.play.Reads as reads
-use Rattle.playback.proofs.play.Lts as lts
-use Rattle.playback.proofs.make_room.Reads as make-room-reads
-use Rattle.replay.proofs.replay.Reads as replay-reads
-use Rattle.report.proofs.commit_line.Reads as commit-line-reads
 
 abbrev Inv-loop : tie.InvT-loop
 Inv-loop input last values₀ output₀ out at₀ commit₀ next₀ values output at commit next = length output ≡ length output₀
@@ -19,55 +15,42 @@ Inv-loop input last values₀ output₀ out at₀ commit₀ next₀ values outpu
 abbrev μ-loop : tie.MeasureT-loop
 μ-loop input last values₀ output₀ out at₀ commit₀ next₀ values output at commit next = length input - at
 
--- src/main.rt:70:5
 loop-holds : tie.Need-loop-holds Inv-loop μ-loop
 loop-holds c = search needs
 
--- src/main.rt:71:15
 replay-requires : tie.Need-replay-requires Inv-loop μ-loop
 replay-requires c κs = search needs
 
--- src/main.rt:72:28
 enum-known-f : tie.Need-enum-known-f Inv-loop μ-loop
 enum-known-f c = search needs
 
--- src/main.rt:73:21
 make-room-requires : tie.Need-make-room-requires Inv-loop μ-loop
 make-room-requires c κs = search needs
 
--- src/main.rt:74:17
 commit-line-requires : tie.Need-commit-line-requires Inv-loop μ-loop
 commit-line-requires c κs = search needs
 
--- src/main.rt:70:5
 loop-less : tie.Need-loop-less Inv-loop μ-loop
 loop-less c = let o = moves _ _ _ _ _ _ (ap (replayed _) (sym (c .before .before .before .before .before .before .before .f .given .1)) ∙ c .before .before .before .before .before .before .before .before .before .replay .ensures) in omega arith
 
--- src/main.rt:70:5
 loop-again : tie.Need-loop-again Inv-loop μ-loop
 loop-again c = search needs
 
--- src/main.rt:79:17
 enum-told : tie.Need-enum-told Inv-loop μ-loop
 enum-told c = search needs
 
--- src/main.rt:79:17
 same-length : tie.Need-same-length Inv-loop μ-loop
 same-length c = search needs
 
--- src/main.rt:79:17
 returns : tie.Need-returns Inv-loop μ-loop
 returns c = search needs
 
--- src/main.rt:86:29
 enum-known-number : tie.Need-enum-known-number Inv-loop μ-loop
 enum-known-number c = search needs
 
--- src/main.rt:87:17
 same-length-2 : tie.Need-same-length-2 Inv-loop μ-loop
 same-length-2 c = search needs
 
--- src/main.rt:87:17
 returns-2 : tie.Need-returns-2 Inv-loop μ-loop
 returns-2 c = search needs
 

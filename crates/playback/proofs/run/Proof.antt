@@ -1,14 +1,10 @@
+-- `playback::run` meets its contract.
 use borrow.Author.Needs.{needs}
-use mathlib.Core.Path.{_≡_, refl, sym, ap, _∙_}
-use native.Mathlib.Omega.{arith}
-use Prim.Native.Nat.{ℕ, suc, _+_, _*_, _-_, _≤_, _<_}
-use lib.ListN.{length, length-set}
+use mathlib.Core.Path.{_≡_}
+use Prim.Native.Nat.{_-_}
+use lib.ListN.{length}
 use Rattle.playback.proofs.run.Statement.{statement}
 use Rattle.playback.proofs.run.Tie as tie
-use Rattle.playback.proofs.run.Reads as reads
-use Rattle.playback.proofs.run.Lts as lts
-use Rattle.playback.proofs.turn.Reads as turn-reads
-use Rattle.report.proofs.heading_line.Reads as heading-line-reads
 
 abbrev Inv-loop : tie.InvT-loop
 Inv-loop input₀ values₀ output₀ s₀ turns₀ input values output s turns = (length input ≡ length input₀) × (length output ≡ length output₀)
@@ -16,51 +12,39 @@ Inv-loop input₀ values₀ output₀ s₀ turns₀ input values output s turns 
 abbrev μ-loop : tie.MeasureT-loop
 μ-loop input₀ values₀ output₀ s₀ turns₀ input values output s turns = turns
 
--- src/main.rt:202:14
 heading-line-requires : tie.Need-heading-line-requires Inv-loop μ-loop
 heading-line-requires c κs = search needs
 
--- src/main.rt:206:5
 loop-holds : tie.Need-loop-holds Inv-loop μ-loop
 loop-holds c = search needs
 
--- src/main.rt:208:13
 same-length : tie.Need-same-length Inv-loop μ-loop
 same-length c = search needs
 
--- src/main.rt:208:13
 same-length-2 : tie.Need-same-length-2 Inv-loop μ-loop
 same-length-2 c = search needs
 
--- src/main.rt:208:13
 returns : tie.Need-returns Inv-loop μ-loop
 returns c = search needs
 
--- src/main.rt:210:9
 turn-requires : tie.Need-turn-requires Inv-loop μ-loop
 turn-requires c κs = search needs
 
--- src/main.rt:211:9
 sub-turns : tie.Need-sub-turns Inv-loop μ-loop
 sub-turns c = search needs
 
--- src/main.rt:206:5
 loop-less : tie.Need-loop-less Inv-loop μ-loop
 loop-less c = search needs
 
--- src/main.rt:206:5
 loop-again : tie.Need-loop-again Inv-loop μ-loop
 loop-again c = search needs
 
--- src/main.rt:198:1
 same-length-3 : tie.Need-same-length-3 Inv-loop μ-loop
 same-length-3 c = search needs
 
--- src/main.rt:198:1
 same-length-4 : tie.Need-same-length-4 Inv-loop μ-loop
 same-length-4 c = search needs
 
--- src/main.rt:198:1
 returns-2 : tie.Need-returns-2 Inv-loop μ-loop
 returns-2 c = search needs
 

@@ -1,22 +1,17 @@
+-- `record::claimed_length` meets its contract.
 use Rattle.record.specs.Check.{claimedLength}
 use borrow.Author.Tests.{lt-ltb, le-ltb}
 use borrow.Author.Needs.{needs}
 use Rattle.record.proofs.claimed_length.Statement.{statement}
 use Rattle.record.proofs.claimed_length.Tie as tie
-use Rattle.record.proofs.claimed_length.Reads as reads
-use Rattle.record.proofs.claimed_length.Lts as lts
-use Rattle.record.proofs.record_length.Reads as record-length-reads
 
--- src/lib.rt:60:9
 returns : tie.Need-returns
 unfolding claimedLength
 returns c = simp (lt-ltb _ _ (c .if1 .taken))
 
--- src/lib.rt:62:5
 record-length-requires : tie.Need-record-length-requires
 record-length-requires c κs = search needs
 
--- src/lib.rt:56:1
 returns-2 : tie.Need-returns-2
 unfolding claimedLength
 returns-2 c = simp (le-ltb _ _ (c .before .if1 .left)) (c .record-length .ensures)

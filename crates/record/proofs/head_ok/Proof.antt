@@ -1,11 +1,9 @@
+-- `record::head_ok` meets its contract.
 use borrow.Author.Needs.{needs}
 use Rattle.record.specs.Check.{headOk}
 use Rattle.record.proofs.head_ok.Statement.{statement}
 use Rattle.record.proofs.head_ok.Tie as tie
-use Rattle.record.proofs.head_ok.Reads as reads
-use Rattle.record.proofs.head_ok.Lts as lts
 
--- src/lib.rt:14:1
 returns : tie.Need-returns
 unfolding headOk
 returns c = search needs

@@ -1,3 +1,4 @@
+-- `record::put_record` meets its contract. Header, addresses and values are each a run of stores, and `record-stores` joins them.
 use lib.ListN.{length}
 use Prim.Native.Nat.{_+_, _-_}
 use Rattle.record.specs.Stores.{record-stores}
@@ -6,60 +7,43 @@ use native.Mathlib.Omega.{arith}
 use borrow.Author.Needs.{needs}
 use Rattle.record.proofs.put_record.Statement.{statement}
 use Rattle.record.proofs.put_record.Tie as tie
-use Rattle.record.proofs.put_record.Reads as reads
-use Rattle.record.proofs.put_record.Lts as lts
-use Rattle.record.proofs.fill.Reads as fill-reads
-use Rattle.record.proofs.put_header.Reads as put-header-reads
 
--- src/lib.rt:179:5
 put-header-requires : tie.Need-put-header-requires
 put-header-requires c κs = search needs
 
--- src/lib.rt:180:13
 add-a : tie.Need-add-a
 add-a c = search needs
 
--- src/lib.rt:181:13
 add-e : tie.Need-add-e
 add-e c = search needs
 
--- src/lib.rt:182:10
 sub-fill : tie.Need-sub-fill
 sub-fill c = search needs
 
--- src/lib.rt:182:10
 part-fill-start : tie.Need-part-fill-start
 part-fill-start c = search needs
 
--- src/lib.rt:182:10
 part-fill-end : tie.Need-part-fill-end
 part-fill-end c = search needs
 
--- src/lib.rt:182:5
 fill-requires : tie.Need-fill-requires
 fill-requires c κs = search needs
 
--- src/lib.rt:183:10
 sub-fill-2 : tie.Need-sub-fill-2
 sub-fill-2 c = search needs
 
--- src/lib.rt:183:10
 part-fill-start-2 : tie.Need-part-fill-start-2
 part-fill-start-2 c = search needs
 
--- src/lib.rt:183:10
 part-fill-end-2 : tie.Need-part-fill-end-2
 part-fill-end-2 c = search needs
 
--- src/lib.rt:183:5
 fill-requires-2 : tie.Need-fill-requires-2
 fill-requires-2 c κs = search needs
 
--- src/lib.rt:165:1
 same-length : tie.Need-same-length
 same-length c = search needs
 
--- src/lib.rt:165:1
 returns : tie.Need-returns
 returns c = let g = c .before .before .before .before .before .before .before .before .before .before .before .before .before .before .before .args in let ads = g .addresses .now in let vs = g .values .now in let a = 16 + length ads in let s1 = c .before .before .before .before .before .before .before .before .before .before .put-header .last .0 in record-stores (g .reads) (g .writes) (g .commit) (g .transaction) (g .station) (g .kind) ads vs (g .out .now) (c .before .before .before .before .before .before .before .before .before .before .put-header .ensures) (put-part ads (c .before .before .before .before .before .before .fill .last .0) s1 16 (a - 16) (c .before .before .before .before .before .before .fill .ensures) (omega arith) (omega arith)) (put-part vs (c .before .before .fill2 .last .0) _ a (a + length vs - a) (c .before .before .fill2 .ensures) (omega arith) (omega arith)) (c .before .before .before .before .before .before .before .before .before .before .before .before .before .before .before .pre .0) (c .before .before .before .before .before .before .before .before .before .before .before .before .before .before .before .pre .1) (c .before .before .before .before .before .before .before .before .before .before .before .before .before .before .before .pre .2)
 

@@ -1,43 +1,32 @@
+-- `record::wax_record_check` meets its contract.
 use Rattle.record.specs.Check.{checkOf}
 use borrow.Author.Tests.{lt-ltb, le-ltb}
-use mathlib.Core.Path.{sym, _∙_}
+use mathlib.Core.Path.{sym}
 use borrow.Author.Needs.{needs}
 use Rattle.record.proofs.wax_record_check.Statement.{statement}
 use Rattle.record.proofs.wax_record_check.Tie as tie
-use Rattle.record.proofs.wax_record_check.Reads as reads
-use Rattle.record.proofs.wax_record_check.Lts as lts
-use Rattle.record.proofs.addresses_rise.Reads as addresses-rise-reads
-use Rattle.record.proofs.head_at.Reads as head-at-reads
-use Rattle.record.proofs.record_length.Reads as record-length-reads
 
--- src/lib.rt:90:9
 returns : tie.Need-returns
 unfolding checkOf
 returns c = simp (lt-ltb _ _ (c .if1 .taken))
 
--- src/lib.rt:92:22
 record-length-requires : tie.Need-record-length-requires
 record-length-requires c κs = search needs
 
--- src/lib.rt:93:9
 returns-2 : tie.Need-returns-2
 unfolding checkOf
 returns-2 c = simp (le-ltb _ _ (c .before .before .if1 .left), sym (c .before .record-length .ensures), lt-ltb _ _ (c .if2 .taken))
 
--- src/lib.rt:95:8
 head-at-requires : tie.Need-head-at-requires
 head-at-requires c κs = search needs
 
--- src/lib.rt:95:25
 addresses-rise-requires : tie.Need-addresses-rise-requires
 addresses-rise-requires c κs = search needs
 
--- src/lib.rt:96:9
 returns-3 : tie.Need-returns-3
 unfolding checkOf
 returns-3 c = simp (le-ltb _ _ (c .before .before .before .before .before .if1 .left), sym (c .before .before .before .before .record-length .ensures), le-ltb _ _ (c .before .before .before .if2 .left), sym (c .before .before .head-at .ensures), sym (c .before .addresses-rise .ensures), c .if3 .taken)
 
--- src/lib.rt:85:1
 returns-4 : tie.Need-returns-4
 unfolding checkOf
 returns-4 c = simp (le-ltb _ _ (c .before .before .before .before .before .if1 .left), sym (c .before .before .before .before .record-length .ensures), le-ltb _ _ (c .before .before .before .if2 .left), sym (c .before .before .head-at .ensures), sym (c .before .addresses-rise .ensures), c .if3 .left)

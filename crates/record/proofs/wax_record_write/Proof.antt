@@ -1,62 +1,47 @@
-use Rattle.record.specs.Write.{fits as Write·fits, writeOf, written}
+-- `record::wax_record_write` meets its contract.
+use Rattle.record.specs.Write.{writeOf, written}
 use Rattle.record.specs.Facts.{fit, head-fits}
-use mathlib.Core.Path.{sym, _∙_, _≡_, ap}
+use mathlib.Core.Path.{sym, _∙_, ap}
 use borrow.Author.Tests.{lt-ltb, le-ltb, not-true, not-false}
 use native.Mathlib.Omega.{arith}
-use Prim.Native.Nat.{_+_}
 use lib.ListN.{length}
 use Rattle.layout.specs.Record.{recordLength}
 use borrow.Author.Needs.{needs}
 use Rattle.record.proofs.wax_record_write.Statement.{statement}
 use Rattle.record.proofs.wax_record_write.Tie as tie
-use Rattle.record.proofs.wax_record_write.Reads as reads
-use Rattle.record.proofs.wax_record_write.Lts as lts
-use Rattle.record.proofs.fits.Reads as fits-reads
-use Rattle.record.proofs.put_record.Reads as put-record-reads
 
--- src/lib.rt:202:30
 index-requires : tie.Need-index-requires
 index-requires c κs = search needs
 
--- src/lib.rt:202:45
 index-requires-2 : tie.Need-index-requires-2
 index-requires-2 c κs = search needs
 
--- src/lib.rt:202:30
 add-if1 : tie.Need-add-if1
 add-if1 c = search needs
 
--- src/lib.rt:202:25
 mul-if1 : tie.Need-mul-if1
 mul-if1 c = search needs
 
--- src/lib.rt:202:20
 add-if1-2 : tie.Need-add-if1-2
 add-if1-2 c = search needs
 
--- src/lib.rt:203:9
 returns : tie.Need-returns
 unfolding writeOf
 returns c = simp (lt-ltb (length (c .before .before .before .before .before .before .args .out .now)) (recordLength (c .before .before .before .before .before .before .args .reads) (c .before .before .before .before .before .before .args .writes)) (omega arith))
 
--- src/lib.rt:205:9
 fits-requires : tie.Need-fits-requires
 fits-requires c κs = search needs
 
--- src/lib.rt:206:9
 returns-2 : tie.Need-returns-2
 unfolding writeOf
 returns-2 c = simp (le-ltb (length (c .before .before .before .before .before .before .before .before .args .out .now)) (recordLength (c .before .before .before .before .before .before .before .before .args .reads) (c .before .before .before .before .before .before .before .before .args .writes)) (omega arith), sym (c .before .fits2 .ensures), not-true (c .before .fits2 .result) (c .if2 .taken))
 
--- src/lib.rt:208:5
 put-record-requires : tie.Need-put-record-requires
 put-record-requires c κs = let f = fit _ _ _ _ _ _ _ (sym (c .before .before .fits2 .ensures) ∙ not-false (c .before .before .fits2 .result) (c .before .if2 .left)) in let h = head-fits _ _ _ _ _ (f .head) in (f .addresses-length, f .values-length, omega arith, omega arith, omega arith)
 
--- src/lib.rt:188:1
 same-length : tie.Need-same-length
 same-length c = search needs
 
--- src/lib.rt:188:1
 returns-3 : tie.Need-returns-3
 unfolding writeOf
 returns-3 c = simp (le-ltb (length (c .before .before .before .before .before .before .before .before .before .before .before .before .args .out .now)) (recordLength (c .before .before .before .before .before .before .before .before .before .before .before .before .args .reads) (c .before .before .before .before .before .before .before .before .before .before .before .before .args .writes)) (omega arith), sym (c .before .before .before .before .before .fits2 .ensures), not-false (c .before .before .before .before .before .fits2 .result) (c .before .before .before .before .if2 .left)) (ap (λ o. written o 0) (c .before .before .put-record .ensures))

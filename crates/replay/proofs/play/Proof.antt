@@ -1,28 +1,21 @@
+-- `replay::play` meets its contract.
 use Rattle.archive.specs.declared.Answer.the-variants.{Record}
-use mathlib.Core.Path.{_≡_, sym, ap, _∙_}
+use mathlib.Core.Path.{sym, ap}
 use Rattle.replay.specs.Replay.{replayed}
 use borrow.Author.Tests.{not-true, not-false}
 use borrow.Author.Needs.{needs}
 use Rattle.replay.proofs.play.Statement.{statement}
 use Rattle.replay.proofs.play.Tie as tie
-use Rattle.replay.proofs.play.Reads as reads
-use Rattle.replay.proofs.play.Lts as lts
-use Rattle.replay.proofs.reads_agree.Reads as reads-agree-reads
-use Rattle.replay.proofs.store_writes.Reads as store-writes-reads
 
--- src/lib.rt:69:9
 reads-agree-requires : tie.Need-reads-agree-requires
 reads-agree-requires c κs = search needs
 
--- src/lib.rt:70:9
 returns : tie.Need-returns
 returns c = simp (sym (c .before .reads-agree .ensures), not-true (c .before .reads-agree .result) (c .if1 .taken))
 
--- src/lib.rt:72:5
 store-writes-requires : tie.Need-store-writes-requires
 store-writes-requires c κs = search needs
 
--- src/lib.rt:65:1
 returns-2 : tie.Need-returns-2
 returns-2 c = simp (sym (c .before .before .before .reads-agree .ensures), not-false (c .before .before .before .reads-agree .result) (c .before .before .if1 .left)) (ap (λ v. replayed v (Record (c .before .before .before .before .before .before .args .f))) (c .store-writes .ensures))
 

@@ -1,16 +1,12 @@
+-- `replay::store_writes` meets its contract. The loop's invariant: the values are those after the writes passed.
 use borrow.Author.Needs.{needs}
 use mathlib.Core.Path.{_≡_, sym, ap, _∙_}
 use native.Mathlib.Omega.{arith}
-use Prim.Native.Nat.{ℕ, _+_, _*_, _-_, _≤_}
+use Prim.Native.Nat.{_-_, _≤_}
 use native.Mathlib.Numerals.{add-one}
 use Rattle.replay.specs.Replay.{storedTo, stored}
 use Rattle.replay.proofs.store_writes.Statement.{statement}
 use Rattle.replay.proofs.store_writes.Tie as tie
-use Rattle.replay.proofs.store_writes.Reads as reads
-use Rattle.replay.proofs.store_writes.Lts as lts
-use Rattle.le.proofs.get_u16.Reads as get-u16-reads
-use Rattle.le.proofs.index.Reads as index-reads
-use Rattle.replay.proofs.store_entry.Reads as store-entry-reads
 
 abbrev Inv-loop : tie.InvT-loop
 Inv-loop t values₀ n m k c₀ values c = (c ≤ m) × (values ≡ storedTo t values₀ k n c)
@@ -18,53 +14,41 @@ Inv-loop t values₀ n m k c₀ values c = (c ≤ m) × (values ≡ storedTo t v
 abbrev μ-loop : tie.MeasureT-loop
 μ-loop t values₀ n m k c₀ values c = m - c
 
--- src/lib.rt:53:23
 get-u16-requires : tie.Need-get-u16-requires Inv-loop μ-loop
 get-u16-requires c κs = search needs
 
--- src/lib.rt:53:9
 index-requires : tie.Need-index-requires Inv-loop μ-loop
 index-requires c κs = search needs
 
--- src/lib.rt:54:23
 get-u16-requires-2 : tie.Need-get-u16-requires-2 Inv-loop μ-loop
 get-u16-requires-2 c κs = search needs
 
--- src/lib.rt:54:9
 index-requires-2 : tie.Need-index-requires-2 Inv-loop μ-loop
 index-requires-2 c κs = search needs
 
--- src/lib.rt:55:13
 add-k : tie.Need-add-k Inv-loop μ-loop
 add-k c = search needs
 
--- src/lib.rt:57:5
 loop-holds : tie.Need-loop-holds Inv-loop μ-loop
 unfolding storedTo
 loop-holds c = search needs
 
--- src/lib.rt:58:35
 add-store-entry : tie.Need-add-store-entry Inv-loop μ-loop
 add-store-entry c = search needs
 
--- src/lib.rt:58:9
 store-entry-requires : tie.Need-store-entry-requires Inv-loop μ-loop
 store-entry-requires c κs = search needs
 
--- src/lib.rt:59:9
 add-c : tie.Need-add-c Inv-loop μ-loop
 add-c c = search needs
 
--- src/lib.rt:57:5
 loop-less : tie.Need-loop-less Inv-loop μ-loop
 loop-less c = search needs
 
--- src/lib.rt:57:5
 loop-again : tie.Need-loop-again Inv-loop μ-loop
 unfolding storedTo
 loop-again c = (search needs, rw add-one (cc))
 
--- src/lib.rt:49:1
 returns : tie.Need-returns Inv-loop μ-loop
 unfolding stored
 returns c = rw (sym (c .before .before .before .before .before .get-u16 .ensures .0), sym (c .before .before .before .get-u162 .ensures .0), sym (c .before .before .before .before .index .ensures), sym (c .before .before .index2 .ensures)) (c .before .loop .inv .1 ∙ ap (storedTo _ _ _ _) (omega arith))

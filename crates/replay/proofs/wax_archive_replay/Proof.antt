@@ -1,16 +1,13 @@
+-- `replay::wax_archive_replay` meets its contract. The loop's invariant: the play of the whole archive is the play from `at` on, of the values and the number so far.
 use borrow.Author.Needs.{needs}
-use mathlib.Core.Path.{_≡_, refl, sym, ap, _∙_}
+use mathlib.Core.Path.{_≡_, sym, _∙_}
 use native.Mathlib.Omega.{arith}
-use Prim.Native.Nat.{ℕ, suc, _+_, _*_, _-_, _≤_}
+use Prim.Native.Nat.{suc, _-_, _≤_}
 use Rattle.replay.specs.Played.{playFrom, archivePlayed}
 use Rattle.replay.specs.Fuel.{begins, turn-end, refused-part, accepted-part}
 use lib.ListN.{length}
 use Rattle.replay.proofs.wax_archive_replay.Statement.{statement}
 use Rattle.replay.proofs.wax_archive_replay.Tie as tie
-use Rattle.replay.proofs.wax_archive_replay.Reads as reads
-use Rattle.replay.proofs.wax_archive_replay.Lts as lts
-use Rattle.record.proofs.claimed_length.Reads as claimed-length-reads
-use Rattle.replay.proofs.play_record.Reads as play-record-reads
 
 abbrev Inv-loop : tie.InvT-loop
 Inv-loop archive values₀ last₀ at₀ values last at = (at ≤ length archive) × (archivePlayed archive last₀ values₀ ≡ playFrom (suc (length archive) - at) archive at last values)
@@ -18,47 +15,36 @@ Inv-loop archive values₀ last₀ at₀ values last at = (at ≤ length archive
 abbrev μ-loop : tie.MeasureT-loop
 μ-loop archive values₀ last₀ at₀ values last at = length archive - at
 
--- src/lib.rt:112:5
 loop-holds : tie.Need-loop-holds Inv-loop μ-loop
 loop-holds c = (omega arith, begins _ _ _)
 
--- src/lib.rt:113:20
 sub-part : tie.Need-sub-part Inv-loop μ-loop
 sub-part c = search needs
 
--- src/lib.rt:113:20
 part-part-start : tie.Need-part-part-start Inv-loop μ-loop
 part-part-start c = search needs
 
--- src/lib.rt:113:20
 part-part-end : tie.Need-part-part-end Inv-loop μ-loop
 part-part-end c = search needs
 
--- src/lib.rt:114:13
 play-record-requires : tie.Need-play-record-requires Inv-loop μ-loop
 play-record-requires c κs = search needs
 
--- src/lib.rt:116:13
 returns : tie.Need-returns Inv-loop μ-loop
 returns c = sym (c .before .before .before .before .before .before .loop .inv .1 ∙ refused-part (c .before .before .before .before .before .before .before .before .args .archive .now) (c .before .before .before .before .before .before .loop .at) (c .before .before .before .before .before .before .loop .last) (c .before .before .before .before .before .before .loop .values) (c .before .play-record .last .1 .1 .0) (c .before .play-record .last .1 .0) (c .before .play-record .result) (c .before .before .before .before .before .loop-test .taken) (c .if1 .taken) (c .before .play-record .ensures))
 
--- src/lib.rt:118:15
 claimed-length-requires : tie.Need-claimed-length-requires Inv-loop μ-loop
 claimed-length-requires c κs = search needs
 
--- src/lib.rt:118:9
 add-at : tie.Need-add-at Inv-loop μ-loop
 add-at c = let r = accepted-part (c .before .before .before .before .before .before .before .before .before .args .archive .now) (c .before .before .before .before .before .before .before .loop .at) (c .before .before .before .before .before .before .before .loop .last) (c .before .before .before .before .before .before .before .loop .values) (c .before .before .play-record .last .1 .1 .0) (c .before .before .play-record .last .1 .0) (c .before .before .play-record .result) (c .claimed-length .result) (c .before .before .before .before .before .before .loop-test .taken) (c .before .if1 .left) (c .before .before .play-record .ensures) (c .claimed-length .ensures) in omega (arith, r)
 
--- src/lib.rt:112:5
 loop-less : tie.Need-loop-less Inv-loop μ-loop
 loop-less c = let r = accepted-part (c .before .before .before .before .before .before .before .before .before .args .archive .now) (c .before .before .before .before .before .before .before .loop .at) (c .before .before .before .before .before .before .before .loop .last) (c .before .before .before .before .before .before .before .loop .values) (c .before .before .play-record .last .1 .1 .0) (c .before .before .play-record .last .1 .0) (c .before .before .play-record .result) (c .claimed-length .result) (c .before .before .before .before .before .before .loop-test .taken) (c .before .if1 .left) (c .before .before .play-record .ensures) (c .claimed-length .ensures) in omega (arith, r)
 
--- src/lib.rt:112:5
 loop-again : tie.Need-loop-again Inv-loop μ-loop
 loop-again c = let r = accepted-part (c .before .before .before .before .before .before .before .before .before .args .archive .now) (c .before .before .before .before .before .before .before .loop .at) (c .before .before .before .before .before .before .before .loop .last) (c .before .before .before .before .before .before .before .loop .values) (c .before .before .play-record .last .1 .1 .0) (c .before .before .play-record .last .1 .0) (c .before .before .play-record .result) (c .claimed-length .result) (c .before .before .before .before .before .before .loop-test .taken) (c .before .if1 .left) (c .before .before .play-record .ensures) (c .claimed-length .ensures) in (r .within, c .before .before .before .before .before .before .before .loop .inv .1 ∙ r .rest)
 
--- src/lib.rt:107:1
 returns-2 : tie.Need-returns-2 Inv-loop μ-loop
 returns-2 c = sym (c .before .loop .inv .1 ∙ turn-end (c .before .before .before .args .archive .now) (c .before .loop .at) (c .before .loop .last) (c .before .loop .values) (omega arith))
 

@@ -1,3 +1,4 @@
+-- `report::put_digits` meets its contract.
 use Rattle.report.specs.Decimal.{lastDigits}
 use Rattle.report.specs.Stores.{digit-store, digits-done}
 use Prim.Native.Nat.{_≤_}
@@ -7,8 +8,6 @@ use lib.Seq.{sets}
 use borrow.Author.Needs.{needs}
 use Rattle.report.proofs.put_digits.Statement.{statement}
 use Rattle.report.proofs.put_digits.Tie as tie
-use Rattle.report.proofs.put_digits.Reads as reads
-use Rattle.report.proofs.put_digits.Lts as lts
 
 abbrev Inv-loop : tie.InvT-loop
 Inv-loop out₀ at k n i₀ rest₀ out i rest = (i ≤ k) × (length out ≡ length out₀) × (sets out at (lastDigits i rest) ≡ sets out₀ at (lastDigits k n))
@@ -16,43 +15,33 @@ Inv-loop out₀ at k n i₀ rest₀ out i rest = (i ≤ k) × (length out ≡ le
 abbrev μ-loop : tie.MeasureT-loop
 μ-loop out₀ at k n i₀ rest₀ out i rest = i
 
--- src/lib.rt:34:5
 loop-holds : tie.Need-loop-holds Inv-loop μ-loop
 loop-holds c = search needs
 
--- src/lib.rt:35:9
 sub-i : tie.Need-sub-i Inv-loop μ-loop
 sub-i c = search needs
 
--- src/lib.rt:36:24
 add-out : tie.Need-add-out Inv-loop μ-loop
 add-out c = search needs
 
--- src/lib.rt:36:23
 cast-out : tie.Need-cast-out Inv-loop μ-loop
 cast-out c = search needs
 
--- src/lib.rt:36:13
 add-out-2 : tie.Need-add-out-2 Inv-loop μ-loop
 add-out-2 c = search needs
 
--- src/lib.rt:36:9
 slice-write-out : tie.Need-slice-write-out Inv-loop μ-loop
 slice-write-out c = search needs
 
--- src/lib.rt:34:5
 loop-less : tie.Need-loop-less Inv-loop μ-loop
 loop-less c = search needs
 
--- src/lib.rt:34:5
 loop-again : tie.Need-loop-again Inv-loop μ-loop
 loop-again c = (search needs, simp length-set (search needs), digit-store _ _ _ _ (c .loop-test .taken) ∙ c .before .loop .inv .2)
 
--- src/lib.rt:28:1
 same-length : tie.Need-same-length Inv-loop μ-loop
 same-length c = search needs
 
--- src/lib.rt:28:1
 returns : tie.Need-returns Inv-loop μ-loop
 returns c = digits-done _ _ _ _ (search needs) ∙ c .before .loop .inv .2
 

@@ -1,43 +1,31 @@
+-- `report::put_field` meets its contract.
 use Rattle.report.specs.Stores.{field-stores}
 use native.Mathlib.Omega.{arith}
 use borrow.Author.Needs.{needs}
 use Rattle.report.proofs.put_field.Statement.{statement}
 use Rattle.report.proofs.put_field.Tie as tie
-use Rattle.report.proofs.put_field.Reads as reads
-use Rattle.report.proofs.put_field.Lts as lts
-use Rattle.le.proofs.put_u8.Reads as put-u8-reads
-use Rattle.report.proofs.digits.Reads as digits-reads
-use Rattle.report.proofs.put_digits.Reads as put-digits-reads
 
--- src/lib.rt:46:9
 digits-requires : tie.Need-digits-requires
 digits-requires c κs = search needs
 
--- src/lib.rt:47:5
 put-digits-requires : tie.Need-put-digits-requires
 put-digits-requires c κs = search needs
 
--- src/lib.rt:48:21
 add-put-u8 : tie.Need-add-put-u8
 add-put-u8 c = search needs
 
--- src/lib.rt:48:5
 put-u8-requires : tie.Need-put-u8-requires
 put-u8-requires c κs = search needs
 
--- src/lib.rt:49:5
 add-result : tie.Need-add-result
 add-result c = search needs
 
--- src/lib.rt:49:5
 add-result-2 : tie.Need-add-result-2
 add-result-2 c = search needs
 
--- src/lib.rt:42:1
 same-length : tie.Need-same-length
 same-length c = search needs
 
--- src/lib.rt:42:1
 returns : tie.Need-returns
 returns c = (field-stores _ _ _ _ _ (c .before .before .before .before .before .before .before .before .digits .ensures .0) (c .before .before .before .before .before .before .put-digits .ensures) (c .before .before .put-u8 .ensures), omega arith)
 

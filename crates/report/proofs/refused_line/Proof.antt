@@ -1,52 +1,38 @@
+-- `report::refused_line` meets its contract.
 use Rattle.report.specs.Text.{refusedLine}
 use Rattle.report.specs.Stores.{put-join, has-room, line-put, line-refused}
 use native.Mathlib.Omega.{arith}
 use borrow.Author.Needs.{needs}
 use Rattle.report.proofs.refused_line.Statement.{statement}
 use Rattle.report.proofs.refused_line.Tie as tie
-use Rattle.report.proofs.refused_line.Reads as reads
-use Rattle.report.proofs.refused_line.Lts as lts
-use Rattle.report.proofs.put_field.Reads as put-field-reads
-use Rattle.report.proofs.put_text.Reads as put-text-reads
-use Rattle.report.proofs.room.Reads as room-reads
 
--- src/lib.rt:113:9
 room-requires : tie.Need-room-requires
 room-requires c κs = search needs
 
--- src/lib.rt:114:9
 returns : tie.Need-returns
 returns c = line-refused _ _ _ (c .before .room .ensures) (c .if1 .taken)
 
--- src/lib.rt:116:32
 slice-aggregate-put-text : tie.Need-slice-aggregate-put-text
 slice-aggregate-put-text c = search needs
 
--- src/lib.rt:116:9
 put-text-requires : tie.Need-put-text-requires
 put-text-requires c κs = omega (arith, has-room _ _ (c .before .before .before .room .ensures) (c .before .before .if1 .left))
 
--- src/lib.rt:117:9
 put-field-requires : tie.Need-put-field-requires
 put-field-requires c κs = omega (arith, has-room _ _ (c .before .before .before .before .before .before .before .room .ensures) (c .before .before .before .before .before .before .if1 .left))
 
--- src/lib.rt:118:32
 slice-aggregate-put-text-2 : tie.Need-slice-aggregate-put-text-2
 slice-aggregate-put-text-2 c = search needs
 
--- src/lib.rt:118:9
 put-text-requires-2 : tie.Need-put-text-requires-2
 put-text-requires-2 c κs = omega (arith, has-room _ _ (c .before .before .before .before .before .before .before .before .before .before .before .before .room .ensures) (c .before .before .before .before .before .before .before .before .before .before .before .if1 .left))
 
--- src/lib.rt:119:5
 put-field-requires-2 : tie.Need-put-field-requires-2
 put-field-requires-2 c κs = omega (arith, has-room _ _ (c .before .before .before .before .before .before .before .before .before .before .before .before .before .before .before .before .room .ensures) (c .before .before .before .before .before .before .before .before .before .before .before .before .before .before .before .if1 .left))
 
--- src/lib.rt:110:1
 same-length : tie.Need-same-length
 same-length c = search needs
 
--- src/lib.rt:110:1
 returns-2 : tie.Need-returns-2
 unfolding refusedLine
 returns-2 c = line-put _ _ _ (c .before .before .before .before .before .before .before .before .before .before .before .before .before .before .before .before .before .before .before .room .ensures) (c .before .before .before .before .before .before .before .before .before .before .before .before .before .before .before .before .before .before .if1 .left) (put-join _ _ _ _ (c .before .before .before .before .before .before .before .before .before .before .before .before .before .before .before .put-text .ensures .0) (put-join _ _ _ _ (c .before .before .before .before .before .before .before .before .before .before .before .put-field .ensures .0) (put-join _ _ _ _ (c .before .before .before .before .before .before .put-text2 .ensures .0) (c .before .before .put-field2 .ensures .0))))

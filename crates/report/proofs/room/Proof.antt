@@ -1,23 +1,19 @@
+-- `report::room` meets its contract.
 use borrow.Author.Tests.{lt-leb, le-leb}
 use Prim.Native.Nat.{_+_}
 use native.Mathlib.Omega.{arith}
 use Rattle.report.specs.Text.{longest, hasRoom}
 use Rattle.report.proofs.room.Statement.{statement}
 use Rattle.report.proofs.room.Tie as tie
-use Rattle.report.proofs.room.Reads as reads
-use Rattle.report.proofs.room.Lts as lts
 
--- src/lib.rt:67:9
 returns : tie.Need-returns
 unfolding hasRoom
 returns c = simp (lt-leb (c .before .args .at + longest) (c .before .args .len) (omega arith))
 
--- src/lib.rt:70:9
 returns-2 : tie.Need-returns-2
 unfolding hasRoom
 returns-2 c = simp (lt-leb (c .before .before .args .at + longest) (c .before .before .args .len) (omega arith))
 
--- src/lib.rt:63:1
 returns-3 : tie.Need-returns-3
 unfolding hasRoom
 returns-3 c = simp (le-leb (c .before .before .args .at + longest) (c .before .before .args .len) (omega arith))
