@@ -1,6 +1,6 @@
 -- What the reader's tests tell.
 use Prim.Native.Nat.{ℕ, _+_, _*_, _-_, _≤_, _<_}
-use mathlib.Core.Path.{_≡_, refl, sym, _∙_}
+use mathlib.Core.Path.{_≡_, refl}
 use mathlib.Core.List.{List}
 use mathlib.Core.Bool.{Bool, true, false, cond}
 use mathlib.Core.Logic.{⊎-elim}
@@ -11,7 +11,6 @@ use lib.Dec.{eqb, ltb, leb}
 use borrow.Author.Tests.{leb-true, ltb-false, eqb-true, eqb-false}
 use Rattle.record.specs.Check.{commitNumber, checkOf}
 use Rattle.archive.specs.declared.Fields.{Fields}
-use Rattle.archive.specs.declared.Answer.{Answer}
 use Rattle.archive.specs.declared.Answer.the-variants.{Record, End, Refused}
 use Rattle.archive.specs.Read.{fieldsOf, firstOf, readOf}
 use Rattle.lists.specs.Tests.{and-l, and-r}

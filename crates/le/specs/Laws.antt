@@ -1,13 +1,12 @@
 -- The numbers of two, four and eight bytes that the code reads and writes are those of the width's laws.
-use Prim.Native.Nat.{ℕ, suc, _+_, _*_, _/_, _%_, _<_, _≤_}
-use mathlib.Core.List.{List, [], _∷_, _++_}
-use mathlib.Core.Path.{_≡_, refl, sym, ap, _∙_}
-use native.Mathlib.Nat.{div-div-eq-div-mul, add-assoc}
+use Prim.Native.Nat.{ℕ, _+_, _/_}
+use mathlib.Core.List.{List}
+use mathlib.Core.Path.{_≡_, ap, _∙_}
+use native.Mathlib.Nat.{div-div-eq-div-mul}
 use native.Mathlib.Numerals.{add-one, add-two, add-three, add-four}
 use native.Mathlib.Omega.{arith}
-use lib.ListN.{getD, set, length, length-set}
-use lib.Seq.{sets, sets-eq}
-use Rattle.le.specs.Le.{u16At, u32At, u64At, setU16, setU32, setU64}
+use lib.Seq.{sets}
+use Rattle.le.specs.Le.{u16At, u32At, u64At, setU16, setU32}
 use Rattle.le.specs.Width.{bytes, numAt}
 
 pub u16At-is : (s : List ℕ) (at : ℕ) → u16At s at ≡ numAt 2 s at

@@ -1,9 +1,8 @@
 -- Lists whose elements are bytes.
 use Prim.Native.Nat.{ℕ, zero, suc, _<_}
-use mathlib.Core.Path.{_≡_}
 use mathlib.Core.List.{List, [], _∷_, _++_}
 use native.Mathlib.Omega.{arith}
-use lib.ListN.{length, take, drop, getD}
+use lib.ListN.{take, drop, getD}
 
 -- each element is a byte
 abbrev pub Bytes : List ℕ → Type 0

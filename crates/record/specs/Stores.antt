@@ -1,10 +1,10 @@
 -- What the writer's stores leave, one behind the other.
 use Prim.Native.Nat.{ℕ, _+_, _*_, _≤_}
-use mathlib.Core.Path.{_≡_, refl, sym, ap, _∙_}
+use mathlib.Core.Path.{_≡_, refl, _∙_}
 use mathlib.Core.List.{List, [], _∷_, _++_}
 use native.Mathlib.Omega.{arith}
 use lib.ListN.{length, drop, set, length-append}
-use lib.Seq.{sets, length-sets}
+use lib.Seq.{sets}
 use Rattle.lists.specs.Stores.{sets-join, sets-front}
 use Rattle.le.specs.Le.{setU16, setU32}
 use Rattle.le.specs.Width.{bytes, length-bytes}

@@ -1,12 +1,12 @@
 -- The turns of `archivePlayed` always suffice: a record ends behind its start, so a turn more than the bytes that are left is enough.
-use Prim.Native.Nat.{ℕ, zero, suc, _+_, _*_, _-_, _≤_, _<_}
+use Prim.Native.Nat.{ℕ, zero, suc, _+_, _-_, _≤_, _<_}
 use mathlib.Core.Path.{_≡_, refl, sym, ap, _∙_}
 use mathlib.Core.List.{List}
 use mathlib.Core.Bool.{Bool, true, false, cond}
 use native.Mathlib.Omega.{arith}
 use borrow.Author.Tests.{le-ltb, eq-eqb, ne-eqb, eqb-true}
 use lib.ListN.{length, take, drop, length-drop}
-use lib.Dec.{eqb, ltb}
+use lib.Dec.{eqb}
 use Rattle.lists.specs.Stores.{to-the-end}
 use Rattle.record.specs.Check.{commitNumber, lengthOf, claimedLength, checkOf}
 use Rattle.record.specs.Facts.{accepted}
@@ -14,7 +14,7 @@ use Rattle.archive.specs.declared.Fields.{Fields}
 use Rattle.archive.specs.declared.Answer.{Answer}
 use Rattle.archive.specs.declared.Answer.the-variants.{Record, End, Refused}
 use Rattle.archive.specs.Read.{fieldsOf, firstOf, readOf}
-use Rattle.archive.specs.Facts.{Recorded, recorded}
+use Rattle.archive.specs.Facts.{recorded}
 use Rattle.replay.specs.Replay.{readsAgree, stored, Replayed, replayed, onAnswer, replayOf}
 use Rattle.replay.specs.Played.{Played, played, onRecord, onward, playFrom, recordPlayed, archivePlayed}
 

@@ -2,10 +2,9 @@
 use Prim.Native.Nat.{ℕ, zero, suc}
 use mathlib.Core.List.{List}
 use lib.ListN.{length}
-use Rattle.archive.specs.declared.Fields.{Fields}
 use Rattle.archive.specs.declared.Answer.{Answer}
 use Rattle.archive.specs.declared.Answer.the-variants.{Record, End, Refused}
-use Rattle.replay.specs.Replay.{Replayed, replayOf}
+use Rattle.replay.specs.Replay.{replayOf}
 
 -- the values, the last commit number and the number afterwards
 pub record Played : Type 0 where

@@ -8,7 +8,6 @@ use Rattle.lists.specs.Tests.{allTo}
 use Rattle.le.specs.Le.{u64At}
 use Rattle.record.specs.Check.{readCount, writeCount}
 use Rattle.archive.specs.Read.{readOf}
-use Rattle.archive.specs.declared.Fields.{Fields}
 use Rattle.archive.specs.declared.Answer.{Answer}
 use Rattle.archive.specs.declared.Answer.the-variants.{Record, End, Refused}
 
