@@ -1,0 +1,547 @@
+-- What number 1 asks of a server's state, kept by every step: "two holders of one lock, a whole lock beside another's lock on that
+-- page, or equal ages or arrivals". Two holders of one lock cannot be written down: a lock's holder is one number.
+use mathlib.Core.Path.{_≡_, refl, sym, ap, _∙_}
+use mathlib.Core.Bool.{Bool, true, false, not, _&&_, _||_, false≢true, cond}
+use mathlib.Core.List.{List}
+use mathlib.Core.Logic.{_≢_, _⊎_, inl, inr}
+use Prim.Native.Nat.{ℕ, zero, suc, _+_, _%_, _≤_, _<_}
+use native.Mathlib.Omega.{arith}
+use lib.Dec.{eqb, ltb}
+use borrow.Author.Tests.{ltb-false}
+use Rattle.sets.specs.Base.{upd, any}
+use Rattle.sets.specs.Laws.{byB, byEq, eqb-same, eqb-yes, eqb-no, any-no, any-yes}
+use Rattle.line.specs.Messages.{pageOf, address, lastNumber, locking, Work, Up, ReadRequest, WriteRequest, Commit, Abort, Purge, Busy, Done, WrittenSet}
+use Rattle.line.specs.Server.{Server, Serving, freshServer, Waiter, noWaiter, waiterPend, waiterBusy, waiterCalled, WantRead, WantWrite, WantCommit, isWant, waits, other, wants, wantsPage, lockOn, shut, hinders, badNumber, unexpected, notice, finish, join, leave, sendPage, abort, informed, write, archive, inform, informFrom, install, readWaiter, writeWaiter, commitWaiter, serveNow, joinRead, joinWrite, joinCommit, commitNow, unlist, openCall, markBusy, answered, openAsk, loosen, accept, ask, serveRead, concerned, call, grantPage, grantObject, installWaiter, start, serverStep}
+use Rattle.line.specs.Line.{Call, fresh, run}
+use Rattle.line.specs.Pass.{Atomic, Clear, if-keeps, step-keeps}
+use Rattle.sets.specs.Laws.{and-l, and-r, not-yes}
+use Rattle.line.specs.Runs.{Moves, run-keeps}
+
+-- the holder of a lock: a station, locking, its transaction unfinished
+pub record Holder (kind : ℕ → ℕ) (fin : ℕ → Bool) (h : ℕ) : Type 0 where
+  pub station : h < 8
+  pub unfinished : fin h ≡ false
+  pub locks : locking (kind h) ≡ true
+
+-- locks. Pages are 0 to 31, addresses 0 to 255: no byte says another, and the gates look at no other.
+pub record Locks (kind : ℕ → ℕ) (fin : ℕ → Bool) (ol wl : ℕ → ℕ) (asked : ℕ → Bool) : Type 0 where
+  -- no "whole lock beside another's lock on that page"
+  pub whole-alone : (g h a : ℕ) → a < 256 → wl (pageOf a) ≡ suc h → ol a ≡ suc g → g ≡ h
+  pub object-open : (h a : ℕ) → ol a ≡ suc h → Holder kind fin h
+  pub whole-open : (h p : ℕ) → wl p ≡ suc h → Holder kind fin h
+  -- 19 was sent for a present 18
+  pub asked-held : (p : ℕ) → asked p ≡ true → wl p ≢ 0
+
+-- ages of unfinished transactions
+pub record Ages (fin : ℕ → Bool) (age : ℕ → ℕ) (ages : ℕ) : Type 0 where
+  pub ages-apart : (i j : ℕ) → i < 8 → j < 8 → fin i ≡ false → fin j ≡ false → age i ≡ age j → i ≡ j
+  pub ages-given : (i : ℕ) → i < 8 → age i < ages
+
+-- one station's entry in the waiting list
+pub record Entry (kind : ℕ) (fin : Bool) (w : Waiter) : Type 0 where
+  pub waits-open : isWant (w .want) ≡ true → fin ≡ false
+  pub reads-lock : w .want ≡ WantRead → locking kind ≡ true
+  pub writes-lock : w .want ≡ WantWrite → locking kind ≡ true
+  pub writes-own : w .want ≡ WantWrite → w .writes (w .req) ≡ true
+  pub commits-validate : w .want ≡ WantCommit → locking kind ≡ false
+
+-- the waiting list
+pub record Waiting (kind : ℕ → ℕ) (fin : ℕ → Bool) (arrivals : ℕ) (queue : ℕ → Waiter) : Type 0 where
+  pub arrivals-apart : (i j : ℕ) → i < 8 → j < 8 → isWant (queue i .want) ≡ true → isWant (queue j .want) ≡ true → queue i .arrival ≡ queue j .arrival → i ≡ j
+  pub arrivals-given : (i : ℕ) → i < 8 → isWant (queue i .want) ≡ true → queue i .arrival < arrivals
+  pub entry : (i : ℕ) → i < 8 → Entry (kind i) (fin i) (queue i)
+
+-- over fields, so that an action that leaves them is seen to keep this
+pub record ApartOf (kind : ℕ → ℕ) (fin : ℕ → Bool) (ol wl : ℕ → ℕ) (asked : ℕ → Bool) (age : ℕ → ℕ) (ages arrivals : ℕ) (queue : ℕ → Waiter) : Type 0 where
+  pub locks : Locks kind fin ol wl asked
+  pub aged : Ages fin age ages
+  pub waiting : Waiting kind fin arrivals queue
+
+abbrev pub Apart : Server → Type 0
+Apart s = ApartOf (s .kind) (s .fin) (s .ol) (s .wl) (s .asked) (s .age) (s .ages) (s .arrivals) (s .queue)
+
+abbrev pub ApartIn : Serving → Type 0
+ApartIn x = Apart (x .server)
+
+-- tests
+pub or-l : (a b : Bool) → (a || b) ≡ false → a ≡ false
+or-l true b e = e
+or-l false b e = refl
+
+pub or-r : (a b : Bool) → (a || b) ≡ false → b ≡ false
+or-r true b e = absurd (false≢true (sym e))
+or-r false b e = e
+
+not-no : (b : Bool) → not b ≡ false → b ≡ true
+not-no true e = refl
+not-no false e = absurd (false≢true (sym e))
+
+both : (b : Bool) → b ≡ true → b ≡ false → ⊥
+both b t f = false≢true (sym f ∙ t)
+
+-- a lock that is not another's is none or its own
+other-no : (x h i : ℕ) → other x i ≡ false → x ≡ suc h → h ≡ i
+other-no x h i o e =
+    byEq x 0 (λ u. absurd (omega (arith, eqb-yes x 0 u)))
+    (λ u. byEq x (suc i) (λ v. omega (arith, eqb-yes x (suc i) v)) (λ v. absurd (false≢true (sym (rw (u, v) at o)))))
+
+other-held : (x i : ℕ) → other x i ≡ true → x ≢ 0
+other-held x i o e = both (eqb x 0) (rw e (eqb-same 0)) (not-yes (eqb x 0) (and-l (not (eqb x 0)) _ o))
+
+-- a lock left by `finish` was there, and is not the finished station's
+left-lock : (x i h : ℕ) → cond (eqb x (suc i)) 0 x ≡ suc h → (x ≡ suc h) × (eqb h i ≡ false)
+left-lock x i h q =
+    byEq x (suc i) (λ e. let z : 0 ≡ suc h = rw e at q in absurd (omega arith))
+    (λ e.
+    let z : x ≡ suc h = rw e at q in
+    (z, byEq h i (λ f. absurd (eqb-no x (suc i) e (omega (arith, eqb-yes h i f)))) (λ f. f)))
+
+-- an address is one of its page's eight
+on-page : (a : ℕ) → address (pageOf a) (a % 8) ≡ a
+on-page a = omega arith
+
+-- locks
+
+module _ {kind : ℕ → ℕ} {fin : ℕ → Bool} where
+  begun-holder : (i h : ℕ) → Holder kind fin h → Holder kind (upd fin i false) h
+  begun-holder i h o =
+      record { station = o .station; unfinished = byEq h i (λ e. rw e refl) (λ e. rw e (o .unfinished)); locks = o .locks }
+
+  ended-holder : (i h : ℕ) → eqb h i ≡ false → Holder kind fin h → Holder kind (upd fin i true) h
+  ended-holder i h e o = record { station = o .station; unfinished = rw e (o .unfinished); locks = o .locks }
+
+module _ {kind : ℕ → ℕ} {fin : ℕ → Bool} {ol wl : ℕ → ℕ} {asked : ℕ → Bool} (l : Locks kind fin ol wl asked) where
+  begun-locks : (i : ℕ) → Locks kind (upd fin i false) ol wl asked
+  begun-locks i =
+      record {
+        whole-alone = l .whole-alone;
+        object-open = λ h a e. begun-holder i h (l .object-open h a e);
+        whole-open = λ h p e. begun-holder i h (l .whole-open h p e);
+        asked-held = l .asked-held;
+      }
+
+  ended-locks : (i : ℕ) → Locks kind (upd fin i true) (λ a. cond (eqb (ol a) (suc i)) 0 (ol a)) (λ p. cond (eqb (wl p) (suc i)) 0 (wl p)) (λ p. not (eqb (wl p) (suc i)) && asked p)
+  ended-locks i =
+      record {
+        whole-alone = λ g h a b p q. l .whole-alone g h a b (left-lock (wl (pageOf a)) i h p .0) (left-lock (ol a) i g q .0);
+        object-open = λ h a e. let u = left-lock (ol a) i h e in ended-holder i h (u .1) (l .object-open h a (u .0));
+        whole-open = λ h p e. let u = left-lock (wl p) i h e in ended-holder i h (u .1) (l .whole-open h p (u .0));
+        asked-held = λ p t z. l .asked-held p (and-r (not (eqb (wl p) (suc i))) _ t) (rw (not-yes (eqb (wl p) (suc i)) (and-l (not (eqb (wl p) (suc i))) _ t)) at z);
+      }
+
+  -- 19
+  asked-locks : (p : ℕ) → wl p ≢ 0 → Locks kind fin ol wl (upd asked p true)
+  asked-locks p n =
+      record {
+        whole-alone = l .whole-alone;
+        object-open = l .object-open;
+        whole-open = l .whole-open;
+        asked-held = λ q t. byEq q p (λ e. rw (eqb-yes q p e) n) (λ e. l .asked-held q (rw e at t));
+      }
+
+  -- 17
+  object-locks : (i a : ℕ) → Holder kind fin i → (a < 256 → (h : ℕ) → wl (pageOf a) ≡ suc h → h ≡ i) → Locks kind fin (upd ol a (suc i)) wl asked
+  object-locks i a o c =
+      record {
+        whole-alone = λ g h b u p q.
+            byEq b a
+            (λ e.
+            let z : suc i ≡ suc g = rw e at q in
+            let y : h ≡ i = c (rw (eqb-yes b a e) at u) h (rw (eqb-yes b a e) at p) in
+            omega arith)
+            (λ e. l .whole-alone g h b u p (rw e at q));
+        object-open = λ h b q. byEq b a (λ e. let z : suc i ≡ suc h = rw e at q in let y : h ≡ i = omega arith in rw y o) (λ e. l .object-open h b (rw e at q));
+        whole-open = l .whole-open;
+        asked-held = l .asked-held;
+      }
+
+  -- 18
+  whole-locks : (i p : ℕ) → Holder kind fin i → ((g a : ℕ) → pageOf a ≡ p → ol a ≡ suc g → g ≡ i) → Locks kind fin ol (upd wl p (suc i)) (upd asked p false)
+  whole-locks i p o c =
+      record {
+        whole-alone = λ g h a u q r.
+            byEq (pageOf a) p
+            (λ e. let z : suc i ≡ suc h = rw e at q in let y : g ≡ i = c g a (eqb-yes (pageOf a) p e) r in omega arith)
+            (λ e. l .whole-alone g h a u (rw e at q) r);
+        object-open = l .object-open;
+        whole-open = λ h q r. byEq q p (λ e. let z : suc i ≡ suc h = rw e at r in let y : h ≡ i = omega arith in rw y o) (λ e. l .whole-open h q (rw e at r));
+        asked-held = λ q t z. byEq q p (λ e. false≢true (rw e at t)) (λ e. l .asked-held q (rw e at t) (rw e at z));
+      }
+
+  -- 8
+  loose-locks : (i p : ℕ) (set : ℕ → Bool) → wl p ≡ suc i → Locks kind fin (λ a. cond (eqb (pageOf a) p && set a) (suc i) (ol a)) (upd wl p 0) (upd asked p false)
+  loose-locks i p set o =
+      record {
+        whole-alone = λ g h a u q r.
+            byEq (pageOf a) p (λ e. let z : 0 ≡ suc h = rw e at q in absurd (omega arith))
+            (λ e. l .whole-alone g h a u (rw e at q) (rw e at r));
+        object-open = λ h a r.
+            byB (eqb (pageOf a) p && set a)
+            (λ e. let z : suc i ≡ suc h = rw e at r in let y : h ≡ i = omega arith in rw y (l .whole-open i p o))
+            (λ e. l .object-open h a (rw e at r));
+        whole-open = λ h q r. byEq q p (λ e. let z : 0 ≡ suc h = rw e at r in absurd (omega arith)) (λ e. l .whole-open h q (rw e at r));
+        asked-held = λ q t z. byEq q p (λ e. false≢true (rw e at t)) (λ e. l .asked-held q (rw e at t) (rw e at z));
+      }
+
+-- ages
+
+module _ {fin : ℕ → Bool} {age : ℕ → ℕ} {ages : ℕ} (l : Ages fin age ages) where
+  -- "each transaction gets a new age"
+  begun-ages : (i : ℕ) → Ages (upd fin i false) (upd age i ages) (ages + 1)
+  begun-ages i =
+      record {
+        ages-apart = λ j k b c p q r.
+            byEq j i
+            (λ e.
+            byEq k i (λ f. eqb-yes j i e ∙ sym (eqb-yes k i f))
+            (λ f. let z : ages ≡ age k = rw (e, f) at r in absurd (omega (arith, l .ages-given k c))))
+            (λ e.
+            byEq k i (λ f. let z : age j ≡ ages = rw (e, f) at r in absurd (omega (arith, l .ages-given j b)))
+            (λ f. l .ages-apart j k b c (rw e at p) (rw f at q) (rw (e, f) at r)));
+        ages-given = λ j b. byEq j i (λ e. rw e (omega arith)) (λ e. rw e (omega (arith, l .ages-given j b)));
+      }
+
+  ended-ages : (i : ℕ) → Ages (upd fin i true) age ages
+  ended-ages i =
+      record {
+        ages-apart = λ j k b c p q r.
+            byEq j i (λ e. absurd (false≢true (sym (rw e at p))))
+            (λ e. byEq k i (λ f. absurd (false≢true (sym (rw f at q)))) (λ f. l .ages-apart j k b c (rw e at p) (rw f at q) r));
+        ages-given = l .ages-given;
+      }
+
+-- the waiting list
+
+-- two entries alike in all that is said above
+pub record Alike (v w : Waiter) : Type 0 where
+  pub want : v .want ≡ w .want
+  pub arrival : v .arrival ≡ w .arrival
+  pub own : v .writes (v .req) ≡ w .writes (w .req)
+
+no-entry : (kind : ℕ) (fin : Bool) → Entry kind fin noWaiter
+no-entry kind fin =
+    record {
+      waits-open = λ e. absurd (false≢true e);
+      reads-lock = λ e. absurd (false≢true (ap isWant e));
+      writes-lock = λ e. absurd (false≢true (ap isWant e));
+      writes-own = λ e. absurd (false≢true (ap isWant e));
+      commits-validate = λ e. absurd (false≢true (ap isWant e));
+    }
+
+module _ {kind : ℕ → ℕ} {fin : ℕ → Bool} {arrivals : ℕ} {queue : ℕ → Waiter} (l : Waiting kind fin arrivals queue) where
+  begun-waiting : (i : ℕ) → Waiting kind (upd fin i false) arrivals queue
+  begun-waiting i =
+      record {
+        arrivals-apart = l .arrivals-apart;
+        arrivals-given = l .arrivals-given;
+        entry = λ j b.
+            let k = l .entry j b in
+            record {
+              waits-open = λ t. byEq j i (λ e. rw e refl) (λ e. rw e (k .waits-open t));
+              reads-lock = k .reads-lock;
+              writes-lock = k .writes-lock;
+              writes-own = k .writes-own;
+              commits-validate = k .commits-validate;
+            };
+      }
+
+  -- a transaction that does not wait may end
+  ended-waiting : (i : ℕ) → isWant (queue i .want) ≡ false → Waiting kind (upd fin i true) arrivals queue
+  ended-waiting i n =
+      record {
+        arrivals-apart = l .arrivals-apart;
+        arrivals-given = l .arrivals-given;
+        entry = λ j b.
+            let k = l .entry j b in
+            record {
+              waits-open = λ t. byEq j i (λ e. absurd (both (isWant (queue j .want)) t (rw (eqb-yes j i e) n))) (λ e. rw e (k .waits-open t));
+              reads-lock = k .reads-lock;
+              writes-lock = k .writes-lock;
+              writes-own = k .writes-own;
+              commits-validate = k .commits-validate;
+            };
+      }
+
+  joined-waiting : (i : ℕ) (w : Waiter) → w .arrival ≡ arrivals → Entry (kind i) (fin i) w → Waiting kind fin (arrivals + 1) (upd queue i w)
+  joined-waiting i w n k =
+      record {
+        arrivals-apart = λ j h b c p q r.
+            byEq j i
+            (λ e.
+            byEq h i (λ f. eqb-yes j i e ∙ sym (eqb-yes h i f))
+            (λ f. let z : w .arrival ≡ queue h .arrival = rw (e, f) at r in absurd (omega (arith, l .arrivals-given h c (rw f at q)))))
+            (λ e.
+            byEq h i (λ f. let z : queue j .arrival ≡ w .arrival = rw (e, f) at r in absurd (omega (arith, l .arrivals-given j b (rw e at p))))
+            (λ f. l .arrivals-apart j h b c (rw e at p) (rw f at q) (rw (e, f) at r)));
+        arrivals-given = λ j b p. byEq j i (λ e. rw e (omega arith)) (λ e. rw e (omega (arith, l .arrivals-given j b (rw e at p))));
+        entry = λ j b. byEq j i (λ e. rw (e, eqb-yes j i e) k) (λ e. rw e (l .entry j b));
+      }
+
+  left-waiting : (i : ℕ) → Waiting kind fin arrivals (upd queue i noWaiter)
+  left-waiting i =
+      record {
+        arrivals-apart = λ j h b c p q r.
+            byEq j i (λ e. absurd (false≢true (rw e at p)))
+            (λ e. byEq h i (λ f. absurd (false≢true (rw f at q))) (λ f. l .arrivals-apart j h b c (rw e at p) (rw f at q) (rw (e, f) at r)));
+        arrivals-given = λ j b p. byEq j i (λ e. absurd (false≢true (rw e at p))) (λ e. rw e (l .arrivals-given j b (rw e at p)));
+        entry = λ j b. byEq j i (λ e. rw e (no-entry (kind j) (fin j))) (λ e. rw e (l .entry j b));
+      }
+
+  -- calls and their answers leave all that is said here
+  alike-waiting : (q : ℕ → Waiter) → ((j : ℕ) → Alike (q j) (queue j)) → Waiting kind fin arrivals q
+  alike-waiting q s =
+      record {
+        arrivals-apart = λ i j b c p t r. l .arrivals-apart i j b c (rw (s i .want) at p) (rw (s j .want) at t) (rw (s i .arrival, s j .arrival) at r);
+        arrivals-given = λ i b p. rw (s i .arrival) (l .arrivals-given i b (rw (s i .want) at p));
+        entry = λ i b.
+            let k = l .entry i b in
+            record {
+              waits-open = λ t. k .waits-open (rw (s i .want) at t);
+              reads-lock = λ t. k .reads-lock (rw (s i .want) at t);
+              writes-lock = λ t. k .writes-lock (rw (s i .want) at t);
+              writes-own = λ t. rw (s i .own) (k .writes-own (rw (s i .want) at t));
+              commits-validate = λ t. k .commits-validate (rw (s i .want) at t);
+            };
+      }
+
+alike-upd : (q : ℕ → Waiter) (r : ℕ) (w : Waiter) → Alike w (q r) → (j : ℕ) → Alike (upd q r w j) (q j)
+alike-upd q r w a j = byEq j r (λ e. rw (e, eqb-yes j r e) a) (λ e. rw e (record { want = refl; arrival = refl; own = refl }))
+
+-- parts of the actions
+
+module _ (i : ℕ) (x : Serving) (h : ApartIn x) where
+  notice-apart : (t : ℕ) → ApartIn (notice i t x)
+  unfolding notice
+  notice-apart t =
+      if-keeps ApartIn (eqb t (x .server .latest i)) (λ e. h)
+      (λ e. record { locks = begun-locks (h .locks) i; aged = begun-ages (h .aged) i; waiting = begun-waiting (h .waiting) i })
+
+  finish-apart : waits (x .server) i ≡ false → ApartIn (finish i x)
+  unfolding finish
+  finish-apart n = record { locks = ended-locks (h .locks) i; aged = ended-ages (h .aged) i; waiting = ended-waiting (h .waiting) i n }
+
+  join-apart : (w : Waiter) → w .arrival ≡ x .server .arrivals → Entry (x .server .kind i) (x .server .fin i) w → ApartIn (join i w x)
+  unfolding join
+  join-apart w n k = record { locks = h .locks; aged = h .aged; waiting = joined-waiting (h .waiting) i w n k }
+
+  leave-apart : ApartIn (leave i x)
+  unfolding leave
+  leave-apart = record { locks = h .locks; aged = h .aged; waiting = left-waiting (h .waiting) i }
+
+leave-waits : (i : ℕ) (x : Serving) → waits ((leave i x) .server) i ≡ false
+unfolding leave
+leave-waits i x = rw (eqb-same i) refl
+
+abort-apart : (i c : ℕ) (x : Serving) → ApartIn x → ApartIn (abort i c x)
+unfolding abort
+abort-apart i c x h = finish-apart i (leave i x) (leave-apart i x h) (leave-waits i x)
+
+inform-apart : (i : ℕ) (w : Work) (j : ℕ) (x : Serving) → ApartIn x → ApartIn (inform i w j x)
+unfolding inform
+inform-apart i w j x h = if-keeps ApartIn (informed (x .server) i w j) (λ e. h) (λ e. h)
+
+informs-apart : (n j i : ℕ) (w : Work) (x : Serving) → ApartIn x → ApartIn (informFrom n j i w x)
+unfolding informFrom
+informs-apart zero j i w x h = h
+informs-apart (suc n) j i w x h = informs-apart n (suc j) i w (inform i w j x) (inform-apart i w j x h)
+
+install-apart : (i : ℕ) (w : Work) (x : Serving) → ApartIn x → ApartIn (install i w x)
+unfolding install archive write
+install-apart i w x h = informs-apart 8 0 i w _ (finish-apart i (archive i w (write w (leave i x))) (leave-apart i x h) (leave-waits i x))
+
+-- the pass
+
+module _ (i : ℕ) (x : Serving) (b : i < 8) (h : ApartIn x) where
+  writer : x .server .queue i .want ≡ WantWrite → Holder (x .server .kind) (x .server .fin) i
+  writer w =
+      let k = h .waiting .entry i b in
+      record { station = b; unfinished = k .waits-open (ap isWant w); locks = k .writes-lock w }
+
+  -- a page that a writer has passed is not locked whole by another
+  passed : x .server .queue i .want ≡ WantWrite → Clear i x → x .server .queue i .req < 256 → (g : ℕ) → x .server .wl (pageOf (x .server .queue i .req)) ≡ suc g → g ≡ i
+  passed w c u g e =
+      let s : Server = x .server in
+      let a : ℕ = s .queue i .req in
+      let own : s .queue i .writes a ≡ true = h .waiting .entry i b .writes-own w in
+      let here : wants s i (address (pageOf a) (a % 8)) ≡ true = rw (on-page a) (or-yes (s .queue i .reads a) (s .queue i .writes a) own) in
+      let page : wantsPage s i (pageOf a) ≡ true = any-yes 8 (λ o. wants s i (address (pageOf a) o)) (a % 8) (omega arith) here in
+      let none : shut s i (pageOf a) ≡ false = any-no 32 (shut s i) (c .unshut) (pageOf a) (omega arith) in
+      other-no (s .wl (pageOf a)) g i (rw page at none) e
+    where
+      or-yes : (p q : Bool) → q ≡ true → (p || q) ≡ true
+      or-yes true q e = refl
+      or-yes false q e = e
+
+  -- a page where nobody hinders has no other's lock
+  unhindered : (p : ℕ) → any 8 (hinders (x .server) i p) ≡ false → (g a : ℕ) → pageOf a ≡ p → x .server .ol a ≡ suc g → g ≡ i
+  unhindered p n g a e o =
+      let s : Server = x .server in
+      let free : hinders s i p g ≡ false = any-no 8 (hinders s i p) n g (h .locks .object-open g a o .station) in
+      byEq g i (λ f. eqb-yes g i f)
+      (λ f.
+      let tests = rw f at free in
+      let lock : lockOn s g p ≡ false = or-r (locking (s .kind g) && s .listed g p) _ (or-l _ _ tests) in
+      let object : eqb (s .ol (address p (a % 8))) (suc g) ≡ false = any-no 8 (λ q. eqb (s .ol (address p q)) (suc g)) (or-r (eqb (s .wl p) (suc g)) _ lock) (a % 8) (omega arith) in
+      let here : address p (a % 8) ≡ a = omega arith in
+      absurd (eqb-no (s .ol a) (suc g) (rw here at object) o))
+
+atomic-apart : Atomic ApartIn
+unfolding ask serveRead sendPage leave call grantObject grantPage installWaiter
+atomic-apart =
+    record {
+      aborts = λ i c x b t k. abort-apart i c x k;
+      asks = λ i h p x b t u k.
+          record { locks = asked-locks (k .locks) p (other-held (x .server .wl p) i (and-r (wantsPage (x .server) i p) _ t)); aged = k .aged; waiting = k .waiting };
+      reads = λ i x b w c k. leave-apart i x k;
+      calls = λ i x b t u w c k.
+          record {
+            locks = k .locks;
+            aged = k .aged;
+            waiting = alike-waiting (k .waiting) _ (alike-upd (x .server .queue) i (waiterPend (waiterCalled (x .server .queue i) true) (concerned (x .server) i)) (record { want = refl; arrival = refl; own = refl }));
+          };
+      objects = λ i x b w r k.
+          let y = leave-apart i x k in
+          record { locks = object-locks (k .locks) i (x .server .queue i .req) (writer i x b k w) (passed i x b k w (r .clear)); aged = k .aged; waiting = y .waiting };
+      pages = λ i x b w r e k.
+          let y = leave-apart i x k in
+          let p : ℕ = pageOf (x .server .queue i .req) in
+          record { locks = whole-locks (k .locks) i p (writer i x b k w) (unhindered i x b k p e); aged = k .aged; waiting = y .waiting };
+      installs = λ i x b w f r k. install-apart i (x .server .queue i .work) x k;
+    }
+
+-- accept
+
+-- what number 6 leaves of 1 to 4: the station does not wait, and its transaction is the latest, unfinished, or a new one
+none-of : (a b c d : Bool) → (a || b || c || d) ≡ false → (a ≡ false) × (b ≡ false) × (c ≡ false) × (d ≡ false)
+none-of true b c d e = absurd (false≢true (sym e))
+none-of false true c d e = absurd (false≢true (sym e))
+none-of false false true d e = absurd (false≢true (sym e))
+none-of false false false d e = (refl, refl, refl, e)
+
+pub record GoodNumber (t latest : ℕ) (fin wait : Bool) : Type 0 where
+  pub next : latest ≤ t
+  pub unended : eqb t latest ≡ true → fin ≡ false
+  pub idle : wait ≡ false
+
+pub good-number : (s : Server) (i t : ℕ) → badNumber s i t ≡ false → GoodNumber t (s .latest i) (s .fin i) (waits s i)
+good-number s i t e =
+    let u = none-of (ltb t (s .latest i)) (eqb t (s .latest i) && s .fin i) (ltb (s .latest i) t && not (s .fin i) && locking (s .kind i)) (waits s i) e in
+    record { next = ltb-false t (s .latest i) (u .0); unended = λ q. rw q at (u .1); idle = u .3 }
+
+module _ (i t : ℕ) (x : Serving) where
+  noticed-open : badNumber (x .server) i t ≡ false → (notice i t x) .server .fin i ≡ false
+  unfolding notice
+  noticed-open e = byEq t (x .server .latest i) (λ q. rw q (good-number (x .server) i t e .unended q)) (λ q. rw (q, eqb-same i) refl)
+
+  noticed-kind : (notice i t x) .server .kind ≡ x .server .kind
+  unfolding notice
+  noticed-kind = byEq t (x .server .latest i) (λ q. rw q refl) (λ q. rw q refl)
+
+  noticed-queue : (notice i t x) .server .queue ≡ x .server .queue
+  unfolding notice
+  noticed-queue = byEq t (x .server .latest i) (λ q. rw q refl) (λ q. rw q refl)
+
+read-entry : (s : Server) (a : ℕ) {kind : ℕ} {fin : Bool} → fin ≡ false → locking kind ≡ true → Entry kind fin (readWaiter s a)
+read-entry s a o k =
+    record {
+      waits-open = λ e. o;
+      reads-lock = λ e. k;
+      writes-lock = λ e. k;
+      writes-own = λ e. let z : _≡_ {A = ℕ} 0 1 = cc in absurd (omega arith);
+      commits-validate = λ e. let z : _≡_ {A = ℕ} 0 1 = cc in absurd (omega arith);
+    }
+
+write-entry : (s : Server) (a : ℕ) {kind : ℕ} {fin : Bool} → fin ≡ false → locking kind ≡ true → Entry kind fin (writeWaiter s a)
+write-entry s a o k =
+    record {
+      waits-open = λ e. o;
+      reads-lock = λ e. k;
+      writes-lock = λ e. k;
+      writes-own = λ e. eqb-same a;
+      commits-validate = λ e. let z : _≡_ {A = ℕ} 0 1 = cc in absurd (omega arith);
+    }
+
+commit-entry : (s : Server) (w : Work) {kind : ℕ} {fin : Bool} → fin ≡ false → locking kind ≡ false → Entry kind fin (commitWaiter s w)
+commit-entry s w o k =
+    record {
+      waits-open = λ e. o;
+      reads-lock = λ e. let z : _≡_ {A = ℕ} 0 1 = cc in absurd (omega arith);
+      writes-lock = λ e. let z : _≡_ {A = ℕ} 0 1 = cc in absurd (omega arith);
+      writes-own = λ e. let z : _≡_ {A = ℕ} 0 1 = cc in absurd (omega arith);
+      commits-validate = λ e. k;
+    }
+
+commitNow-apart : (i : ℕ) (w : Work) (x : Serving) → ApartIn x → ApartIn (commitNow i w x)
+unfolding commitNow
+commitNow-apart i w x h = if-keeps ApartIn (eqb (x .server .last) lastNumber) (λ e. abort-apart i 4 x h) (λ e. install-apart i w x h)
+
+pub accept-apart : (i : ℕ) (m : Up) (x : Serving) → i < 8 → unexpected i m (x .server) ≡ false → ApartIn x → ApartIn (accept i m x)
+unfolding accept joinRead joinWrite joinCommit serveNow sendPage unlist markBusy answered loosen
+accept-apart i (ReadRequest a t) x b u h =
+    let y : Serving = notice i t x in
+    let g : ApartIn y = notice-apart i x h t in
+    if-keeps ApartIn (locking (x .server .kind i))
+    (λ e. join-apart i y g (readWaiter (y .server) a) refl (read-entry (y .server) a (noticed-open i t x u) (rw (noticed-kind i t x) e)))
+    (λ e. g)
+accept-apart i (WriteRequest a t) x b u h =
+    let y : Serving = notice i t x in
+    let k : locking (x .server .kind i) ≡ true = not-no (locking (x .server .kind i)) (or-r (badNumber (x .server) i t) _ u) in
+    join-apart i y (notice-apart i x h t) (writeWaiter (y .server) a) refl
+    (write-entry (y .server) a (noticed-open i t x (or-l (badNumber (x .server) i t) _ u)) (rw (noticed-kind i t x) k))
+accept-apart i (Commit w) x b u h =
+    let t : ℕ = w .transaction in
+    let y : Serving = notice i t x in
+    let g : ApartIn y = notice-apart i x h t in
+    if-keeps ApartIn (locking (x .server .kind i)) (λ e. commitNow-apart i w y g)
+    (λ e. join-apart i y g (commitWaiter (y .server) w) refl (commit-entry (y .server) w (noticed-open i t x (or-l (badNumber (x .server) i t) _ u)) (rw (noticed-kind i t x) e)))
+accept-apart i (Abort t) x b u h = finish-apart i (notice i t x) (notice-apart i x h t) (rw (noticed-queue i t x) (good-number (x .server) i t (or-l (badNumber (x .server) i t) _ u) .idle))
+accept-apart i (Purge p) x b u h = h
+accept-apart i (Busy r t) x b u h =
+    let q = x .server .queue in
+    if-keeps ApartIn (openCall (x .server) i r t)
+    (λ e. record { locks = h .locks; aged = h .aged; waiting = alike-waiting (h .waiting) _ (alike-upd q r (waiterBusy (q r) (upd (q r .busy) i true)) (record { want = refl; arrival = refl; own = refl })) })
+    (λ e. h)
+accept-apart i (Done r t d) x b u h =
+    let q = x .server .queue in
+    if-keeps ApartIn (openCall (x .server) i r t)
+    (λ e. record { locks = h .locks; aged = h .aged; waiting = alike-waiting (h .waiting) _ (alike-upd q r (waiterPend (waiterBusy (q r) (upd (q r .busy) i false)) (upd (q r .pend) i false)) (record { want = refl; arrival = refl; own = refl })) })
+    (λ e. h)
+accept-apart i (WrittenSet p t set) x b u h =
+    let s : Server = x .server in
+    if-keeps ApartIn (openAsk s i p t)
+    (λ e. record { locks = loose-locks (h .locks) i p set (eqb-yes (s .wl p) (suc i) (and-l (eqb (s .wl p) (suc i)) _ (and-l _ (not (s .fin i)) (and-l _ (eqb t (s .latest i)) e)))); aged = h .aged; waiting = h .waiting })
+    (λ e. h)
+
+-- the step, and the start
+
+pub apart-step : (i : ℕ) (m : Up) (s : Server) → i < 8 → unexpected i m s ≡ false → Apart s → Apart ((serverStep i m s) .server)
+apart-step i m s b u h = step-keeps ApartIn atomic-apart i m s (accept-apart i m (start s) b u h)
+
+pub apart-fresh : (k : ℕ → ℕ) → Apart (freshServer k)
+apart-fresh k =
+    record {
+      locks = record { whole-alone = λ g h a b p q. absurd (omega arith); object-open = λ h a e. absurd (omega arith); whole-open = λ h p e. absurd (omega arith); asked-held = λ p t. absurd (false≢true t) };
+      aged = record { ages-apart = λ i j b c p q r. absurd (false≢true (sym p)); ages-given = λ i b. omega arith };
+      waiting = record { arrivals-apart = λ i j b c p q r. absurd (false≢true p); arrivals-given = λ i b p. absurd (false≢true p); entry = λ i b. no-entry (k i) true };
+    }
+
+apart-moves : Moves (λ s t u d. Apart s) (λ s t u d. Apart s)
+apart-moves =
+    record {
+      rests = λ s t u d h. h;
+      owner = λ i op s t u d h. h;
+      server = λ i m l s t u d b e n h. apart-step i m s b n h;
+      station = λ i m l s t u d e h. h;
+    }
+
+-- for every list of calls, whatever the kinds
+pub apart-run : (kinds : ℕ → ℕ) (cs : List Call) → Apart ((run cs (fresh kinds)) .server)
+apart-run kinds cs = run-keeps (λ s t u d. Apart s) apart-moves cs (fresh kinds) (apart-fresh kinds)
+
+-- the same as number 1 says it: on a page locked whole every object lock is none or its holder's
+pub whole-own : (s : Server) → Apart s → (p h a : ℕ) → p < 32 → s .wl p ≡ suc h → pageOf a ≡ p → (s .ol a ≡ 0) ⊎ (s .ol a ≡ suc h)
+whole-own s k p h a b w e = split (s .ol a) refl
+  where
+    split : (x : ℕ) → s .ol a ≡ x → (x ≡ 0) ⊎ (x ≡ suc h)
+    split zero o = inl refl
+    split (suc g) o = inr (ap suc (k .locks .whole-alone g h a (omega arith) (rw e w) o))

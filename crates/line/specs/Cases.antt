@@ -1,0 +1,337 @@
+-- Document 01's cases C1 to C9, the limits, the numbers that owners meet, and the crossings, as one table of runs, computed.
+-- 8 is page 1, object 0; 9 is page 1, object 1. A message is written as the station on the line, then what its kind names, in document
+-- 01's order: `page 2 1 1 1 0 1 noValues` is 16 to station 2: page 1, object 1, transaction 1, version 0, unavailable set 1, zeros.
+use mathlib.Core.Path.{refl}
+use mathlib.Core.List.{List, [], _∷_, _++_}
+use Prim.Native.Nat.{ℕ, _^_}
+use Rattle.sets.specs.Base.{at}
+use Rattle.line.specs.Messages.{address, lastNumber, Answer, Nothing, Begun, Value, Waits, Written, CommittedAs, AbortedFor, Purged, Refused, Empty}
+use Rattle.line.specs.Station.{setNum}
+use Rattle.line.specs.Server.{setLast}
+use Rattle.line.specs.Line.{World, worldServer, worldStation, Call, Owner, ServerTakes, StationTakes, Broken, Begin, Read, Write, Commits, Aborts, Purges, fresh}
+use Rattle.line.specs.Fields.{Fields, recorded, noValues, noVersions, setOn, readRequest, writeRequest, commit, abort, purge, busy, done, writtenSet, page, pageAndObject, pageWhole, deescalate, callback, committed, aborted, invalidate}
+use Rattle.line.specs.Rows.{Step, step, Row, row, seen, Holds, AllHold}
+
+-- "locking 0 and 2, validating 1"
+abbrev line : World
+line = fresh (λ i. at (0 ∷ 1 ∷ 0 ∷ []) i 0)
+
+-- a step that only answers; one that sends; the server's, which answers nothing
+abbrev answers : Call → Answer → Step
+answers c a = step c a [] []
+
+abbrev sends : Call → Answer → List Fields → Step
+sends c a m = step c a m []
+
+abbrev serves : ℕ → List Fields → Step
+serves i m = step (ServerTakes i) Nothing m []
+
+-- the set of one page
+abbrev only : ℕ → ℕ
+only p = 2 ^ p
+
+-- station i begins and reads object o of page 1, which is all zeros: 1, 16, value 0
+abbrev reads : ℕ → ℕ → List Step
+reads i o =
+    answers (Owner i Begin) (Begun 1)
+    ∷ sends (Owner i (Read (address 1 o))) Waits (readRequest i 1 o 1 ∷ [])
+    ∷ serves i (page i 1 o 1 0 0 noValues ∷ [])
+    ∷ answers (StationTakes i) (Value 0)
+    ∷ []
+
+-- 0 writes 5 to 8 and has to ask
+abbrev asks : Step
+asks = sends (Owner 0 (Write 8 5)) Waits (writeRequest 0 1 0 1 ∷ [])
+
+unfoldable pub C1 : Row
+C1 = row "C1 fresh, 0 reads 8: 1, 16, value 0." line (reads 0 0)
+
+-- 0 has read 8 and gets page 1 whole
+abbrev holdsWhole : List Step
+holdsWhole =
+    reads 0 0
+    ++ (asks
+    ∷ serves 0 (pageWhole 0 1 0 1 0 0 noValues ∷ [])
+    ∷ answers (StationTakes 0) Written
+    ∷ [])
+
+unfoldable pub C2 : Row
+C2 = row "C2 then 0 writes 8, nobody else listed: 18." line holdsWhole
+
+unfoldable pub C3 : Row
+C3 =
+    row "C3 as C2, page 1 unused at 2: 20, 7 dropping page 1, 18." line
+    (reads 0 0
+    ++ reads 2 0
+    ++ (sends (Owner 2 Commits) Waits (commit 2 1 (only 1) noVersions (recorded 0 1 2 0 ((8, 0) ∷ []) []) ∷ [])
+    ∷ step (ServerTakes 2) Nothing (committed 2 1 1 ∷ []) (recorded 1 1 2 0 ((8, 0) ∷ []) [] ∷ [])
+    ∷ answers (StationTakes 2) (CommittedAs 1)
+    ∷ asks
+    ∷ serves 0 (callback 2 0 1 (setOn 1 1) ∷ [])
+    ∷ sends (StationTakes 2) Nothing (done 2 0 1 (only 1) ∷ [])
+    ∷ serves 2 (pageWhole 0 1 0 1 0 0 noValues ∷ [])
+    ∷ answers (StationTakes 0) Written
+    ∷ []))
+
+unfoldable pub C4 : Row
+C4 =
+    row "C4 2 has read 9: 7 dropping nothing, 17." line
+    (reads 0 0
+    ++ reads 2 1
+    ++ (asks
+    ∷ serves 0 (callback 2 0 1 (setOn 1 1) ∷ [])
+    ∷ sends (StationTakes 2) Nothing (done 2 0 1 0 ∷ [])
+    ∷ serves 2 (pageAndObject 0 1 0 1 0 0 noValues ∷ [])
+    ∷ answers (StationTakes 0) Written
+    ∷ []))
+
+unfoldable pub C5 : Row
+C5 =
+    row "C5 2 has read 8: 6; 0 waits until 2 ends." line
+    (reads 0 0
+    ++ reads 2 0
+    ++ (asks
+    ∷ serves 0 (callback 2 0 1 (setOn 1 1) ∷ [])
+    ∷ sends (StationTakes 2) Nothing (busy 2 0 1 ∷ [])
+    ∷ serves 2 []
+    ∷ answers (StationTakes 0) Empty
+    ∷ answers (Owner 0 (Write 8 6)) (Refused 7)
+    ∷ sends (Owner 2 Aborts) (AbortedFor 0) (abort 2 1 ∷ done 2 0 1 (only 1) ∷ [])
+    ∷ serves 2 []
+    ∷ serves 2 (pageWhole 0 1 0 1 0 0 noValues ∷ [])
+    ∷ answers (StationTakes 0) Written
+    ∷ []))
+
+unfoldable pub C6 : Row
+C6 =
+    row "C6 0, then 2, read 8, and both write it: 2 gets cause 1." line
+    (reads 0 0
+    ++ reads 2 0
+    ++ (asks
+    ∷ sends (Owner 2 (Write 8 6)) Waits (writeRequest 2 1 0 1 ∷ [])
+    ∷ serves 0 (callback 2 0 1 (setOn 1 1) ∷ [])
+    ∷ serves 2 []
+    ∷ sends (StationTakes 2) Nothing (busy 2 0 1 ∷ [])
+    ∷ serves 2 (aborted 2 1 1 ∷ [])
+    ∷ sends (StationTakes 2) (AbortedFor 1) (done 2 0 1 (only 1) ∷ [])
+    ∷ serves 2 (pageWhole 0 1 0 1 0 0 noValues ∷ [])
+    ∷ answers (StationTakes 0) Written
+    ∷ []))
+
+unfoldable pub C7 : Row
+C7 =
+    row "C7 1 reads 8, 0 commits 8: 1 gets 23 and ends, cause 2." line
+    (reads 1 0
+    ++ (answers (Owner 0 Begin) (Begun 1)
+    ∷ asks
+    ∷ serves 0 (pageWhole 0 1 0 1 0 0 noValues ∷ [])
+    ∷ answers (StationTakes 0) Written
+    ∷ sends (Owner 0 Commits) Waits (commit 0 1 (only 1) noVersions (recorded 0 1 0 0 [] ((8, 5) ∷ [])) ∷ [])
+    ∷ step (ServerTakes 0) Nothing (committed 0 1 1 ∷ invalidate 1 (only 1) ∷ []) (recorded 1 1 0 0 [] ((8, 5) ∷ []) ∷ [])
+    ∷ answers (StationTakes 1) (AbortedFor 2)
+    ∷ answers (StationTakes 0) (CommittedAs 1)
+    ∷ []))
+
+unfoldable pub C8 : Row
+C8 =
+    row "C8 0 holds page 1 whole, 1 commits a write to 9: cause 3." line
+    (holdsWhole
+    ++ (answers (Owner 1 Begin) (Begun 1)
+    ∷ sends (Owner 1 (Write 9 7)) Waits (readRequest 1 1 1 1 ∷ [])
+    ∷ serves 1 (page 1 1 1 1 0 0 noValues ∷ [])
+    ∷ answers (StationTakes 1) Written
+    ∷ sends (Owner 1 Commits) Waits (commit 1 1 (only 1) noVersions (recorded 0 1 1 1 [] ((9, 7) ∷ [])) ∷ [])
+    ∷ serves 1 (aborted 1 1 3 ∷ [])
+    ∷ answers (StationTakes 1) (AbortedFor 3)
+    ∷ []))
+
+unfoldable pub C9 : Row
+C9 =
+    row "C9 0 wrote 8 under 18, 2 reads 9: 19, 8 with set 1, 16 with unavailable set 1." line
+    (holdsWhole
+    ++ (answers (Owner 2 Begin) (Begun 1)
+    ∷ sends (Owner 2 (Read 9)) Waits (readRequest 2 1 1 1 ∷ [])
+    ∷ serves 2 (deescalate 0 1 1 ∷ [])
+    ∷ sends (StationTakes 0) Nothing (writtenSet 0 1 1 1 ∷ [])
+    ∷ serves 0 (page 2 1 1 1 0 1 noValues ∷ [])
+    ∷ answers (StationTakes 2) (Value 0)
+    ∷ []))
+
+-- The limits: lines close to their last numbers.
+
+-- one commit number is left
+abbrev nearlyFull : World
+nearlyFull = worldServer line (setLast (line .server) 4294967294)
+
+unfoldable pub lastCommit : Row
+lastCommit =
+    row "number 4,294,967,295 already used, cause 4 (so too a locking commit)" nearlyFull
+    (answers (Owner 0 Begin) (Begun 1)
+    ∷ sends (Owner 0 Commits) Waits (commit 0 1 0 noVersions (recorded 0 1 0 0 [] []) ∷ [])
+    ∷ step (ServerTakes 0) Nothing (committed 0 1 lastNumber ∷ []) (recorded lastNumber 1 0 0 [] [] ∷ [])
+    ∷ answers (StationTakes 0) (CommittedAs lastNumber)
+    ∷ answers (Owner 0 Begin) (Begun 2)
+    ∷ sends (Owner 0 Commits) Waits (commit 0 2 0 noVersions (recorded 0 2 0 0 [] []) ∷ [])
+    ∷ serves 0 (aborted 0 2 4 ∷ [])
+    ∷ answers (StationTakes 0) (AbortedFor 4)
+    ∷ answers (Owner 1 Begin) (Begun 1)
+    ∷ sends (Owner 1 Commits) Waits (commit 1 1 0 noVersions (recorded 0 1 1 1 [] []) ∷ [])
+    ∷ serves 1 (aborted 1 1 4 ∷ [])
+    ∷ answers (StationTakes 1) (AbortedFor 4)
+    ∷ [])
+
+-- each station has one transaction left
+abbrev nearlySpent : World
+nearlySpent = worldStation line (λ i. setNum (line .station i) 4294967294)
+
+unfoldable pub spent : Row
+spent =
+    row "11. Spent: begin after number 4,294,967,295." nearlySpent
+    (answers (Owner 0 Begin) (Begun lastNumber)
+    ∷ sends (Owner 0 Aborts) (AbortedFor 0) (abort 0 lastNumber ∷ [])
+    ∷ answers (Owner 0 Begin) (Refused 11)
+    ∷ [])
+
+-- What is turned back changes nothing.
+
+unfoldable pub turnedBack : Row
+turnedBack =
+    row "Refused calls answer the number, send nothing and change no state" line
+    (answers (Owner 0 (Read 8)) (Refused 8)
+    ∷ answers (Owner 0 Begin) (Begun 1)
+    ∷ answers (Owner 0 Begin) (Refused 9)
+    ∷ answers (Owner 0 (Purges 1)) (Refused 10)
+    ∷ sends (Owner 0 (Read 8)) Waits (readRequest 0 1 0 1 ∷ [])
+    ∷ answers (Owner 0 Commits) (Refused 7)
+    ∷ answers (Owner 0 (Purges 1)) (Refused 7)
+    ∷ answers (Owner 0 (Purges 32)) (Refused 4)
+    ∷ answers (Broken 5) (Refused 5)
+    ∷ serves 0 (page 0 1 0 1 0 0 noValues ∷ [])
+    ∷ answers (StationTakes 0) (Value 0)
+    ∷ answers (Owner 0 (Purges 1)) (Refused 10)
+    ∷ sends (Owner 0 Aborts) (AbortedFor 0) (abort 0 1 ∷ [])
+    ∷ sends (Owner 0 (Purges 1)) Purged (purge 0 1 ∷ [])
+    ∷ serves 0 []
+    ∷ serves 0 []
+    ∷ [])
+
+-- Crossings that catch people.
+
+-- 2 has page 1, unused, and its request to write 9 there is under way when 20 comes for 8
+unfoldable pub requestOut : Row
+requestOut =
+    row "Dropping a page whose request is out loses a listed copy." line
+    (reads 0 0
+    ++ reads 2 1
+    ++ (sends (Owner 2 Aborts) (AbortedFor 0) (abort 2 1 ∷ [])
+    ∷ serves 2 []
+    ∷ answers (Owner 2 Begin) (Begun 2)
+    ∷ sends (Owner 2 (Write 9 7)) Waits (writeRequest 2 1 1 2 ∷ [])
+    ∷ asks
+    ∷ serves 0 (callback 2 0 1 (setOn 1 1) ∷ [])
+    ∷ sends (StationTakes 2) Nothing (done 2 0 1 0 ∷ [])
+    ∷ serves 2 (callback 0 2 2 (setOn 1 2) ∷ [])
+    ∷ serves 2 (pageAndObject 0 1 0 1 0 2 noValues ∷ [])
+    ∷ sends (StationTakes 0) Nothing (done 0 2 2 0 ∷ [])
+    ∷ answers (StationTakes 0) Written
+    ∷ serves 0 (pageAndObject 2 1 1 2 0 1 noValues ∷ [])
+    ∷ answers (StationTakes 2) Written
+    ∷ []))
+
+-- the 16 to 2 is under way when 0 asks to write
+unfoldable pub pageUnderWay : Row
+pageUnderWay =
+    row "Listing a copy only on arrival misses pages under way." line
+    (reads 0 0
+    ++ (answers (Owner 2 Begin) (Begun 1)
+    ∷ sends (Owner 2 (Read 8)) Waits (readRequest 2 1 0 1 ∷ [])
+    ∷ serves 2 (page 2 1 0 1 0 0 noValues ∷ [])
+    ∷ asks
+    ∷ serves 0 (callback 2 0 1 (setOn 1 1) ∷ [])
+    ∷ answers (StationTakes 2) (Value 0)
+    ∷ sends (StationTakes 2) Nothing (busy 2 0 1 ∷ [])
+    ∷ []))
+
+-- 1's commit waits for 8 of page 1, and 0's commit comes first
+unfoldable pub staleCommit : Row
+staleCommit =
+    row "A validating commit checked at arrival alone goes stale while it waits." line
+    (reads 1 0
+    ++ holdsWhole
+    ++ (sends (Owner 1 Commits) Waits (commit 1 1 (only 1) noVersions (recorded 0 1 1 1 ((8, 0) ∷ []) []) ∷ [])
+    ∷ serves 1 (deescalate 0 1 1 ∷ [])
+    ∷ sends (Owner 0 Commits) Waits (commit 0 1 (only 1) noVersions (recorded 0 1 0 0 ((8, 0) ∷ []) ((8, 5) ∷ [])) ∷ [])
+    ∷ step (ServerTakes 0) Nothing (committed 0 1 1 ∷ invalidate 1 (only 1) ∷ aborted 1 1 2 ∷ []) (recorded 1 1 0 0 ((8, 0) ∷ []) ((8, 5) ∷ []) ∷ [])
+    ∷ answers (StationTakes 1) Nothing
+    ∷ answers (StationTakes 1) (AbortedFor 2)
+    ∷ sends (StationTakes 0) Nothing (writtenSet 0 1 1 1 ∷ [])
+    ∷ answers (StationTakes 0) (CommittedAs 1)
+    ∷ serves 0 []
+    ∷ []))
+
+unfoldable pub table : List Row
+table = C1 ∷ C2 ∷ C3 ∷ C4 ∷ C5 ∷ C6 ∷ C7 ∷ C8 ∷ C9 ∷ lastCommit ∷ spent ∷ turnedBack ∷ requestOut ∷ pageUnderWay ∷ staleCommit ∷ []
+
+C1-holds : Holds C1
+unfolding Holds seen C1
+C1-holds = refl
+
+C2-holds : Holds C2
+unfolding Holds seen C2
+C2-holds = refl
+
+C3-holds : Holds C3
+unfolding Holds seen C3
+C3-holds = refl
+
+C4-holds : Holds C4
+unfolding Holds seen C4
+C4-holds = refl
+
+C5-holds : Holds C5
+unfolding Holds seen C5
+C5-holds = refl
+
+C6-holds : Holds C6
+unfolding Holds seen C6
+C6-holds = refl
+
+C7-holds : Holds C7
+unfolding Holds seen C7
+C7-holds = refl
+
+C8-holds : Holds C8
+unfolding Holds seen C8
+C8-holds = refl
+
+C9-holds : Holds C9
+unfolding Holds seen C9
+C9-holds = refl
+
+lastCommit-holds : Holds lastCommit
+unfolding Holds seen lastCommit
+lastCommit-holds = refl
+
+spent-holds : Holds spent
+unfolding Holds seen spent
+spent-holds = refl
+
+turnedBack-holds : Holds turnedBack
+unfolding Holds seen turnedBack
+turnedBack-holds = refl
+
+requestOut-holds : Holds requestOut
+unfolding Holds seen requestOut
+requestOut-holds = refl
+
+pageUnderWay-holds : Holds pageUnderWay
+unfolding Holds seen pageUnderWay
+pageUnderWay-holds = refl
+
+staleCommit-holds : Holds staleCommit
+unfolding Holds seen staleCommit
+staleCommit-holds = refl
+
+pub table-holds : AllHold table
+unfolding AllHold table
+table-holds = (C1-holds, (C2-holds, (C3-holds, (C4-holds, (C5-holds, (C6-holds, (C7-holds, (C8-holds, (C9-holds, (lastCommit-holds, (spent-holds, (turnedBack-holds, (requestOut-holds, (pageUnderWay-holds, (staleCommit-holds, tt)))))))))))))))

@@ -1,0 +1,354 @@
+-- "Station steps": the owner's operations and the station's step. Pure: a station in, a station, an answer and messages out.
+use mathlib.Core.Bool.{Bool, true, false, not, _&&_, _||_, cond}
+use mathlib.Core.List.{List, [], _∷_}
+use Prim.Native.Nat.{ℕ, zero, suc, _+_}
+use lib.Dec.{eqb, ltb}
+use Rattle.sets.specs.Base.{upd, snoc, Val, none, some, has, valOr, noneAt, nowhere, zeros, any, turned}
+use Rattle.line.specs.Messages.{pageOf, address, lastNumber, locking, Work, Up, ReadRequest, WriteRequest, Commit, Abort, Purge, Busy, Done, WrittenSet, Lock, NoLock, ObjectLock, WholeLock, Down, Page, Deescalate, Callback, Committed, Aborted, Invalidate, Answer, Nothing, Begun, Value, Waits, Written, CommittedAs, AbortedFor, Purged, Refused}
+
+-- what the owner waits for
+pub data Wait : Type 0 where
+  Idle : Wait
+  ForRead : ℕ → Wait  -- address
+  ForWrite : ℕ → ℕ → Wait  -- address, value
+  ForCommit : Wait
+
+-- a callback kept for a requester: its transaction and the addresses named
+pub data Kept : Type 0 where
+  NotKept : Kept
+  KeptCall : ℕ → (ℕ → Bool) → Kept
+
+pub record Station : Type 0 where
+  pub kind : ℕ
+  pub num : ℕ  -- "A station numbers its transactions from 1": the latest begun
+  pub opened : Bool  -- "one open at a time"
+  pub cached : ℕ → Bool  -- by page
+  pub cver : ℕ → ℕ  -- version of the copy, by page
+  pub copy : ℕ → ℕ  -- by address
+  pub unav : ℕ → Bool  -- unavailable, by address
+  pub rd : ℕ → Val  -- recorded reads
+  pub wr : ℕ → Val  -- own last writes
+  pub wait : Wait
+  pub ol : ℕ → Bool  -- own object locks
+  pub wl : ℕ → Bool  -- own whole locks, by page
+  pub kept : ℕ → Kept  -- by requester
+
+abbrev pub setKind : Station → (ℕ) → Station
+setKind s x = record { kind = x; num = s .num; opened = s .opened; cached = s .cached; cver = s .cver; copy = s .copy; unav = s .unav; rd = s .rd; wr = s .wr; wait = s .wait; ol = s .ol; wl = s .wl; kept = s .kept }
+
+abbrev pub setNum : Station → (ℕ) → Station
+setNum s x = record { kind = s .kind; num = x; opened = s .opened; cached = s .cached; cver = s .cver; copy = s .copy; unav = s .unav; rd = s .rd; wr = s .wr; wait = s .wait; ol = s .ol; wl = s .wl; kept = s .kept }
+
+abbrev pub setOpened : Station → (Bool) → Station
+setOpened s x = record { kind = s .kind; num = s .num; opened = x; cached = s .cached; cver = s .cver; copy = s .copy; unav = s .unav; rd = s .rd; wr = s .wr; wait = s .wait; ol = s .ol; wl = s .wl; kept = s .kept }
+
+abbrev pub setCached : Station → (ℕ → Bool) → Station
+setCached s x = record { kind = s .kind; num = s .num; opened = s .opened; cached = x; cver = s .cver; copy = s .copy; unav = s .unav; rd = s .rd; wr = s .wr; wait = s .wait; ol = s .ol; wl = s .wl; kept = s .kept }
+
+abbrev pub setCver : Station → (ℕ → ℕ) → Station
+setCver s x = record { kind = s .kind; num = s .num; opened = s .opened; cached = s .cached; cver = x; copy = s .copy; unav = s .unav; rd = s .rd; wr = s .wr; wait = s .wait; ol = s .ol; wl = s .wl; kept = s .kept }
+
+abbrev pub setCopy : Station → (ℕ → ℕ) → Station
+setCopy s x = record { kind = s .kind; num = s .num; opened = s .opened; cached = s .cached; cver = s .cver; copy = x; unav = s .unav; rd = s .rd; wr = s .wr; wait = s .wait; ol = s .ol; wl = s .wl; kept = s .kept }
+
+abbrev pub setUnav : Station → (ℕ → Bool) → Station
+setUnav s x = record { kind = s .kind; num = s .num; opened = s .opened; cached = s .cached; cver = s .cver; copy = s .copy; unav = x; rd = s .rd; wr = s .wr; wait = s .wait; ol = s .ol; wl = s .wl; kept = s .kept }
+
+abbrev pub setRd : Station → (ℕ → Val) → Station
+setRd s x = record { kind = s .kind; num = s .num; opened = s .opened; cached = s .cached; cver = s .cver; copy = s .copy; unav = s .unav; rd = x; wr = s .wr; wait = s .wait; ol = s .ol; wl = s .wl; kept = s .kept }
+
+abbrev pub setWr : Station → (ℕ → Val) → Station
+setWr s x = record { kind = s .kind; num = s .num; opened = s .opened; cached = s .cached; cver = s .cver; copy = s .copy; unav = s .unav; rd = s .rd; wr = x; wait = s .wait; ol = s .ol; wl = s .wl; kept = s .kept }
+
+abbrev pub setWait : Station → (Wait) → Station
+setWait s x = record { kind = s .kind; num = s .num; opened = s .opened; cached = s .cached; cver = s .cver; copy = s .copy; unav = s .unav; rd = s .rd; wr = s .wr; wait = x; ol = s .ol; wl = s .wl; kept = s .kept }
+
+abbrev pub setOl : Station → (ℕ → Bool) → Station
+setOl s x = record { kind = s .kind; num = s .num; opened = s .opened; cached = s .cached; cver = s .cver; copy = s .copy; unav = s .unav; rd = s .rd; wr = s .wr; wait = s .wait; ol = x; wl = s .wl; kept = s .kept }
+
+abbrev pub setWl : Station → (ℕ → Bool) → Station
+setWl s x = record { kind = s .kind; num = s .num; opened = s .opened; cached = s .cached; cver = s .cver; copy = s .copy; unav = s .unav; rd = s .rd; wr = s .wr; wait = s .wait; ol = s .ol; wl = x; kept = s .kept }
+
+abbrev pub setKept : Station → (ℕ → Kept) → Station
+setKept s x = record { kind = s .kind; num = s .num; opened = s .opened; cached = s .cached; cver = s .cver; copy = s .copy; unav = s .unav; rd = s .rd; wr = s .wr; wait = s .wait; ol = s .ol; wl = s .wl; kept = x }
+
+abbrev pub freshStation : ℕ → Station
+freshStation k =
+    record { kind = k; num = 0; opened = false; cached = nowhere; cver = zeros; copy = zeros; unav = nowhere; rd = noneAt; wr = noneAt; wait = Idle; ol = nowhere; wl = nowhere; kept = λ r. NotKept }
+
+-- what a call does: the station afterwards, the answer, the messages sent up in order
+pub record Did : Type 0 where
+  pub station : Station
+  pub answer : Answer
+  pub sent : List Up
+
+abbrev pub didStation : Did → (Station) → Did
+didStation s x = record { station = x; answer = s .answer; sent = s .sent }
+
+abbrev pub didAnswer : Did → (Answer) → Did
+didAnswer s x = record { station = s .station; answer = x; sent = s .sent }
+
+abbrev pub didSent : Did → (List Up) → Did
+didSent s x = record { station = s .station; answer = s .answer; sent = x }
+
+abbrev pub does : Answer → Station → List Up → Did
+does a s m = record { station = s; answer = a; sent = m }
+
+-- "Refused calls answer the number, send nothing and change no state": number 0 is none
+abbrev pub unless : ℕ → Did → Station → Did
+unless n d s = cond (eqb n 0) d (does (Refused n) s [])
+
+-- small questions
+
+abbrev pub waiting : Wait → Bool
+waiting Idle = false
+waiting (ForRead a) = true
+waiting (ForWrite a v) = true
+waiting ForCommit = true
+
+abbrev pub forRead : Wait → ℕ → Bool
+forRead Idle b = false
+forRead (ForRead a) b = eqb b a
+forRead (ForWrite a v) b = false
+forRead ForCommit b = false
+
+abbrev pub forWrite : Wait → ℕ → Bool
+forWrite Idle b = false
+forWrite (ForRead a) b = false
+forWrite (ForWrite a v) b = eqb b a
+forWrite ForCommit b = false
+
+abbrev pub forCommit : Wait → Bool
+forCommit Idle = false
+forCommit (ForRead a) = false
+forCommit (ForWrite a v) = false
+forCommit ForCommit = true
+
+-- a request for the page is out
+abbrev pub requested : Wait → ℕ → Bool
+requested Idle p = false
+requested (ForRead a) p = eqb p (pageOf a)
+requested (ForWrite a v) p = eqb p (pageOf a)
+requested ForCommit p = false
+
+abbrev pub live : Station → ℕ → Bool
+live s t = s .opened && eqb t (s .num)
+
+-- "the transaction has read or written" the object; something on the page
+abbrev pub usedAt : Station → ℕ → Bool
+usedAt s a = has (s .rd a) || has (s .wr a)
+
+abbrev pub usedPage : Station → ℕ → Bool
+usedPage s p = any 8 (λ o. usedAt s (address p o))
+
+abbrev pub wrotePage : Station → ℕ → Bool
+wrotePage s p = any 8 (λ o. has (s .wr (address p o)))
+
+-- "an available cached object"
+abbrev pub shown : Station → ℕ → Bool
+shown s a = s .cached (pageOf a) && not (s .unav a)
+
+-- a dropped page leaves nothing behind
+unfoldable pub dropPages : (ℕ → Bool) → Station → Station
+dropPages d s =
+    setCached (setCver (setCopy (setUnav s
+    (λ a. not (d (pageOf a)) && s .unav a))
+    (λ a. cond (d (pageOf a)) 0 (s .copy a)))
+    (λ p. cond (d p) 0 (s .cver p)))
+    (λ p. not (d p) && s .cached p)
+
+-- "Read, write": what happens in the copy
+
+unfoldable pub recordRead : ℕ → Station → Station
+recordRead a s = setRd s (upd (s .rd) a (some (s .copy a)))
+
+unfoldable pub writeLocal : ℕ → ℕ → Station → Station
+writeLocal a v s = setCopy (setWr s (upd (s .wr) a (some v))) (upd (s .copy) a v)
+
+-- callbacks
+
+-- "drop each cached page named on which the transaction has read or written nothing and for which no request is out"
+abbrev pub drops : (ℕ → Bool) → Station → ℕ → Bool
+drops set s p = s .cached p && any 8 (λ o. set (address p o)) && not (usedPage s p) && not (requested (s .wait) p)
+
+-- "mark the named objects unavailable" (on cached pages)
+unfoldable pub mark : (ℕ → Bool) → Station → Station
+mark set s = setUnav s (λ a. s .unav a || (s .cached (pageOf a) && set a))
+
+-- "mark ..., drop ..., and send 7"
+unfoldable pub doCallback : ℕ → ℕ → (ℕ → Bool) → Did → Did
+doCallback r t set d =
+    let s = d .station in
+    didSent (didStation d (dropPages (drops set s) (mark set s))) (snoc (d .sent) (Done r t (drops set s)))
+
+unfoldable pub doKept : ℕ → Kept → Did → Did
+doKept r NotKept d = d
+doKept r (KeptCall t set) d = doCallback r t set (didStation d (setKept (d .station) (upd (d .station .kept) r NotKept)))
+
+-- "Kept callbacks are done so, by rising requester, when the transaction ends"
+unfoldable pub doAllKept : ℕ → ℕ → Did → Did
+doAllKept zero r d = d
+doAllKept (suc n) r d = doAllKept n (suc r) (doKept r (d .station .kept r) d)
+
+-- ends of a transaction
+
+unfoldable pub closed : Station → Station
+closed s = setOpened (setWait (setRd (setWr (setOl (setWl s nowhere) nowhere) noneAt) noneAt) Idle) false
+
+unfoldable pub close : Did → Did
+close d = doAllKept 8 0 (didStation d (closed (d .station)))
+
+-- "However aborted, a locking station marks written objects unavailable; a validating one drops written pages."
+unfoldable pub undo : Station → Station
+undo s = cond (locking (s .kind)) (mark (λ a. has (s .wr a)) s) (dropPages (wrotePage s) s)
+
+-- the owner's operations
+
+-- 7 Waiting, 9 Open, 11 Spent
+abbrev pub checkBegin : Station → ℕ
+checkBegin s = turned (waiting (s .wait)) 7 (turned (s .opened) 9 (turned (eqb (s .num) lastNumber) 11 0))
+
+-- 7 Waiting, 8 Closed
+abbrev pub checkOpen : Station → ℕ
+checkOpen s = turned (waiting (s .wait)) 7 (turned (not (s .opened)) 8 0)
+
+-- 4 Range (an address is one byte: page 0 to 31, object 0 to 7), 7 Waiting, 8 Closed
+abbrev pub checkAddress : ℕ → Station → ℕ
+checkAddress a s = turned (not (ltb a 256)) 4 (checkOpen s)
+
+-- 4 Range, 7 Waiting ("a purge counts only for the requested page"), 10 Kept
+abbrev pub checkPurge : ℕ → Station → ℕ
+checkPurge p s = turned (not (ltb p 32)) 4 (turned (requested (s .wait) p) 7 (turned (usedPage s p || not (s .cached p)) 10 0))
+
+unfoldable pub ownBegin : Station → Did
+ownBegin s = unless (checkBegin s) (does (Begun (s .num + 1)) (setOpened (setNum s (s .num + 1)) true) []) s
+
+unfoldable pub readLocal : ℕ → Station → Did
+readLocal a s = does (Value (s .copy a)) (recordRead a s) []
+
+-- "An object not cached or unavailable is requested (1) and the owner gets 'waits'"
+unfoldable pub readAsk : ℕ → Station → Did
+readAsk a s = does Waits (setWait s (ForRead a)) (ReadRequest a (s .num) ∷ [])
+
+-- "afterwards it sees that value or its own last write. Otherwise an available cached object is read locally."
+unfoldable pub readAs : ℕ → Val → Val → Station → Did
+readAs a none none s = cond (shown s a) (readLocal a s) (readAsk a s)
+readAs a none (some v) s = does (Value v) s []
+readAs a (some v) r s = does (Value v) s []
+
+unfoldable pub ownRead : ℕ → Station → Did
+ownRead a s = unless (checkAddress a s) (readAs a (s .wr a) (s .rd a) s) s
+
+-- "A locking station writes locally under its lock on object or page, else sends 2. A validating station writes locally on a
+-- cached page, else sends 1."
+abbrev pub mayWrite : ℕ → Station → Bool
+mayWrite a s = cond (locking (s .kind)) (s .ol a || s .wl (pageOf a)) (s .cached (pageOf a))
+
+unfoldable pub writeAsk : ℕ → ℕ → Station → Did
+writeAsk a v s = does Waits (setWait s (ForWrite a v)) (cond (locking (s .kind)) (WriteRequest a (s .num)) (ReadRequest a (s .num)) ∷ [])
+
+unfoldable pub ownWrite : ℕ → ℕ → Station → Did
+ownWrite a v s = unless (checkAddress a s) (cond (mayWrite a s) (does Written (writeLocal a v s) []) (writeAsk a v s)) s
+
+-- "0 for an unused page; all 0 from a locking station"
+abbrev pub workOf : Station → Work
+workOf s = record { transaction = s .num; reads = s .rd; writes = s .wr; versions = λ p. cond (not (locking (s .kind)) && usedPage s p) (s .cver p) 0 }
+
+-- "Commit sends 3 and waits for 21 or 22."
+unfoldable pub ownCommit : Station → Did
+ownCommit s = unless (checkOpen s) (does Waits (setWait s ForCommit) (Commit (workOf s) ∷ [])) s
+
+-- "An owner's abort ends the transaction; a locking station sends 4."
+unfoldable pub ownAbort : Station → Did
+ownAbort s = unless (checkOpen s) (close (does (AbortedFor 0) (undo s) (cond (locking (s .kind)) (Abort (s .num) ∷ []) []))) s
+
+unfoldable pub ownPurge : ℕ → Station → Did
+ownPurge p s = unless (checkPurge p s) (does Purged (dropPages (λ q. eqb q p) s) (Purge p ∷ [])) s
+
+-- the station's step
+
+-- "A 16 that then comes for the ended transaction is taken and ignored."
+abbrev pub ended : Station → ℕ → Bool
+ended s t = not (locking (s .kind)) && not (live s t) && not (ltb (s .num) t)
+
+-- 6: "a down message that fits neither station, kind nor open wait (19, 20, 23 and a 16 for an ended validating transaction need no wait)"
+abbrev pub fitsPage : Lock → ℕ → ℕ → Station → Bool
+fitsPage NoLock a t s = ended s t || (live s t && (forRead (s .wait) a || (not (locking (s .kind)) && forWrite (s .wait) a)))
+fitsPage ObjectLock a t s = locking (s .kind) && live s t && forWrite (s .wait) a
+fitsPage WholeLock a t s = locking (s .kind) && live s t && forWrite (s .wait) a
+
+abbrev pub fits : Down → Station → Bool
+fits (Page l a t v u x) s = fitsPage l a t s
+fits (Deescalate p t) s = locking (s .kind)
+fits (Callback r t set) s = locking (s .kind)
+fits (Committed t n) s = live s t && forCommit (s .wait)
+fits (Aborted t c) s = live s t && waiting (s .wait)
+fits (Invalidate d) s = not (locking (s .kind))
+
+-- "An arriving page replaces the copy save for the transaction's own values."
+unfoldable pub arrive : ℕ → ℕ → (ℕ → Bool) → (ℕ → ℕ) → Station → Station
+arrive p v u x s =
+    setCached (setCver (setCopy (setUnav s
+    (λ b. cond (eqb (pageOf b) p) (u b) (s .unav b)))
+    (λ b. cond (eqb (pageOf b) p) (valOr (s .wr b) (x b)) (s .copy b)))
+    (upd (s .cver) p v))
+    (upd (s .cached) p true)
+
+unfoldable pub takeLock : Lock → ℕ → Station → Station
+takeLock NoLock a s = s
+takeLock ObjectLock a s = setOl s (upd (s .ol) a true)
+takeLock WholeLock a s = setWl s (upd (s .wl) (pageOf a) true)
+
+-- "the delivery that brings the page gives the owner's answer"
+unfoldable pub answerWait : Wait → Station → Did
+answerWait Idle s = does Nothing s []
+answerWait (ForRead a) s = does (Value (s .copy a)) (recordRead a s) []
+answerWait (ForWrite a v) s = does Written (writeLocal a v s) []
+answerWait ForCommit s = does Nothing s []
+
+unfoldable pub onPage : Lock → ℕ → ℕ → ℕ → (ℕ → Bool) → (ℕ → ℕ) → Station → Did
+onPage l a t v u x s = cond (ended s t) (does Nothing s []) (answerWait (s .wait) (setWait (arrive (pageOf a) v u x (takeLock l a s)) Idle))
+
+-- "On 19: send 8 with the objects written on that page, empty if that transaction is over; if it is open, the whole lock becomes
+-- locks on those objects."
+abbrev pub writtenOn : ℕ → ℕ → Station → ℕ → Bool
+writtenOn p t s b = live s t && eqb (pageOf b) p && has (s .wr b)
+
+unfoldable pub loosen : ℕ → (ℕ → Bool) → Station → Station
+loosen p set s = setWl (setOl s (λ b. s .ol b || set b)) (upd (s .wl) p false)
+
+unfoldable pub onDeescalate : ℕ → ℕ → Station → Did
+onDeescalate p t s = does Nothing (cond (live s t && s .wl p) (loosen p (writtenOn p t s) s) s) (WrittenSet p t (writtenOn p t s) ∷ [])
+
+-- "Locking, on 20: if the open transaction has read or written a named object, send 6 and keep the callback, a newer one from that
+-- requester replacing it; else mark .., drop .., and send 7."
+unfoldable pub onCallback : ℕ → ℕ → (ℕ → Bool) → Station → Did
+onCallback r t set s =
+    cond (any 256 (λ a. set a && usedAt s a))
+    (does Nothing (setKept s (upd (s .kept) r (KeptCall t set))) (Busy r t ∷ []))
+    (doCallback r t set (does Nothing s []))
+
+-- "On 21 written pages take the commit number as version."
+unfoldable pub onCommitted : ℕ → Station → Did
+onCommitted n s = close (does (CommittedAs n) (setCver s (λ p. cond (s .cached p && wrotePage s p) n (s .cver p))) [])
+
+unfoldable pub onAborted : ℕ → Station → Did
+onAborted c s = close (does (AbortedFor c) (undo s) [])
+
+-- "Validating, on 23: drop the pages; if the transaction used one and no commit is out, it ends as aborted, cause 2"
+unfoldable pub onInvalidate : (ℕ → Bool) → Station → Did
+onInvalidate d s =
+    cond (any 32 (λ p. d p && usedPage s p) && not (forCommit (s .wait)))
+    (close (does (AbortedFor 2) (undo (dropPages d s)) []))
+    (does Nothing (dropPages d s) [])
+
+unfoldable pub onDown : Down → Station → Did
+onDown (Page l a t v u x) s = onPage l a t v u x s
+onDown (Deescalate p t) s = onDeescalate p t s
+onDown (Callback r t set) s = onCallback r t set s
+onDown (Committed t n) s = onCommitted n s
+onDown (Aborted t c) s = onAborted c s
+onDown (Invalidate d) s = onInvalidate d s
+
+unfoldable pub stationStep : Down → Station → Did
+stationStep m s = unless (turned (not (fits m s)) 6 0) (onDown m s) s

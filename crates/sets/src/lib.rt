@@ -1,0 +1,1 @@
+// No code: sets and functions by index, and paths between eight nodes, are in specs/.
