@@ -385,7 +385,7 @@ module _ (i : ℕ) (x : Serving) (b : i < 8) (h : ApartIn x) where
       let here : address p (a % 8) ≡ a = omega arith in
       absurd (eqb-no (s .ol a) (suc g) (rw here at object) o))
 
-atomic-apart : Atomic ApartIn
+pub atomic-apart : Atomic ApartIn
 unfolding ask serveRead sendPage leave call grantObject grantPage installWaiter
 atomic-apart =
     record {
