@@ -1,11 +1,13 @@
-//! The second implementation: the record, the archive and its playback, written from document 01.
+//! The second implementation: the record, the archive and its playback, and the line, written from document 01.
 //!
-//! It shares no code with the proved library. `compare` runs both on the same inputs, `bench` times both.
+//! It shares no code with the proved library. `compare` runs both on the same inputs, `bench` times both; `line_runs` tries
+//! the line on random crossings.
 
 pub mod archive;
 #[cfg(feature = "proved")]
 pub mod ffi;
 pub mod generate;
+pub mod line;
 pub mod numbers;
 pub mod options;
 pub mod random;

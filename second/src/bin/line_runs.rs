@@ -1,0 +1,78 @@
+//! Random crossings on whole lines, each call checked, and demand 3 at the end of each.
+
+use second::line::counts::Counts;
+use second::line::runs::{self, Failed};
+use second::options::Options;
+use std::panic;
+use std::process;
+use std::sync::atomic::{AtomicU64, Ordering};
+use std::time::{Duration, Instant};
+
+const USAGE: &str = "line_runs [--seed N|random] [--runs N] [--seconds N] [--calls N]
+  --seed     of the first run; each next run's is one more
+  --runs     how many, 10000 if nothing is said; with --seconds no end but the time's
+  --seconds  stop after so long
+  --calls    calls of a run before it is drained, 300 if nothing is said";
+
+/// Of the run being made.
+static SEED: AtomicU64 = AtomicU64::new(0);
+
+struct Settings {
+    seed: u64,
+    runs: u64,
+    time: Duration,
+    calls: usize,
+}
+
+fn main() {
+    let settings = settings();
+    let start = Instant::now();
+    let mut counts = Counts::default();
+    panic::set_hook(Box::new(|cause| panicked(&cause.to_string())));
+    for run in 0..settings.runs {
+        if start.elapsed() >= settings.time {
+            break;
+        }
+        let seed = settings.seed.wrapping_add(run);
+        SEED.store(seed, Ordering::Relaxed);
+        if let Err(failed) = runs::run(seed, settings.calls, &mut counts) {
+            report(run, settings.calls, &failed);
+            process::exit(1);
+        }
+    }
+    let seconds = start.elapsed().as_secs_f64();
+    let a_second = counts.runs as f64 / seconds;
+    println!("{counts}\n{seconds:.1} s, {a_second:.0} runs a second");
+}
+
+fn settings() -> Settings {
+    let options = Options::read(USAGE, &["--seed", "--runs", "--seconds", "--calls"], &[]);
+    let options = options.without_words();
+    let timed = options.has("--seconds");
+    Settings {
+        seed: options.seed("--seed", 1),
+        runs: options.number("--runs", if timed { u64::MAX } else { 10_000 }),
+        time: Duration::from_secs(options.number("--seconds", u64::MAX)),
+        calls: options.number("--calls", 300) as usize,
+    }
+}
+
+/// A panic that unwinds is caught and shortened like any failure; one that aborts can only be named.
+fn panicked(cause: &str) {
+    if cfg!(panic = "abort") {
+        println!("seed {}: {cause}", SEED.load(Ordering::Relaxed));
+        process::exit(1);
+    }
+}
+
+fn report(run: u64, calls: usize, failed: &Failed) {
+    let Failed { seed, failure, .. } = failed;
+    println!(
+        "run {} failed: --seed {seed} --runs 1 --calls {calls}",
+        run + 1
+    );
+    println!("check: {}\n{}", failure.check, failure.detail);
+    let short = failed.shortened();
+    println!("shortened: {}", short.failure.detail);
+    print!("{}", short.script());
+}

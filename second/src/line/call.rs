@@ -1,0 +1,207 @@
+//! Calls and replies as text: a command a line, exactly one reply line each.
+
+use super::sets::STATIONS;
+use super::world::{Outcome, Reply, World};
+use super::{Answer, Kind};
+use std::fmt::{self, Display, Formatter, Write};
+
+/// One call on a line.
+#[derive(Clone, Debug, PartialEq, Eq)]
+pub enum Call {
+    Fresh([Kind; STATIONS]),
+    Numbers(u32, [u32; STATIONS]),
+    Begin(u8),
+    Read(u8, u8),
+    Write(u8, u8, u64),
+    Commit(u8),
+    Abort(u8),
+    Purge(u8, u32),
+    Server(u8),
+    Station(u8),
+    ServerRaw(Vec<u8>),
+    StationRaw(u8, Vec<u8>),
+}
+
+impl Call {
+    /// None for a malformed command.
+    pub fn parse(line: &str) -> Option<Call> {
+        let words: Vec<&str> = line.split_ascii_whitespace().collect();
+        let (name, arguments) = words.split_first()?;
+        Some(match (*name, arguments) {
+            ("fresh", [kinds]) => Call::Fresh(kinds_of(kinds)?),
+            ("numbers", [last, latest @ ..]) => {
+                Call::Numbers(number(last)?, latest_numbers(latest)?)
+            }
+            ("begin", [s]) => Call::Begin(station(s)?),
+            ("read", [s, a]) => Call::Read(station(s)?, number(a)?),
+            ("write", [s, a, v]) => Call::Write(station(s)?, number(a)?, number(v)?),
+            ("commit", [s]) => Call::Commit(station(s)?),
+            ("abort", [s]) => Call::Abort(station(s)?),
+            ("purge", [s, page]) => Call::Purge(station(s)?, number(page)?),
+            ("server", [s]) => Call::Server(station(s)?),
+            ("station", [s]) => Call::Station(station(s)?),
+            ("serverraw", [hex]) => Call::ServerRaw(bytes_of(hex)?),
+            ("stationraw", [s, hex]) => Call::StationRaw(station(s)?, bytes_of(hex)?),
+            _ => return None,
+        })
+    }
+}
+
+fn kinds_of(digits: &str) -> Option<[Kind; STATIONS]> {
+    let kinds: Option<Vec<Kind>> = digits.chars().map(kind_of).collect();
+    kinds?.try_into().ok()
+}
+
+fn kind_of(digit: char) -> Option<Kind> {
+    match digit {
+        '0' => Some(Kind::Locking),
+        '1' => Some(Kind::Validating),
+        _ => None,
+    }
+}
+
+/// A number in decimal digits, within its type.
+fn number<T: std::str::FromStr>(word: &str) -> Option<T> {
+    let digits = word.bytes().all(|byte| byte.is_ascii_digit());
+    word.parse().ok().filter(|_| digits)
+}
+
+fn station(word: &str) -> Option<u8> {
+    number(word).filter(|station| usize::from(*station) < STATIONS)
+}
+
+fn latest_numbers(words: &[&str]) -> Option<[u32; STATIONS]> {
+    let latest: Option<Vec<u32>> = words.iter().map(|word| number(word)).collect();
+    latest?.try_into().ok()
+}
+
+fn bytes_of(hex: &str) -> Option<Vec<u8>> {
+    if hex == "-" {
+        return Some(Vec::new());
+    }
+    let digits: Option<Vec<u32>> = hex.chars().map(|digit| digit.to_digit(16)).collect();
+    let digits = digits.filter(|digits| digits.len() % 2 == 0)?;
+    let byte = |pair: &[u32]| (pair[0] * 16 + pair[1]) as u8;
+    Some(digits.chunks_exact(2).map(byte).collect())
+}
+
+fn hex(bytes: &[u8]) -> String {
+    const DIGITS: &[u8; 16] = b"0123456789abcdef";
+    let mut text = String::with_capacity(2 * bytes.len());
+    for byte in bytes {
+        text.push(char::from(DIGITS[usize::from(byte >> 4)]));
+        text.push(char::from(DIGITS[usize::from(byte & 15)]));
+    }
+    text
+}
+
+fn hex_or_none(bytes: &[u8]) -> String {
+    if bytes.is_empty() {
+        return String::from("-");
+    }
+    hex(bytes)
+}
+
+impl Display for Call {
+    fn fmt(&self, f: &mut Formatter<'_>) -> fmt::Result {
+        match self {
+            Call::Fresh(kinds) => {
+                f.write_str("fresh ")?;
+                kinds
+                    .iter()
+                    .try_for_each(|kind| write!(f, "{}", *kind as u8))
+            }
+            Call::Numbers(last, latest) => {
+                write!(f, "numbers {last}")?;
+                latest.iter().try_for_each(|number| write!(f, " {number}"))
+            }
+            Call::Begin(s) => write!(f, "begin {s}"),
+            Call::Read(s, address) => write!(f, "read {s} {address}"),
+            Call::Write(s, address, value) => write!(f, "write {s} {address} {value}"),
+            Call::Commit(s) => write!(f, "commit {s}"),
+            Call::Abort(s) => write!(f, "abort {s}"),
+            Call::Purge(s, page) => write!(f, "purge {s} {page}"),
+            Call::Server(s) => write!(f, "server {s}"),
+            Call::Station(s) => write!(f, "station {s}"),
+            Call::ServerRaw(bytes) => write!(f, "serverraw {}", hex_or_none(bytes)),
+            Call::StationRaw(s, bytes) => write!(f, "stationraw {s} {}", hex_or_none(bytes)),
+        }
+    }
+}
+
+impl Display for Reply {
+    fn fmt(&self, f: &mut Formatter<'_>) -> fmt::Result {
+        match self {
+            Reply::Ready => f.write_str("ok"),
+            Reply::Misplaced => f.write_str("error"),
+            Reply::Empty => f.write_str("empty"),
+            Reply::Refused(number) => write!(f, "refused {}", *number as u8),
+            Reply::Accepted(outcome) => outcome.fmt(f),
+        }
+    }
+}
+
+impl Display for Outcome {
+    fn fmt(&self, f: &mut Formatter<'_>) -> fmt::Result {
+        write!(
+            f,
+            "ok {} msgs {} recs {}",
+            self.answer,
+            list(&self.sent),
+            list(&self.records)
+        )
+    }
+}
+
+fn list(strings: &[Vec<u8>]) -> String {
+    if strings.is_empty() {
+        return String::from("-");
+    }
+    let strings: Vec<String> = strings.iter().map(|bytes| hex(bytes)).collect();
+    strings.join(",")
+}
+
+impl Display for Answer {
+    fn fmt(&self, f: &mut Formatter<'_>) -> fmt::Result {
+        match self {
+            Answer::Begun(transaction) => write!(f, "begun {transaction}"),
+            Answer::Value(value) => write!(f, "value {value}"),
+            Answer::Waits => f.write_str("waits"),
+            Answer::Written => f.write_str("written"),
+            Answer::Committed(commit) => write!(f, "committed {commit}"),
+            Answer::Dropped => f.write_str("aborted"),
+            Answer::Aborted(cause) => write!(f, "aborted {}", *cause as u8),
+            Answer::Purged => f.write_str("purged"),
+            Answer::Nothing => f.write_str("none"),
+        }
+    }
+}
+
+/// A line driven by commands; there is none before the first `fresh`.
+#[derive(Default)]
+pub struct Driver {
+    world: Option<World>,
+}
+
+impl Driver {
+    /// The reply to one command, without its line end.
+    pub fn reply(&mut self, command: &str) -> String {
+        let reply = match (Call::parse(command), &mut self.world) {
+            (Some(Call::Fresh(kinds)), world) => {
+                *world = Some(World::fresh(kinds));
+                Reply::Ready
+            }
+            (Some(call), Some(world)) => world.call(&call),
+            _ => Reply::Misplaced,
+        };
+        reply.to_string()
+    }
+}
+
+/// Calls as commands, a line each.
+pub fn script(calls: &[Call]) -> String {
+    calls.iter().fold(String::new(), |mut text, call| {
+        let _ = writeln!(text, "{call}");
+        text
+    })
+}

@@ -1,0 +1,353 @@
+//! A line under watch: every call is checked as it is made, and the whole line when it is drained.
+
+use super::call::Call;
+use super::counts::Counts;
+use super::message::{Down, Up};
+use super::server::{Server, Step, Victim, WaitsFor};
+use super::sets::{page_of, rising, StationSet, STATIONS};
+use super::station::Station;
+use super::truth::{self, Ended};
+use super::world::{Outcome, Reply, World};
+use super::{Kind, Number};
+
+/// "128 messages and 36,992 record bytes (server), 8 messages ... (station)"; the readings count 104.
+const MOST_BY_SERVER: usize = 104;
+const MOST_RECORDS: usize = 8;
+const MOST_BY_STATION: usize = 8;
+
+/// A check that failed.
+#[derive(Clone, Debug, PartialEq, Eq)]
+pub struct Failure {
+    pub check: &'static str,
+    pub detail: String,
+}
+
+fn failed<T>(check: &'static str, detail: impl Into<String>) -> Result<T, Failure> {
+    Err(Failure {
+        check,
+        detail: detail.into(),
+    })
+}
+
+/// How closely a run is watched.
+#[derive(Clone, Copy, Debug, PartialEq, Eq)]
+pub enum Watch {
+    Plain,
+    /// The end called is compared before and after each refusal.
+    Compare,
+}
+
+pub struct Watched<'a> {
+    pub world: World,
+    pub counts: &'a mut Counts,
+    watch: Watch,
+    /// No raw message was accepted: both ends kept the rules.
+    honest: bool,
+    first_messages: FirstMessages,
+}
+
+/// The end that a call is made at, as it was before.
+#[allow(clippy::large_enum_variant)]
+enum Before {
+    NotKept,
+    Server(Server),
+    Station(Station),
+}
+
+/// "the server saw its transaction's first message later": by station, its latest transaction and that order.
+#[derive(Default)]
+struct FirstMessages {
+    by_station: [(u32, u64); STATIONS],
+    seen: u64,
+}
+
+impl FirstMessages {
+    fn note(&mut self, message: &[u8]) {
+        if (1..=4).contains(&message[0]) {
+            let station = message[1] as usize;
+            let transaction = u32::from_le_bytes(message[4..8].try_into().unwrap());
+            if self.by_station[station].0 != transaction {
+                self.seen += 1;
+                self.by_station[station] = (transaction, self.seen);
+            }
+        }
+    }
+
+    fn youngest(&self, stations: StationSet) -> Option<u8> {
+        rising(stations).max_by_key(|station| self.by_station[*station as usize].1)
+    }
+}
+
+impl<'a> Watched<'a> {
+    pub fn new(kinds: [Kind; STATIONS], watch: Watch, counts: &'a mut Counts) -> Watched<'a> {
+        counts.runs += 1;
+        Watched {
+            world: World::fresh(kinds),
+            counts,
+            watch,
+            honest: true,
+            first_messages: FirstMessages::default(),
+        }
+    }
+
+    pub fn honest(&self) -> bool {
+        self.honest
+    }
+
+    /// One call, with all its checks.
+    pub fn make(&mut self, call: &Call) -> Result<Reply, Failure> {
+        let before = self.before(call);
+        let taken = self.message_of(call);
+        let reply = self.world.call(call);
+        self.counts
+            .note(call, taken.as_deref(), &reply, &self.world);
+        match &reply {
+            Reply::Refused(number) => self.refused(call, *number, before)?,
+            Reply::Accepted(outcome) => {
+                self.sent_fits(call, outcome)?;
+                if let Call::Server(_) | Call::ServerRaw(_) = call {
+                    self.first_messages.note(&taken.unwrap_or_default());
+                    self.server_stepped(outcome)?;
+                }
+                self.honest &= !matches!(call, Call::ServerRaw(_) | Call::StationRaw(..));
+            }
+            Reply::Ready | Reply::Misplaced | Reply::Empty => (),
+        }
+        Ok(reply)
+    }
+
+    fn before(&self, call: &Call) -> Before {
+        if self.watch == Watch::Plain {
+            return Before::NotKept;
+        }
+        match call {
+            Call::Server(_) | Call::ServerRaw(_) => Before::Server(self.world.server.clone()),
+            _ => owner_of(call).map_or(Before::NotKept, |station| {
+                Before::Station(self.world.stations[station as usize].clone())
+            }),
+        }
+    }
+
+    fn message_of(&self, call: &Call) -> Option<Vec<u8>> {
+        match call {
+            Call::Server(station) => self.world.first_up(*station).map(<[u8]>::to_vec),
+            Call::Station(station) => self.world.first_down(*station).map(<[u8]>::to_vec),
+            Call::ServerRaw(bytes) | Call::StationRaw(_, bytes) => Some(bytes.clone()),
+            _ => None,
+        }
+    }
+
+    /// "Refused calls answer the number, send nothing and change no state".
+    fn refused(&self, call: &Call, number: Number, before: Before) -> Result<(), Failure> {
+        let same = match before {
+            Before::NotKept => true,
+            Before::Server(server) => server == self.world.server,
+            Before::Station(station) => {
+                owner_of(call).is_some_and(|number| station == self.world.stations[number as usize])
+            }
+        };
+        if !same {
+            return failed("a refusal changes nothing", call.to_string());
+        }
+        if !may_refuse(call).contains(&(number as u8)) {
+            return failed(
+                "a refusal's number is in range",
+                format!("{call}: {number:?}"),
+            );
+        }
+        let from_line = matches!(call, Call::Server(_) | Call::Station(_));
+        if self.honest && from_line {
+            return failed(
+                "no message between rule-keeping ends is refused",
+                format!("{call}: {number:?}, {:02x?}", self.message_of(call)),
+            );
+        }
+        Ok(())
+    }
+
+    /// How much is sent, and that each message passes the other end's numbers 2 to 5.
+    fn sent_fits(&self, call: &Call, outcome: &Outcome) -> Result<(), Failure> {
+        let by_server = matches!(call, Call::Server(_) | Call::ServerRaw(_));
+        let most = if by_server {
+            MOST_BY_SERVER
+        } else {
+            MOST_BY_STATION
+        };
+        if outcome.sent.len() > most || outcome.records.len() > MOST_RECORDS {
+            let detail = format!("{} and {}", outcome.sent.len(), outcome.records.len());
+            return failed("a step sends no more than its buffers hold", detail);
+        }
+        for message in &outcome.sent {
+            let decoded = if by_server {
+                Down::decode(message, message[1]).map(|(station, _)| station)
+            } else {
+                Up::decode(message, &self.world.kinds).map(|(station, _)| station)
+            };
+            if decoded != Ok(message[1]) {
+                let detail = format!("{decoded:?}: {message:02x?}");
+                return failed("every message sent decodes at the other end", detail);
+            }
+        }
+        Ok(())
+    }
+
+    fn server_stepped(&self, outcome: &Outcome) -> Result<(), Failure> {
+        for victim in &outcome.victims {
+            self.victim_fits(victim)?;
+        }
+        let waits_for = self.world.server.waits_for();
+        if on_cycles(&waits_for) != 0 {
+            let detail = format!("{waits_for:02x?}");
+            return failed("no waits-for cycle is left", detail);
+        }
+        match self.watch {
+            Watch::Plain => Ok(()),
+            Watch::Compare => self.pass_rests(),
+        }
+    }
+
+    /// "repeated until nothing changes": a message that says nothing then does nothing.
+    fn pass_rests(&self) -> Result<(), Failure> {
+        let locking = |kind: &Kind| *kind == Kind::Locking;
+        let Some(station) = self.world.kinds.iter().position(locking) else {
+            return Ok(());
+        };
+        // reading 3: a 6 that names its own sender answers no open 20
+        let idle = Up::Busy {
+            requester: station as u8,
+            transaction: 1,
+        };
+        let mut again = self.world.server.clone();
+        match again.step(&idle.encode(station as u8)) {
+            Ok(step) if step == Step::default() && again == self.world.server => Ok(()),
+            other => failed("the pass rests", format!("{other:?}")),
+        }
+    }
+
+    /// "the youngest in any cycle gets 22"
+    fn victim_fits(&self, victim: &Victim) -> Result<(), Failure> {
+        let on_cycles = on_cycles(&victim.waits_for);
+        if self.first_messages.youngest(on_cycles) == Some(victim.station) {
+            return Ok(());
+        }
+        let detail = format!("{victim:?} of {on_cycles:08b}");
+        failed("a victim is the youngest on a cycle", detail)
+    }
+
+    /// With every line empty both ends agree, and nobody waits for what can be served.
+    pub fn at_rest(&self) -> Result<(), Failure> {
+        let server = &self.world.server;
+        let waits_for = server.waits_for();
+        for (number, station) in self.world.stations.iter().enumerate() {
+            let waiting = server.waiters() >> number & 1 == 1;
+            if station.waits() != waiting || !self.ends_agree(number as u8, station) {
+                let detail = format!("station {number}'s wait, locks or pages");
+                return failed("both ends agree at rest", detail);
+            }
+            if waiting && waits_for[number] == 0 {
+                let detail = format!("station {number} waits behind nobody");
+                return failed("everything drains", detail);
+            }
+        }
+        Ok(())
+    }
+
+    /// Locks are the same; a locking station is listed for just what it has, a validating one at least for that.
+    fn ends_agree(&self, number: u8, station: &Station) -> bool {
+        let server = &self.world.server;
+        let listed = server.listed(number);
+        let cached = station.cached();
+        let pages_agree = match station.kind() {
+            Kind::Locking => cached == listed,
+            Kind::Validating => cached & !listed == 0,
+        };
+        station.locks() == server.locks(number) && pages_agree
+    }
+
+    /// Everybody's transaction is over and every line is empty.
+    pub fn at_end(&mut self) -> Result<(), Failure> {
+        self.nothing_left()?;
+        let world = &self.world;
+        let ended = Ended {
+            kinds: world.kinds,
+            started_after: world.started_after,
+            owners: &world.owners,
+            archive: &world.archive,
+            values: world.server.values(),
+            versions: world.server.versions(),
+        };
+        if let Err(detail) = truth::check(&ended) {
+            return failed("demand 3", detail);
+        }
+        self.copies_are_current()?;
+        self.counts.claimed += 1;
+        Ok(())
+    }
+
+    fn nothing_left(&self) -> Result<(), Failure> {
+        let world = &self.world;
+        let waits = |station: &Station| station.waits() || station.is_open() || station.has_kept();
+        if let Some(number) = world.stations.iter().position(waits) {
+            let detail = format!("station {number} still waits or keeps a callback");
+            return failed("everything drains", detail);
+        }
+        Ok(())
+    }
+
+    /// What a station would read locally is what the server has.
+    fn copies_are_current(&self) -> Result<(), Failure> {
+        let server = &self.world.server;
+        for (number, station) in self.world.stations.iter().enumerate() {
+            let validating = station.kind() == Kind::Validating;
+            for (address, version, value) in station.copies() {
+                let current = server.versions()[page_of(address) as usize];
+                let stale = validating && version != current;
+                if value != server.values()[address as usize] || stale {
+                    let detail = format!("station {number}, address {address}: {value}");
+                    return failed("an available copy is the server's value", detail);
+                }
+            }
+        }
+        Ok(())
+    }
+}
+
+/// The station whose state a call may change.
+fn owner_of(call: &Call) -> Option<u8> {
+    match call {
+        Call::Begin(station)
+        | Call::Read(station, _)
+        | Call::Write(station, _, _)
+        | Call::Commit(station)
+        | Call::Abort(station)
+        | Call::Purge(station, _)
+        | Call::Station(station)
+        | Call::StationRaw(station, _) => Some(*station),
+        _ => None,
+    }
+}
+
+/// The numbers that document 01's list gives each call.
+fn may_refuse(call: &Call) -> &'static [u8] {
+    match call {
+        Call::Begin(_) => &[7, 9, 11],
+        Call::Read(..) | Call::Write(..) | Call::Commit(_) | Call::Abort(_) => &[7, 8],
+        Call::Purge(..) => &[4, 7, 10],
+        Call::Server(_) | Call::ServerRaw(_) => &[2, 3, 4, 5, 6],
+        Call::Station(_) | Call::StationRaw(..) => &[2, 3, 4, 6],
+        Call::Fresh(_) | Call::Numbers(..) => &[],
+    }
+}
+
+/// Stations on a cycle, from the transitive closure.
+fn on_cycles(edges: &WaitsFor) -> StationSet {
+    let mut reach = *edges;
+    for middle in 0..STATIONS {
+        for from in 0..STATIONS {
+            if reach[from] >> middle & 1 == 1 {
+                reach[from] |= reach[middle];
+            }
+        }
+    }
+    (0..STATIONS).fold(0, |set, station| set | (reach[station] & 1 << station))
+}

@@ -1,0 +1,169 @@
+//! What the runs reached: kinds, causes, numbers, victims, lengths.
+
+use super::call::Call;
+use super::world::{Outcome, Reply, World};
+use super::Answer;
+use std::fmt::{self, Display, Formatter};
+
+#[derive(Clone, Debug, Default, PartialEq, Eq)]
+pub struct Counts {
+    pub runs: u64,
+    /// Runs to whose end demand 3 was claimed and held.
+    pub claimed: u64,
+    pub calls: u64,
+    /// Messages sent, by kind.
+    pub kinds: [u64; 24],
+    /// 22s by cause.
+    pub causes: [u64; 5],
+    /// Transactions ended by 23.
+    pub ended_by_23: u64,
+    /// 16s for a transaction that is over.
+    pub ignored_16: u64,
+    /// Refusals of owners' calls, by number.
+    pub owners_numbers: [u64; 12],
+    /// Refusals of raw messages at the server and at a station, by number.
+    pub server_numbers: [u64; 12],
+    pub station_numbers: [u64; 12],
+    pub raw_accepted: u64,
+    pub victims: u64,
+    /// Steps with more than one victim.
+    pub steps_with_victims: u64,
+    pub records: u64,
+    /// 8s with an empty set.
+    pub empty_8: u64,
+    /// 16s to 18s with unavailable objects.
+    pub with_unavailable: u64,
+    /// 7s that drop no page.
+    pub dropping_nothing: u64,
+    pub longest_line: usize,
+    pub longest_list: usize,
+    pub most_sent_by_server: usize,
+    pub most_sent_by_station: usize,
+    pub most_records: usize,
+}
+
+impl Counts {
+    /// A call, the message that it took or was given, and what it came to.
+    pub fn note(&mut self, call: &Call, taken: Option<&[u8]>, reply: &Reply, world: &World) {
+        self.calls += 1;
+        match reply {
+            Reply::Refused(number) => self.numbers_of(call)[*number as usize] += 1,
+            Reply::Accepted(outcome) => {
+                self.accepted(call, outcome, world);
+                self.taken(taken.and_then(<[u8]>::first).copied(), outcome.answer);
+            }
+            Reply::Ready | Reply::Misplaced | Reply::Empty => (),
+        }
+    }
+
+    fn taken(&mut self, kind: Option<u8>, answer: Answer) {
+        match (kind, answer) {
+            (Some(23), Answer::Aborted(_)) => self.ended_by_23 += 1,
+            (Some(16), Answer::Nothing) => self.ignored_16 += 1,
+            _ => (),
+        }
+    }
+
+    fn numbers_of(&mut self, call: &Call) -> &mut [u64; 12] {
+        match call {
+            Call::Server(_) | Call::ServerRaw(_) => &mut self.server_numbers,
+            Call::Station(_) | Call::StationRaw(..) => &mut self.station_numbers,
+            _ => &mut self.owners_numbers,
+        }
+    }
+
+    fn accepted(&mut self, call: &Call, outcome: &Outcome, world: &World) {
+        self.raw_accepted += u64::from(matches!(call, Call::ServerRaw(_) | Call::StationRaw(..)));
+        self.records += outcome.records.len() as u64;
+        self.victims += outcome.victims.len() as u64;
+        self.steps_with_victims += u64::from(outcome.victims.len() > 1);
+        self.most_records = self.most_records.max(outcome.records.len());
+        let at_server = matches!(call, Call::Server(_) | Call::ServerRaw(_));
+        let most = if at_server {
+            &mut self.most_sent_by_server
+        } else {
+            &mut self.most_sent_by_station
+        };
+        *most = (*most).max(outcome.sent.len());
+        if at_server {
+            let waiting = world.server.waiters().count_ones() as usize;
+            self.longest_list = self.longest_list.max(waiting);
+        }
+        for message in &outcome.sent {
+            self.sent(message, world);
+        }
+    }
+
+    fn sent(&mut self, message: &[u8], world: &World) {
+        let kind = message[0];
+        let station = message[1];
+        self.kinds[kind as usize] += 1;
+        match kind {
+            22 => self.causes[message[3] as usize] += 1,
+            8 => self.empty_8 += u64::from(message[16] == 0),
+            7 => self.dropping_nothing += u64::from(message[8..12] == [0; 4]),
+            16..=18 => self.with_unavailable += u64::from(message[16] != 0),
+            _ => (),
+        }
+        let length = world.up_length(station).max(world.down_length(station));
+        self.longest_line = self.longest_line.max(length);
+    }
+
+    /// The first thing that was not reached, of all that a batch must reach.
+    pub fn missing(&self) -> Option<String> {
+        let raw = |number: usize| self.server_numbers[number] + self.station_numbers[number];
+        let kinds = (1..=8)
+            .chain(16..=23)
+            .map(|kind| (self.kinds[kind], "kind", kind));
+        let causes = (1..=4).map(|cause| (self.causes[cause], "cause", cause));
+        let owners = (7..=11).map(|n| (self.owners_numbers[n], "owners' number", n));
+        let raws = (2..=6).map(|n| (raw(n), "messages' number", n));
+        let all = kinds.chain(causes).chain(owners).chain(raws);
+        all.filter(|(count, _, _)| *count == 0)
+            .map(|(_, what, n)| format!("{what} {n}"))
+            .next()
+    }
+}
+
+impl Display for Counts {
+    fn fmt(&self, f: &mut Formatter<'_>) -> fmt::Result {
+        writeln!(
+            f,
+            "{} runs ({} claiming demand 3), {} calls, {} commits, {} victims ({} steps with several)",
+            self.runs, self.claimed, self.calls, self.records, self.victims, self.steps_with_victims
+        )?;
+        row(f, "sent up", &self.kinds, 1..=8)?;
+        row(f, "sent down", &self.kinds, 16..=23)?;
+        row(f, "22 by cause", &self.causes, 1..=4)?;
+        row(f, "owners refused", &self.owners_numbers, 4..=11)?;
+        row(f, "server refused", &self.server_numbers, 2..=6)?;
+        row(f, "stations refused", &self.station_numbers, 2..=6)?;
+        writeln!(
+            f,
+            "ended by 23: {}, 16 ignored: {}, 8 empty: {}, 7 dropping nothing: {}, pages with unavailable objects: {}, raw accepted: {}",
+            self.ended_by_23, self.ignored_16, self.empty_8, self.dropping_nothing, self.with_unavailable, self.raw_accepted
+        )?;
+        write!(
+            f,
+            "longest line {}, longest waiting list {}, most in one step: server {} messages and {} records, station {}",
+            self.longest_line,
+            self.longest_list,
+            self.most_sent_by_server,
+            self.most_records,
+            self.most_sent_by_station
+        )
+    }
+}
+
+fn row(
+    f: &mut Formatter<'_>,
+    name: &str,
+    counts: &[u64],
+    range: std::ops::RangeInclusive<usize>,
+) -> fmt::Result {
+    write!(f, "{name}:")?;
+    for n in range {
+        write!(f, "  {n}: {}", counts[n])?;
+    }
+    writeln!(f)
+}

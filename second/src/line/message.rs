@@ -1,0 +1,630 @@
+//! Messages up and down: their bytes, and numbers 2 to 5.
+
+use super::sets::{address, object_of, page_bit, page_of, Addresses, PageSet};
+use super::sets::{ObjectSet, OBJECTS, PAGES, STATIONS};
+use super::{Cause, Kind, Number};
+use crate::record::{self, Record};
+
+/// "Messages, 112 bytes"
+pub const LENGTH: usize = 112;
+/// "A commit is followed by 32 versions of 4 bytes": 240 bytes before its record.
+pub const BEFORE_RECORD: usize = LENGTH + 4 * PAGES;
+
+const COMMIT: u8 = 3;
+
+/// What a station sends: "Kinds 1 to 8 go to the server".
+#[derive(Clone, Debug, PartialEq, Eq)]
+pub enum Up {
+    Read {
+        address: u8,
+        transaction: u32,
+    },
+    Write {
+        address: u8,
+        transaction: u32,
+    },
+    Commit(Box<Commit>),
+    Abort {
+        transaction: u32,
+    },
+    Purge {
+        page: u8,
+    },
+    Busy {
+        requester: u8,
+        transaction: u32,
+    },
+    Done {
+        requester: u8,
+        transaction: u32,
+        dropped: PageSet,
+    },
+    WrittenSet {
+        page: u8,
+        transaction: u32,
+        written: ObjectSet,
+    },
+}
+
+/// A commit: its page set, versions and record; station and transaction stand in the record.
+#[derive(Clone, Debug, PartialEq, Eq)]
+pub struct Commit {
+    pub used: PageSet,
+    pub versions: [u32; PAGES],
+    pub record: Record,
+}
+
+/// What the server sends: "and 16 to 23 to stations".
+#[derive(Clone, Debug, PartialEq, Eq)]
+pub enum Down {
+    Page(PageMessage),
+    DeEscalate {
+        page: u8,
+        transaction: u32,
+    },
+    Callback {
+        requester: u8,
+        transaction: u32,
+        objects: Addresses,
+    },
+    Committed {
+        transaction: u32,
+        commit: u32,
+    },
+    Aborted {
+        transaction: u32,
+        cause: Cause,
+    },
+    Invalidate {
+        pages: PageSet,
+    },
+}
+
+/// 16, 17 or 18.
+#[derive(Clone, Debug, PartialEq, Eq)]
+pub struct PageMessage {
+    pub grant: Grant,
+    pub address: u8,
+    pub transaction: u32,
+    pub version: u32,
+    pub unavailable: ObjectSet,
+    pub values: [u64; OBJECTS],
+}
+
+/// The lock that comes with a page.
+#[derive(Clone, Copy, Debug, PartialEq, Eq)]
+#[repr(u8)]
+pub enum Grant {
+    Page = 16,
+    Object = 17,
+    Whole = 18,
+}
+
+/// "Byte 0 kind, 1 station on the line, 2 page or requester, 3 object or cause, 4–7 transaction, 8–11 page set,
+/// 12–15 version or commit number, 16–47 object sets by page, 48–111 eight values."
+#[derive(Clone, Debug, Default, PartialEq, Eq)]
+struct Fields {
+    kind: u8,
+    station: u8,
+    byte_2: u8,
+    byte_3: u8,
+    transaction: u32,
+    pages: u32,
+    number: u32,
+    sets: [u8; PAGES],
+    values: [u64; OBJECTS],
+}
+
+/// Which fields a kind names, and as what.
+struct Names {
+    byte_2: Second,
+    byte_3: Third,
+    transaction: bool,
+    pages: bool,
+    number: Numbered,
+    sets: Sets,
+    values: bool,
+}
+
+#[derive(PartialEq)]
+enum Second {
+    Unnamed,
+    Page,
+    Requester,
+}
+
+#[derive(PartialEq)]
+enum Third {
+    Unnamed,
+    Object,
+    Cause,
+}
+
+#[derive(PartialEq)]
+enum Numbered {
+    Unnamed,
+    Version,
+    Commit,
+}
+
+#[derive(PartialEq)]
+enum Sets {
+    Unnamed,
+    /// "one set of a single page: byte 16"
+    One,
+    ByPage,
+}
+
+const NOTHING: Names = Names {
+    byte_2: Second::Unnamed,
+    byte_3: Third::Unnamed,
+    transaction: false,
+    pages: false,
+    number: Numbered::Unnamed,
+    sets: Sets::Unnamed,
+    values: false,
+};
+
+const TRANSACTION: Names = Names {
+    transaction: true,
+    ..NOTHING
+};
+
+/// The list of kinds, up and down, with what each names.
+fn names(kind: u8) -> Option<Names> {
+    Some(match kind {
+        1 | 2 => Names {
+            byte_2: Second::Page,
+            byte_3: Third::Object,
+            ..TRANSACTION
+        },
+        3 => Names {
+            pages: true,
+            ..TRANSACTION
+        },
+        4 => TRANSACTION,
+        5 => Names {
+            byte_2: Second::Page,
+            ..NOTHING
+        },
+        6 => Names {
+            byte_2: Second::Requester,
+            ..TRANSACTION
+        },
+        7 => Names {
+            byte_2: Second::Requester,
+            pages: true,
+            ..TRANSACTION
+        },
+        8 => Names {
+            byte_2: Second::Page,
+            sets: Sets::One,
+            ..TRANSACTION
+        },
+        16..=18 => Names {
+            byte_2: Second::Page,
+            byte_3: Third::Object,
+            number: Numbered::Version,
+            sets: Sets::One,
+            values: true,
+            ..TRANSACTION
+        },
+        19 => Names {
+            byte_2: Second::Page,
+            ..TRANSACTION
+        },
+        20 => Names {
+            byte_2: Second::Requester,
+            sets: Sets::ByPage,
+            ..TRANSACTION
+        },
+        21 => Names {
+            number: Numbered::Commit,
+            ..TRANSACTION
+        },
+        22 => Names {
+            byte_3: Third::Cause,
+            ..TRANSACTION
+        },
+        23 => Names {
+            pages: true,
+            ..NOTHING
+        },
+        _ => return None,
+    })
+}
+
+impl Names {
+    /// Number 4, all but a callback's requester.
+    fn fit(&self, fields: &Fields) -> bool {
+        let byte_2 = match self.byte_2 {
+            Second::Unnamed => fields.byte_2 == 0,
+            Second::Page => usize::from(fields.byte_2) < PAGES,
+            Second::Requester => usize::from(fields.byte_2) < STATIONS,
+        };
+        let byte_3 = match self.byte_3 {
+            Third::Unnamed => fields.byte_3 == 0,
+            Third::Object => usize::from(fields.byte_3) < OBJECTS,
+            Third::Cause => Cause::of(fields.byte_3).is_some(),
+        };
+        // reading 2: "Version 0 is allowed in 16 to 18"
+        let number = match self.number {
+            Numbered::Unnamed => fields.number == 0,
+            Numbered::Version => true,
+            Numbered::Commit => fields.number != 0,
+        };
+        // reading 4: "Bytes 17 to 47 are unnamed, so 0, where a kind names one set of a single page"
+        let sets = match self.sets {
+            Sets::Unnamed => fields.sets == [0; PAGES],
+            Sets::One => fields.sets[1..] == [0; PAGES - 1],
+            Sets::ByPage => true,
+        };
+        usize::from(fields.station) < STATIONS
+            && byte_2
+            && byte_3
+            && (fields.transaction != 0) == self.transaction
+            && (self.pages || fields.pages == 0)
+            && number
+            && sets
+            && (self.values || fields.values == [0; OBJECTS])
+    }
+}
+
+impl Fields {
+    fn read(bytes: &[u8; LENGTH]) -> Fields {
+        let word = |at: usize| u32::from_le_bytes(bytes[at..at + 4].try_into().unwrap());
+        let long = |at: usize| u64::from_le_bytes(bytes[at..at + 8].try_into().unwrap());
+        Fields {
+            kind: bytes[0],
+            station: bytes[1],
+            byte_2: bytes[2],
+            byte_3: bytes[3],
+            transaction: word(4),
+            pages: word(8),
+            number: word(12),
+            sets: bytes[16..48].try_into().unwrap(),
+            values: std::array::from_fn(|i| long(48 + 8 * i)),
+        }
+    }
+
+    fn bytes(&self) -> Vec<u8> {
+        let mut bytes = Vec::with_capacity(LENGTH);
+        bytes.extend([self.kind, self.station, self.byte_2, self.byte_3]);
+        bytes.extend(self.transaction.to_le_bytes());
+        bytes.extend(self.pages.to_le_bytes());
+        bytes.extend(self.number.to_le_bytes());
+        bytes.extend(self.sets);
+        for value in self.values {
+            bytes.extend(value.to_le_bytes());
+        }
+        bytes
+    }
+
+    /// "The set of a single page" stands in byte 16.
+    fn one_set(set: ObjectSet) -> [u8; PAGES] {
+        let mut sets = [0; PAGES];
+        sets[0] = set;
+        sets
+    }
+
+    fn address(&self) -> u8 {
+        address(self.byte_2, self.byte_3)
+    }
+
+    /// Page, object and transaction of a request or a page.
+    fn on_object(kind: u8, address: u8, transaction: u32) -> Fields {
+        Fields {
+            kind,
+            byte_2: page_of(address),
+            byte_3: object_of(address),
+            transaction,
+            ..Fields::default()
+        }
+    }
+
+    /// Page or requester, and a transaction.
+    fn with_second(kind: u8, byte_2: u8, transaction: u32) -> Fields {
+        Fields {
+            kind,
+            byte_2,
+            transaction,
+            ..Fields::default()
+        }
+    }
+}
+
+/// "Length: a message isn't 112 bytes, or a commit isn't 240 and its record's length"; reading 1.
+fn length_fits(bytes: &[u8]) -> bool {
+    match bytes.first() {
+        None => false,
+        Some(&COMMIT) => {
+            let record = bytes.get(BEFORE_RECORD..).unwrap_or(&[]);
+            record::claimed_length(record) == Some(record.len())
+        }
+        Some(_) => bytes.len() == LENGTH,
+    }
+}
+
+/// Numbers 2, 3 and 4, for an end that takes these kinds.
+fn fields_of(bytes: &[u8], taken: std::ops::RangeInclusive<u8>) -> Result<Fields, Number> {
+    if !length_fits(bytes) {
+        return Err(Number::Length);
+    }
+    let fields = Fields::read(bytes.first_chunk().expect("112 bytes or more"));
+    let names = names(fields.kind).filter(|_| taken.contains(&fields.kind));
+    if !names.ok_or(Number::Kind)?.fit(&fields) {
+        return Err(Number::Range);
+    }
+    Ok(fields)
+}
+
+impl Up {
+    /// The sender and its message; numbers 2 to 5.
+    pub fn decode(bytes: &[u8], kinds: &[Kind; STATIONS]) -> Result<(u8, Up), Number> {
+        let fields = fields_of(bytes, 1..=8)?;
+        let transaction = fields.transaction;
+        let message = match fields.kind {
+            1 => Up::Read {
+                address: fields.address(),
+                transaction,
+            },
+            2 => Up::Write {
+                address: fields.address(),
+                transaction,
+            },
+            COMMIT => {
+                let kind = kinds[fields.station as usize];
+                Up::Commit(Box::new(Commit::decode(&fields, bytes, kind)?))
+            }
+            4 => Up::Abort { transaction },
+            5 => Up::Purge {
+                page: fields.byte_2,
+            },
+            6 => Up::Busy {
+                requester: fields.byte_2,
+                transaction,
+            },
+            7 => Up::Done {
+                requester: fields.byte_2,
+                transaction,
+                dropped: fields.pages,
+            },
+            _ => Up::WrittenSet {
+                page: fields.byte_2,
+                transaction,
+                written: fields.sets[0],
+            },
+        };
+        Ok((fields.station, message))
+    }
+
+    pub fn encode(&self, station: u8) -> Vec<u8> {
+        let mut bytes = Fields {
+            station,
+            ..self.fields()
+        }
+        .bytes();
+        if let Up::Commit(commit) = self {
+            commit.append(&mut bytes);
+        }
+        bytes
+    }
+
+    fn fields(&self) -> Fields {
+        match *self {
+            Up::Read {
+                address,
+                transaction,
+            } => Fields::on_object(1, address, transaction),
+            Up::Write {
+                address,
+                transaction,
+            } => Fields::on_object(2, address, transaction),
+            Up::Commit(ref commit) => Fields {
+                kind: COMMIT,
+                transaction: commit.record.transaction,
+                pages: commit.used,
+                ..Fields::default()
+            },
+            Up::Abort { transaction } => Fields::with_second(4, 0, transaction),
+            Up::Purge { page } => Fields::with_second(5, page, 0),
+            Up::Busy {
+                requester,
+                transaction,
+            } => Fields::with_second(6, requester, transaction),
+            Up::Done {
+                requester,
+                transaction,
+                dropped,
+            } => Fields {
+                pages: dropped,
+                ..Fields::with_second(7, requester, transaction)
+            },
+            Up::WrittenSet {
+                page,
+                transaction,
+                written,
+            } => Fields {
+                sets: Fields::one_set(written),
+                ..Fields::with_second(8, page, transaction)
+            },
+        }
+    }
+
+    /// The transaction of a 1, 2, 3 or 4: the sender's own.
+    pub fn own_transaction(&self) -> Option<u32> {
+        match self {
+            Up::Read { transaction, .. }
+            | Up::Write { transaction, .. }
+            | Up::Abort { transaction } => Some(*transaction),
+            Up::Commit(commit) => Some(commit.record.transaction),
+            _ => None,
+        }
+    }
+}
+
+impl Commit {
+    /// Number 5: "the layout is broken ..., a version that must be 0 isn't, or a commit's record disagrees with
+    /// message or server on station, kind, transaction or pages used".
+    fn decode(fields: &Fields, bytes: &[u8], kind: Kind) -> Result<Commit, Number> {
+        let (before, record) = bytes.split_at(BEFORE_RECORD);
+        let commit = Commit {
+            used: fields.pages,
+            versions: versions_of(&before[LENGTH..]),
+            record: Record::decode(record).map_err(|_| Number::Record)?,
+        };
+        if commit.agrees(fields, kind) && commit.versions_fit(kind) {
+            Ok(commit)
+        } else {
+            Err(Number::Record)
+        }
+    }
+
+    fn agrees(&self, fields: &Fields, kind: Kind) -> bool {
+        // "commit number (4; 0 on the way up)"
+        self.record.commit == 0
+            && self.record.station == fields.station
+            && self.record.kind == kind as u8
+            && self.record.transaction == fields.transaction
+            && self.wanted().pages() == self.used
+    }
+
+    /// "0 for an unused page; all 0 from a locking station"
+    fn versions_fit(&self, kind: Kind) -> bool {
+        let may_stand = |page: usize| kind == Kind::Validating && self.used >> page & 1 == 1;
+        let fits = |(page, version): (usize, &u32)| *version == 0 || may_stand(page);
+        self.versions.iter().enumerate().all(fits)
+    }
+
+    fn append(&self, bytes: &mut Vec<u8>) {
+        for version in self.versions {
+            bytes.extend(version.to_le_bytes());
+        }
+        bytes.extend(self.record.encode());
+    }
+
+    pub fn written(&self) -> Addresses {
+        self.record
+            .writes
+            .iter()
+            .map(|(address, _)| *address)
+            .collect()
+    }
+
+    /// "a commit wants all that it read or wrote"
+    pub fn wanted(&self) -> Addresses {
+        let read: Addresses = self
+            .record
+            .reads
+            .iter()
+            .map(|(address, _)| *address)
+            .collect();
+        read.with(&self.written())
+    }
+}
+
+fn versions_of(bytes: &[u8]) -> [u32; PAGES] {
+    let word = |at: usize| u32::from_le_bytes(bytes[at..at + 4].try_into().unwrap());
+    std::array::from_fn(|page| word(4 * page))
+}
+
+impl Down {
+    /// The station named and the message, at the station whose step runs; numbers 2 to 4.
+    pub fn decode(bytes: &[u8], at: u8) -> Result<(u8, Down), Number> {
+        let fields = fields_of(bytes, 16..=23)?;
+        let transaction = fields.transaction;
+        let message = match fields.kind {
+            16 => Down::page(Grant::Page, &fields),
+            17 => Down::page(Grant::Object, &fields),
+            18 => Down::page(Grant::Whole, &fields),
+            19 => Down::DeEscalate {
+                page: fields.byte_2,
+                transaction,
+            },
+            20 => Down::Callback {
+                requester: another(fields.byte_2, at)?,
+                transaction,
+                objects: Addresses(fields.sets),
+            },
+            21 => Down::Committed {
+                transaction,
+                commit: fields.number,
+            },
+            22 => Down::Aborted {
+                transaction,
+                cause: Cause::of(fields.byte_3).ok_or(Number::Range)?,
+            },
+            _ => Down::Invalidate {
+                pages: fields.pages,
+            },
+        };
+        Ok((fields.station, message))
+    }
+
+    fn page(grant: Grant, fields: &Fields) -> Down {
+        Down::Page(PageMessage {
+            grant,
+            address: fields.address(),
+            transaction: fields.transaction,
+            version: fields.number,
+            unavailable: fields.sets[0],
+            values: fields.values,
+        })
+    }
+
+    pub fn encode(&self, station: u8) -> Vec<u8> {
+        Fields {
+            station,
+            ..self.fields()
+        }
+        .bytes()
+    }
+
+    fn fields(&self) -> Fields {
+        match *self {
+            Down::Page(ref page) => Fields {
+                number: page.version,
+                sets: Fields::one_set(page.unavailable),
+                values: page.values,
+                ..Fields::on_object(page.grant as u8, page.address, page.transaction)
+            },
+            Down::DeEscalate { page, transaction } => Fields::with_second(19, page, transaction),
+            Down::Callback {
+                requester,
+                transaction,
+                objects,
+            } => Fields {
+                sets: objects.0,
+                ..Fields::with_second(20, requester, transaction)
+            },
+            Down::Committed {
+                transaction,
+                commit,
+            } => Fields {
+                number: commit,
+                ..Fields::with_second(21, 0, transaction)
+            },
+            Down::Aborted { transaction, cause } => Fields {
+                byte_3: cause as u8,
+                ..Fields::with_second(22, 0, transaction)
+            },
+            Down::Invalidate { pages } => Fields {
+                pages,
+                ..Fields::with_second(23, 0, 0)
+            },
+        }
+    }
+}
+
+/// "a callback's requester is the station it comes to" is out of range; reading 3.
+fn another(requester: u8, at: u8) -> Result<u8, Number> {
+    if requester == at {
+        return Err(Number::Range);
+    }
+    Ok(requester)
+}
+
+/// Pages of these addresses.
+pub fn pages_of(addresses: impl Iterator<Item = u8>) -> PageSet {
+    addresses.fold(0, |pages, address| pages | page_bit(page_of(address)))
+}

@@ -1,0 +1,82 @@
+//! The whole line a second time: messages, stations, server, and the world they make together.
+//!
+//! Written from document 01 and its readings alone; "reading N" in a comment is a point of the readings.
+
+pub mod call;
+pub mod checks;
+pub mod counts;
+pub mod crossing;
+pub mod damage;
+pub mod message;
+pub mod owner;
+pub mod runs;
+pub mod server;
+pub mod sets;
+pub mod shorten;
+pub mod station;
+pub mod truth;
+pub mod world;
+
+/// Why a call on the line is turned back, by document 01's number.
+#[derive(Clone, Copy, Debug, PartialEq, Eq)]
+#[repr(u8)]
+pub enum Number {
+    Length = 2,
+    Kind = 3,
+    Range = 4,
+    Record = 5,
+    Unexpected = 6,
+    Waiting = 7,
+    Closed = 8,
+    Open = 9,
+    Kept = 10,
+    Spent = 11,
+}
+
+/// "Stations 0 to 7, fixed for life as locking (0) or validating (1)".
+#[derive(Clone, Copy, Debug, PartialEq, Eq)]
+#[repr(u8)]
+pub enum Kind {
+    Locking = 0,
+    Validating = 1,
+}
+
+/// Why a transaction gets 22.
+#[derive(Clone, Copy, Debug, PartialEq, Eq)]
+#[repr(u8)]
+pub enum Cause {
+    /// "the youngest in any cycle gets 22, cause 1"
+    Cycle = 1,
+    /// "a used page with another version, cause 2"
+    Version = 2,
+    /// "a written object locked by another, ... cause 3"
+    Locked = 3,
+    /// "number 4,294,967,295 already used, cause 4"
+    Spent = 4,
+}
+
+impl Cause {
+    /// Reading 2: causes are 1 to 4.
+    pub fn of(byte: u8) -> Option<Cause> {
+        [Cause::Cycle, Cause::Version, Cause::Locked, Cause::Spent]
+            .into_iter()
+            .find(|cause| *cause as u8 == byte)
+    }
+}
+
+/// What an owner gets, from its own call or from a delivery.
+#[derive(Clone, Copy, Debug, PartialEq, Eq)]
+pub enum Answer {
+    Begun(u32),
+    Value(u64),
+    Waits,
+    Written,
+    Committed(u32),
+    /// ended by its owner's abort
+    Dropped,
+    /// ended by 22 or 23
+    Aborted(Cause),
+    Purged,
+    /// a step that tells the owner nothing
+    Nothing,
+}

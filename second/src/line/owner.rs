@@ -1,0 +1,69 @@
+//! What a station's owner asked for and was told: the only witness of demand 3.
+
+use super::Answer;
+
+/// What an owner asks its station.
+#[derive(Clone, Copy, Debug, PartialEq, Eq)]
+pub enum Asked {
+    Begin,
+    Read(u8),
+    Write(u8, u64),
+    Commit,
+    Abort,
+    Purge,
+}
+
+/// What an owner knows to have happened.
+#[derive(Clone, Copy, Debug, PartialEq, Eq)]
+pub enum Told {
+    Begun(u32),
+    Read(u8, u64),
+    Wrote(u8, u64),
+    Committed(u32),
+    Aborted,
+    /// An answer that does not fit what was asked.
+    Odd(Answer),
+}
+
+#[derive(Clone, Debug, Default, PartialEq, Eq)]
+pub struct Owner {
+    /// What it got "waits" for.
+    pending: Option<Asked>,
+    told: Vec<Told>,
+}
+
+impl Owner {
+    /// "Owners are told a call's answer"
+    pub fn called(&mut self, asked: Asked, answer: Answer) {
+        if answer == Answer::Waits {
+            self.pending = Some(asked);
+        } else {
+            self.hears(Some(asked), answer);
+        }
+    }
+
+    /// ", after "waits" the delivery's."
+    pub fn delivered(&mut self, answer: Answer) {
+        if answer != Answer::Nothing {
+            let asked = self.pending.take();
+            self.hears(asked, answer);
+        }
+    }
+
+    fn hears(&mut self, asked: Option<Asked>, answer: Answer) {
+        let told = match (asked, answer) {
+            (Some(Asked::Begin), Answer::Begun(transaction)) => Told::Begun(transaction),
+            (Some(Asked::Read(address)), Answer::Value(value)) => Told::Read(address, value),
+            (Some(Asked::Write(address, value)), Answer::Written) => Told::Wrote(address, value),
+            (Some(Asked::Commit), Answer::Committed(commit)) => Told::Committed(commit),
+            (Some(Asked::Abort), Answer::Dropped) | (_, Answer::Aborted(_)) => Told::Aborted,
+            (Some(Asked::Purge), Answer::Purged) => return,
+            _ => Told::Odd(answer),
+        };
+        self.told.push(told);
+    }
+
+    pub fn told(&self) -> &[Told] {
+        &self.told
+    }
+}

@@ -1,0 +1,708 @@
+//! The server: its step on an up message, the pass over its waiting list, cycles and victims.
+
+use super::message::{Commit, Down, Grant, PageMessage, Up};
+use super::sets::{address, object_bit, page_bit, page_of, rising, station_bit, Addresses};
+use super::sets::{ObjectSet, PageSet, StationSet, ADDRESSES, OBJECTS, PAGES, STATIONS};
+use super::{Cause, Kind, Number};
+use crate::record::Record;
+
+#[derive(Clone, Debug, PartialEq, Eq)]
+pub struct Server {
+    kinds: [Kind; STATIONS],
+    /// The last commit number used.
+    last: u32,
+    values: [u64; ADDRESSES],
+    /// "A page's version is the number of the last commit that wrote it, first 0."
+    versions: [u32; PAGES],
+    seen: [Seen; STATIONS],
+    /// Ages given out so far.
+    ages: u64,
+    /// Object locks by holder.
+    locks: [Addresses; STATIONS],
+    whole: [Option<WholeLock>; PAGES],
+    listed: [PageSet; STATIONS],
+    /// "one waiting list by arrival"
+    waiting: Vec<Waiter>,
+}
+
+/// A station's latest transaction; its age while it is unfinished.
+#[derive(Clone, Copy, Debug, PartialEq, Eq)]
+struct Seen {
+    latest: u32,
+    age: Option<u64>,
+}
+
+#[derive(Clone, Copy, Debug, PartialEq, Eq)]
+struct WholeLock {
+    holder: u8,
+    /// "send 19, once for each 18"
+    asked: bool,
+}
+
+#[derive(Clone, Debug, PartialEq, Eq)]
+struct Waiter {
+    station: u8,
+    request: Request,
+    wants: Addresses,
+    writes: Addresses,
+    /// None until its 20s are sent.
+    callbacks: Option<Callbacks>,
+}
+
+#[derive(Clone, Debug, PartialEq, Eq)]
+enum Request {
+    Read(u8),
+    Write(u8),
+    Commit(Box<Commit>),
+}
+
+/// Stations that owe a 7, and those of them that sent 6.
+#[derive(Clone, Copy, Debug, PartialEq, Eq)]
+struct Callbacks {
+    owed: StationSet,
+    busy: StationSet,
+}
+
+/// What an accepted step gives.
+#[derive(Clone, Debug, Default, PartialEq, Eq)]
+pub struct Step {
+    pub sent: Vec<Vec<u8>>,
+    pub records: Vec<Vec<u8>>,
+    pub victims: Vec<Victim>,
+}
+
+/// A victim, and the edges when it was chosen.
+#[derive(Clone, Debug, PartialEq, Eq)]
+pub struct Victim {
+    pub station: u8,
+    pub waits_for: WaitsFor,
+}
+
+/// For each station the set of those that it waits for.
+pub type WaitsFor = [StationSet; STATIONS];
+
+/// Whether a visited waiter stays in the list.
+enum Visit {
+    Stays,
+    StaysChanged,
+    Leaves,
+}
+
+impl Waiter {
+    fn read(station: u8, address: u8) -> Waiter {
+        Waiter {
+            station,
+            request: Request::Read(address),
+            wants: Addresses::one(address),
+            writes: Addresses::default(),
+            callbacks: None,
+        }
+    }
+
+    fn write(station: u8, address: u8) -> Waiter {
+        Waiter {
+            request: Request::Write(address),
+            writes: Addresses::one(address),
+            ..Waiter::read(station, address)
+        }
+    }
+
+    fn commit(station: u8, commit: Box<Commit>) -> Waiter {
+        Waiter {
+            station,
+            wants: commit.wanted(),
+            writes: commit.written(),
+            request: Request::Commit(commit),
+            callbacks: None,
+        }
+    }
+
+    /// "an earlier waiter wants it and one of the two writes"; reading 31: writes that object.
+    fn conflicts(&self, other: &Waiter) -> bool {
+        self.wants.meets(&other.writes) || self.writes.meets(&other.wants)
+    }
+}
+
+impl Step {
+    fn send(&mut self, station: u8, message: Down) {
+        self.sent.push(message.encode(station));
+    }
+}
+
+/// The step.
+impl Server {
+    pub fn fresh(kinds: [Kind; STATIONS], last: u32, latest: [u32; STATIONS]) -> Server {
+        Server {
+            kinds,
+            last,
+            values: [0; ADDRESSES],
+            versions: [0; PAGES],
+            seen: latest.map(|latest| Seen { latest, age: None }),
+            ages: 0,
+            locks: [Addresses::default(); STATIONS],
+            whole: [None; PAGES],
+            listed: [0; STATIONS],
+            waiting: Vec::new(),
+        }
+    }
+
+    pub fn step(&mut self, bytes: &[u8]) -> Result<Step, Number> {
+        let (from, message) = Up::decode(bytes, &self.kinds)?;
+        if !self.expects(from, &message) {
+            return Err(Number::Unexpected);
+        }
+        let mut step = Step::default();
+        if let Some(transaction) = message.own_transaction() {
+            self.note_transaction(from, transaction);
+        }
+        // reading 37: "the message's own effect ..., then the pass, then a victim's 22, then the pass again"
+        self.take(from, message, &mut step);
+        self.settle(&mut step);
+        Ok(step)
+    }
+
+    /// Number 6.
+    fn expects(&self, from: u8, message: &Up) -> bool {
+        let number_fits = message
+            .own_transaction()
+            .is_none_or(|transaction| self.number_fits(from, transaction));
+        let locking = self.kinds[from as usize] == Kind::Locking;
+        number_fits
+            && match message {
+                Up::Read { .. } => true,
+                Up::Commit(commit) => !locking || self.covers(from, commit),
+                Up::Purge { page } => !self.holds_lock_on(from, *page),
+                // "2, 4, 6, 7, 8 from a validating station"
+                Up::Write { .. } | Up::Abort { .. } | Up::Busy { .. } | Up::WrittenSet { .. } => {
+                    locking
+                }
+                Up::Done { dropped, .. } => {
+                    locking && !rising(*dropped).any(|page| self.holds_lock_on(from, page))
+                }
+            }
+    }
+
+    /// "1 to 4 with a number below the station's latest, of a finished transaction, above an unfinished locking one or
+    /// while it waits" are unexpected; readings 7 and 8.
+    fn number_fits(&self, from: u8, transaction: u32) -> bool {
+        let seen = self.seen[from as usize];
+        let open_locking = seen.age.is_some() && self.kinds[from as usize] == Kind::Locking;
+        !self.waits(from)
+            && match transaction.cmp(&seen.latest) {
+                std::cmp::Ordering::Less => false,
+                std::cmp::Ordering::Equal => seen.age.is_some(),
+                std::cmp::Ordering::Greater => !open_locking,
+            }
+    }
+
+    /// Reading 12: "each object it writes must be locked by it, or its page whole".
+    fn covers(&self, from: u8, commit: &Commit) -> bool {
+        commit.record.writes.iter().all(|(address, _)| {
+            self.locks[from as usize].has(*address) || self.holds_whole(from, page_of(*address))
+        })
+    }
+
+    /// Reading 10: "an object lock on that page or the whole lock".
+    fn holds_lock_on(&self, station: u8, page: u8) -> bool {
+        self.locks[station as usize].on(page) != 0 || self.holds_whole(station, page)
+    }
+
+    fn holds_whole(&self, station: u8, page: u8) -> bool {
+        self.whole[page as usize].is_some_and(|lock| lock.holder == station)
+    }
+
+    /// "each transaction gets a new age", at its first message; readings 8 and 9.
+    fn note_transaction(&mut self, from: u8, transaction: u32) {
+        let seen = &mut self.seen[from as usize];
+        if transaction != seen.latest {
+            seen.latest = transaction;
+            seen.age = Some(self.ages);
+            self.ages += 1;
+        }
+    }
+
+    fn take(&mut self, from: u8, message: Up, step: &mut Step) {
+        let kind = self.kinds[from as usize];
+        match (message, kind) {
+            // "Validating read: send 16 at the same step, unavailable set empty."
+            (Up::Read { address, .. }, Kind::Validating) => {
+                self.send_page(from, address, Grant::Page, 0, step)
+            }
+            (Up::Read { address, .. }, _) => self.waiting.push(Waiter::read(from, address)),
+            (Up::Write { address, .. }, _) => self.waiting.push(Waiter::write(from, address)),
+            (Up::Commit(commit), Kind::Validating) => {
+                self.waiting.push(Waiter::commit(from, commit))
+            }
+            (Up::Commit(commit), _) => self.locking_commit(from, &commit, step),
+            // "every transaction's end frees its locks"
+            (Up::Abort { .. }, _) => self.end(from),
+            (Up::Purge { page }, _) => self.unlist(from, page_bit(page)),
+            (
+                Up::Busy {
+                    requester,
+                    transaction,
+                },
+                _,
+            ) => self.busy(from, requester, transaction),
+            (
+                Up::Done {
+                    requester,
+                    transaction,
+                    dropped,
+                },
+                _,
+            ) => self.done(from, requester, transaction, dropped),
+            (
+                Up::WrittenSet {
+                    page,
+                    transaction,
+                    written,
+                },
+                _,
+            ) => self.written_set(from, page, transaction, written),
+        }
+    }
+
+    /// "A locking commit installs without waiting"; reading 40.
+    fn locking_commit(&mut self, from: u8, commit: &Commit, step: &mut Step) {
+        if self.last == u32::MAX {
+            self.abort(from, Cause::Spent, step);
+        } else {
+            self.install(from, commit, step);
+        }
+    }
+
+    /// "A station is listed as holding a page ... until 5, a page in 7, or 23."
+    fn unlist(&mut self, station: u8, pages: PageSet) {
+        self.listed[station as usize] &= !pages;
+    }
+
+    fn busy(&mut self, from: u8, requester: u8, transaction: u32) {
+        if let Some(callbacks) = self.open_callback(from, requester, transaction) {
+            callbacks.busy |= station_bit(from);
+        }
+    }
+
+    fn done(&mut self, from: u8, requester: u8, transaction: u32, dropped: PageSet) {
+        self.unlist(from, dropped);
+        if let Some(callbacks) = self.open_callback(from, requester, transaction) {
+            callbacks.owed &= !station_bit(from);
+            callbacks.busy &= !station_bit(from);
+        }
+    }
+
+    /// Reading 39: "A 20 is open while the requester waits in the named transaction and this station owes it a 7."
+    fn open_callback(
+        &mut self,
+        from: u8,
+        requester: u8,
+        transaction: u32,
+    ) -> Option<&mut Callbacks> {
+        if self.seen[requester as usize].latest != transaction {
+            return None;
+        }
+        self.waiting
+            .iter_mut()
+            .find(|waiter| waiter.station == requester)
+            .and_then(|waiter| waiter.callbacks.as_mut())
+            .filter(|callbacks| callbacks.owed & station_bit(from) != 0)
+    }
+
+    /// "when 8 makes it locks on its set"; reading 11.
+    fn written_set(&mut self, from: u8, page: u8, transaction: u32, written: ObjectSet) {
+        let seen = self.seen[from as usize];
+        let unfinished = seen.latest == transaction && seen.age.is_some();
+        let asked = WholeLock {
+            holder: from,
+            asked: true,
+        };
+        if unfinished && self.whole[page as usize] == Some(asked) {
+            self.whole[page as usize] = None;
+            self.locks[from as usize].join(page, written);
+        }
+    }
+
+    fn waits(&self, station: u8) -> bool {
+        self.waiting.iter().any(|waiter| waiter.station == station)
+    }
+
+    /// The transaction is finished; its locks and its request go.
+    fn end(&mut self, station: u8) {
+        self.seen[station as usize].age = None;
+        self.locks[station as usize] = Addresses::default();
+        for lock in &mut self.whole {
+            if lock.is_some_and(|lock| lock.holder == station) {
+                *lock = None;
+            }
+        }
+        self.waiting.retain(|waiter| waiter.station != station);
+    }
+
+    fn abort(&mut self, station: u8, cause: Cause, step: &mut Step) {
+        self.end(station);
+        let transaction = self.seen[station as usize].latest;
+        step.send(station, Down::Aborted { transaction, cause });
+    }
+
+    /// "Install: write values, archive the record, free locks, send 21, then, stations rising, 23 with all written
+    /// pages to other validating stations listed for one."
+    fn install(&mut self, station: u8, commit: &Commit, step: &mut Step) {
+        self.last += 1;
+        let written = commit.written().pages();
+        for (address, value) in &commit.record.writes {
+            self.values[*address as usize] = *value;
+        }
+        for page in rising(written) {
+            self.versions[page as usize] = self.last;
+        }
+        let archived = Record {
+            commit: self.last,
+            ..commit.record.clone()
+        };
+        step.records.push(archived.encode());
+        self.end(station);
+        let committed = Down::Committed {
+            transaction: archived.transaction,
+            commit: self.last,
+        };
+        step.send(station, committed);
+        self.invalidate(station, written, step);
+    }
+
+    /// Reading 35: "23 names all written pages and unlists them".
+    fn invalidate(&mut self, writer: u8, written: PageSet, step: &mut Step) {
+        for station in 0..STATIONS as u8 {
+            let listed = self.listed[station as usize] & written != 0;
+            let validating = self.kinds[station as usize] == Kind::Validating;
+            if station != writer && validating && listed {
+                self.unlist(station, written);
+                step.send(station, Down::Invalidate { pages: written });
+            }
+        }
+    }
+
+    /// "A station is listed as holding a page from the sending of 16, 17 or 18".
+    fn send_page(
+        &mut self,
+        station: u8,
+        at: u8,
+        grant: Grant,
+        unavailable: ObjectSet,
+        step: &mut Step,
+    ) {
+        let page = page_of(at);
+        self.listed[station as usize] |= page_bit(page);
+        let first = address(page, 0) as usize;
+        let message = PageMessage {
+            grant,
+            address: at,
+            transaction: self.seen[station as usize].latest,
+            version: self.versions[page as usize],
+            unavailable,
+            values: self.values[first..first + OBJECTS].try_into().unwrap(),
+        };
+        step.send(station, Down::Page(message));
+    }
+}
+
+/// The pass.
+impl Server {
+    /// "When the pass rests and edges form a cycle, the youngest in any cycle gets 22, cause 1, its locks and request
+    /// go, and the pass runs again."
+    fn settle(&mut self, step: &mut Step) {
+        loop {
+            while self.pass(step) {}
+            let waits_for = self.waits_for();
+            let Some(station) = self.youngest(on_cycles(&waits_for)) else {
+                return;
+            };
+            step.victims.push(Victim { station, waits_for });
+            self.abort(station, Cause::Cycle, step);
+        }
+    }
+
+    /// Reading 28: "The list is gone through to its end"; tells whether anything changed.
+    fn pass(&mut self, step: &mut Step) -> bool {
+        let mut changed = false;
+        let mut at = 0;
+        while at < self.waiting.len() {
+            match self.visit(at, step) {
+                Visit::Stays => at += 1,
+                Visit::StaysChanged => {
+                    changed = true;
+                    at += 1;
+                }
+                Visit::Leaves => changed = true,
+            }
+        }
+        changed
+    }
+
+    /// Reading 29: "The bullets are gates, looked at anew at every visit".
+    fn visit(&mut self, at: usize, step: &mut Step) -> Visit {
+        if let Some(cause) = self.cause(at) {
+            self.abort(self.waiting[at].station, cause, step);
+            return Visit::Leaves;
+        }
+        if self.blockers(at) != 0 {
+            return Visit::Stays;
+        }
+        let whole = self.whole_by_another(at);
+        if whole != 0 {
+            return self.ask_holders(whole, step);
+        }
+        match self.waiting[at].request {
+            Request::Read(address) => {
+                self.grant_read(at, address, step);
+                Visit::Leaves
+            }
+            Request::Write(_) | Request::Commit(_) => self.write_or_call_back(at, step),
+        }
+    }
+
+    /// The first bullet: causes 4, 2 and 3 of a validating commit.
+    fn cause(&self, at: usize) -> Option<Cause> {
+        let waiter = &self.waiting[at];
+        let Request::Commit(commit) = &waiter.request else {
+            return None;
+        };
+        let stale = |page: u8| commit.versions[page as usize] != self.versions[page as usize];
+        let whole = |page: u8| self.whole_holder_other_than(waiter.station, page).is_some();
+        if self.last == u32::MAX {
+            Some(Cause::Spent)
+        } else if rising(commit.used).any(stale) {
+            Some(Cause::Version)
+        } else if self.holders(waiter.station, &waiter.writes) != 0
+            || rising(waiter.writes.pages()).any(whole)
+        {
+            Some(Cause::Locked)
+        } else {
+            None
+        }
+    }
+
+    fn whole_holder_other_than(&self, station: u8, page: u8) -> Option<u8> {
+        let holder = self.whole[page as usize]?.holder;
+        (holder != station).then_some(holder)
+    }
+
+    /// Other stations with an object lock on one of these.
+    fn holders(&self, but: u8, objects: &Addresses) -> StationSet {
+        (0..STATIONS as u8)
+            .filter(|station| *station != but)
+            .filter(|station| self.locks[*station as usize].meets(objects))
+            .fold(0, |set, station| set | station_bit(station))
+    }
+
+    /// The second bullet: "Blocked while another holds a lock on an object wanted ..., or an earlier waiter wants it
+    /// and one of the two writes."
+    fn blockers(&self, at: usize) -> StationSet {
+        let waiter = &self.waiting[at];
+        let holders = self.holders(waiter.station, &waiter.wants);
+        self.waiting[..at]
+            .iter()
+            .filter(|earlier| waiter.conflicts(earlier))
+            .fold(holders, |set, earlier| set | station_bit(earlier.station))
+    }
+
+    /// The third bullet: "Page locked whole by another".
+    fn whole_by_another(&self, at: usize) -> PageSet {
+        let waiter = &self.waiting[at];
+        rising(waiter.wants.pages())
+            .filter(|page| {
+                self.whole_holder_other_than(waiter.station, *page)
+                    .is_some()
+            })
+            .fold(0, |pages, page| pages | page_bit(page))
+    }
+
+    /// "send 19, once for each 18, pages rising"
+    fn ask_holders(&mut self, pages: PageSet, step: &mut Step) -> Visit {
+        let mut visit = Visit::Stays;
+        for page in rising(pages) {
+            let Some(lock) = &mut self.whole[page as usize] else {
+                continue;
+            };
+            if !lock.asked {
+                lock.asked = true;
+                let transaction = self.seen[lock.holder as usize].latest;
+                step.send(lock.holder, Down::DeEscalate { page, transaction });
+                visit = Visit::StaysChanged;
+            }
+        }
+        visit
+    }
+
+    /// "Read: send 16."
+    fn grant_read(&mut self, at: usize, address: u8, step: &mut Step) {
+        let station = self.waiting.remove(at).station;
+        let unavailable = self.unavailable(station, address);
+        self.send_page(station, address, Grant::Page, unavailable, step);
+    }
+
+    /// "Write: once, send 20 ... When each has answered 7, lock or install."
+    fn write_or_call_back(&mut self, at: usize, step: &mut Step) -> Visit {
+        let before = self.waiting[at].callbacks;
+        let callbacks = match before {
+            Some(callbacks) => callbacks,
+            None => self.call_back(at, step),
+        };
+        // reading 32: "If nobody is to be called back, the grant or install comes at the same visit."
+        if callbacks.owed == 0 {
+            self.lock_or_install(at, step);
+            return Visit::Leaves;
+        }
+        match before {
+            Some(_) => Visit::Stays,
+            None => Visit::StaysChanged,
+        }
+    }
+
+    /// "send 20 naming the objects to be written to each other locking station listed for a page of theirs, stations
+    /// rising"
+    fn call_back(&mut self, at: usize, step: &mut Step) -> Callbacks {
+        let Waiter {
+            station, writes, ..
+        } = self.waiting[at];
+        let called = self.other_locking_listed(station, writes.pages());
+        for other in rising(called) {
+            let callback = Down::Callback {
+                requester: station,
+                transaction: self.seen[station as usize].latest,
+                objects: writes,
+            };
+            step.send(other, callback);
+        }
+        let callbacks = Callbacks {
+            owed: called,
+            busy: 0,
+        };
+        self.waiting[at].callbacks = Some(callbacks);
+        callbacks
+    }
+
+    fn other_locking_listed(&self, but: u8, pages: PageSet) -> StationSet {
+        (0..STATIONS as u8)
+            .filter(|station| *station != but)
+            .filter(|station| self.kinds[*station as usize] == Kind::Locking)
+            .filter(|station| self.listed[*station as usize] & pages != 0)
+            .fold(0, |set, station| set | station_bit(station))
+    }
+
+    fn lock_or_install(&mut self, at: usize, step: &mut Step) {
+        let waiter = self.waiting.remove(at);
+        match waiter.request {
+            Request::Commit(commit) => self.install(waiter.station, &commit, step),
+            Request::Read(address) | Request::Write(address) => {
+                self.grant_write(waiter.station, address, step)
+            }
+        }
+    }
+
+    /// "The whole page is locked (18) if no other locking station is listed and no other station has a lock there or
+    /// waits to write there; else the object (17)."
+    fn grant_write(&mut self, station: u8, address: u8, step: &mut Step) {
+        let page = page_of(address);
+        let alone = self.other_locking_listed(station, page_bit(page)) == 0
+            && self.locked_by_others(station, page) == 0
+            && self.awaited_writes(page) == 0;
+        let unavailable = self.unavailable(station, address);
+        if alone {
+            self.whole[page as usize] = Some(WholeLock {
+                holder: station,
+                asked: false,
+            });
+            self.send_page(station, address, Grant::Whole, unavailable, step);
+        } else {
+            self.locks[station as usize].insert(address);
+            self.send_page(station, address, Grant::Object, unavailable, step);
+        }
+    }
+
+    /// "Unavailable in 16 to 18 are objects that others have locked or wait to write, without the one requested." The
+    /// station's own entry has left the list.
+    fn unavailable(&self, station: u8, address: u8) -> ObjectSet {
+        let page = page_of(address);
+        let taken = self.locked_by_others(station, page) | self.awaited_writes(page);
+        taken & !object_bit(address)
+    }
+
+    fn locked_by_others(&self, station: u8, page: u8) -> ObjectSet {
+        (0..STATIONS as u8)
+            .filter(|other| *other != station)
+            .fold(0, |set, other| set | self.locks[other as usize].on(page))
+    }
+
+    /// Reading 33: "counts every other entry of the list, earlier or later, blocked or not".
+    fn awaited_writes(&self, page: u8) -> ObjectSet {
+        self.waiting
+            .iter()
+            .fold(0, |set, waiter| set | waiter.writes.on(page))
+    }
+
+    /// "A waits-for edge runs from a waiter to a lock's holder that blocks it, an earlier waiter that blocks it, and a
+    /// station that sent 6 to it and not yet 7".
+    pub fn waits_for(&self) -> WaitsFor {
+        let mut edges = [0; STATIONS];
+        for (at, waiter) in self.waiting.iter().enumerate() {
+            let busy = waiter.callbacks.map_or(0, |callbacks| callbacks.busy);
+            edges[waiter.station as usize] = self.blockers(at) | busy;
+        }
+        edges
+    }
+
+    /// "Young means the server saw its transaction's first message later".
+    fn youngest(&self, stations: StationSet) -> Option<u8> {
+        rising(stations).max_by_key(|station| self.seen[*station as usize].age)
+    }
+}
+
+/// Stations that reach themselves, by a walk from each.
+fn on_cycles(edges: &WaitsFor) -> StationSet {
+    (0..STATIONS as u8)
+        .filter(|station| reached(edges, edges[*station as usize]) & station_bit(*station) != 0)
+        .fold(0, |set, station| set | station_bit(station))
+}
+
+/// All that is reached from a set, itself among it.
+fn reached(edges: &WaitsFor, from: StationSet) -> StationSet {
+    let mut seen = from;
+    let mut to_visit: Vec<u8> = rising(from).collect();
+    while let Some(station) = to_visit.pop() {
+        let new = edges[station as usize] & !seen;
+        seen |= new;
+        to_visit.extend(rising(new));
+    }
+    seen
+}
+
+/// What a check of a whole line looks at.
+impl Server {
+    pub fn values(&self) -> &[u64; ADDRESSES] {
+        &self.values
+    }
+
+    pub fn versions(&self) -> &[u32; PAGES] {
+        &self.versions
+    }
+
+    /// Stations with an entry in the waiting list.
+    pub fn waiters(&self) -> StationSet {
+        self.waiting
+            .iter()
+            .fold(0, |set, waiter| set | station_bit(waiter.station))
+    }
+
+    /// Objects that a station has locked, and pages that it has locked whole.
+    pub fn locks(&self, station: u8) -> (Addresses, PageSet) {
+        let whole = (0..PAGES as u8)
+            .filter(|page| self.holds_whole(station, *page))
+            .fold(0, |pages, page| pages | page_bit(page));
+        (self.locks[station as usize], whole)
+    }
+
+    /// Pages that a station is listed for.
+    pub fn listed(&self, station: u8) -> PageSet {
+        self.listed[station as usize]
+    }
+}

@@ -1,0 +1,590 @@
+//! A station: its owner's operations and its step on a down message.
+
+use super::message::{pages_of, Commit, Down, Grant, PageMessage, Up};
+use super::sets::{object_bit, object_of, page_bit, page_of, rising, Addresses};
+use super::sets::{ObjectSet, PageSet, OBJECTS, PAGES};
+use super::{Answer, Cause, Kind, Number};
+use crate::record::Record;
+use std::collections::BTreeMap;
+
+#[derive(Clone, Debug, PartialEq, Eq)]
+pub struct Station {
+    number: u8,
+    kind: Kind,
+    /// "A station numbers its transactions from 1": the last one begun, open or over.
+    latest: u32,
+    open: Option<Transaction>,
+    cached: [Option<Page>; PAGES],
+    /// Callbacks answered 6, by requester.
+    kept: BTreeMap<u8, Callback>,
+}
+
+/// A cached page.
+#[derive(Clone, Debug, PartialEq, Eq)]
+struct Page {
+    version: u32,
+    unavailable: ObjectSet,
+    values: [u64; OBJECTS],
+}
+
+/// The open transaction; its number is the station's latest.
+#[derive(Clone, Debug, Default, PartialEq, Eq)]
+struct Transaction {
+    /// First reads of objects not written before.
+    reads: BTreeMap<u8, u64>,
+    /// Last writes.
+    writes: BTreeMap<u8, u64>,
+    locked: Addresses,
+    locked_whole: PageSet,
+    out: Option<Out>,
+}
+
+/// What the owner waits for.
+#[derive(Clone, Debug, PartialEq, Eq)]
+enum Out {
+    Read(u8),
+    Write(u8, u64),
+    Commit,
+}
+
+#[derive(Clone, Debug, PartialEq, Eq)]
+struct Callback {
+    transaction: u32,
+    objects: Addresses,
+}
+
+/// An accepted call: what the owner gets and the messages sent.
+#[derive(Clone, Debug, PartialEq, Eq)]
+pub struct Done {
+    pub answer: Answer,
+    pub sent: Vec<Vec<u8>>,
+}
+
+type Answered = Result<Done, Number>;
+
+fn answered(answer: Answer) -> Answered {
+    Ok(Done {
+        answer,
+        sent: Vec::new(),
+    })
+}
+
+impl Transaction {
+    fn used(&self) -> PageSet {
+        pages_of(self.reads.keys().chain(self.writes.keys()).copied())
+    }
+
+    fn written_pages(&self) -> PageSet {
+        pages_of(self.writes.keys().copied())
+    }
+
+    fn written_on(&self, page: u8) -> ObjectSet {
+        let written: Addresses = self.writes.keys().copied().collect();
+        written.on(page)
+    }
+
+    /// "afterwards it sees that value or its own last write"; reading 23.
+    fn seen(&self, address: u8) -> Option<u64> {
+        let own = self.writes.get(&address);
+        own.or_else(|| self.reads.get(&address)).copied()
+    }
+
+    /// "under its lock on object or page"
+    fn may_write(&self, address: u8) -> bool {
+        self.locked.has(address) || self.locked_whole & page_bit(page_of(address)) != 0
+    }
+
+    fn requested_page(&self) -> Option<u8> {
+        match self.out {
+            Some(Out::Read(address) | Out::Write(address, _)) => Some(page_of(address)),
+            _ => None,
+        }
+    }
+
+    /// "if the open transaction has read or written a named object"
+    fn uses_any(&self, objects: &Addresses) -> bool {
+        self.reads
+            .keys()
+            .chain(self.writes.keys())
+            .any(|address| objects.has(*address))
+    }
+}
+
+impl Page {
+    fn of(message: &PageMessage) -> Page {
+        Page {
+            version: message.version,
+            unavailable: message.unavailable,
+            values: message.values,
+        }
+    }
+
+    fn available(&self, address: u8) -> Option<u64> {
+        let marked = self.unavailable & object_bit(address) != 0;
+        (!marked).then_some(self.values[object_of(address) as usize])
+    }
+}
+
+/// The owner's operations.
+impl Station {
+    pub fn fresh(number: u8, kind: Kind, latest: u32) -> Station {
+        Station {
+            number,
+            kind,
+            latest,
+            open: None,
+            cached: [const { None }; PAGES],
+            kept: BTreeMap::new(),
+        }
+    }
+
+    /// Reading 27: "begin is checked 7, 9, 11".
+    pub fn begin(&mut self) -> Answered {
+        self.nothing_out()?;
+        if self.open.is_some() {
+            return Err(Number::Open);
+        }
+        self.latest = self.latest.checked_add(1).ok_or(Number::Spent)?;
+        self.open = Some(Transaction::default());
+        answered(Answer::Begun(self.latest))
+    }
+
+    pub fn read(&mut self, address: u8) -> Answered {
+        let transaction = self.acting()?;
+        if let Some(value) = transaction.seen(address) {
+            return answered(Answer::Value(value));
+        }
+        if let Some(value) = self.available(address) {
+            self.acting()?.reads.insert(address, value);
+            return answered(Answer::Value(value));
+        }
+        self.request(Out::Read(address))
+    }
+
+    pub fn write(&mut self, address: u8, value: u64) -> Answered {
+        let may_write = self.acting()?.may_write(address);
+        let cached = self.cached[page_of(address) as usize].is_some();
+        let local = match self.kind {
+            Kind::Locking => may_write,
+            Kind::Validating => cached,
+        };
+        if !local {
+            return self.request(Out::Write(address, value));
+        }
+        self.acting()?.writes.insert(address, value);
+        self.lay_own_values(page_of(address));
+        answered(Answer::Written)
+    }
+
+    /// "Commit sends 3 and waits for 21 or 22."
+    pub fn commit(&mut self) -> Answered {
+        let transaction = self.acting()?;
+        transaction.out = Some(Out::Commit);
+        let used = transaction.used();
+        let reads = transaction.reads.iter().map(|(a, v)| (*a, *v)).collect();
+        let writes = transaction.writes.iter().map(|(a, v)| (*a, *v)).collect();
+        let commit = Commit {
+            used,
+            versions: self.versions(used),
+            record: Record {
+                reads,
+                writes,
+                commit: 0,
+                transaction: self.latest,
+                station: self.number,
+                kind: self.kind as u8,
+            },
+        };
+        self.send(Answer::Waits, Up::Commit(Box::new(commit)))
+    }
+
+    /// "An owner's abort ends the transaction; a locking station sends 4."
+    pub fn abort(&mut self) -> Answered {
+        self.acting()?;
+        let mut sent = Vec::new();
+        if self.kind == Kind::Locking {
+            let transaction = self.latest;
+            sent.push(Up::Abort { transaction }.encode(self.number));
+        }
+        self.undo();
+        self.end(&mut sent);
+        let answer = Answer::Dropped;
+        Ok(Done { answer, sent })
+    }
+
+    /// Reading 6: the page's range is number 4, before 7; reading 25.
+    pub fn purge(&mut self, page: u32) -> Answered {
+        if page >= PAGES as u32 {
+            return Err(Number::Range);
+        }
+        let page = page as u8;
+        let open = self.open.as_ref();
+        if open.and_then(Transaction::requested_page) == Some(page) {
+            return Err(Number::Waiting);
+        }
+        let used = open.map_or(0, Transaction::used);
+        if used & page_bit(page) != 0 || self.cached[page as usize].is_none() {
+            return Err(Number::Kept);
+        }
+        self.cached[page as usize] = None;
+        self.send(Answer::Purged, Up::Purge { page })
+    }
+
+    /// Number 7: "an owner acts while a request or commit is out".
+    fn nothing_out(&self) -> Result<(), Number> {
+        match &self.open {
+            Some(transaction) if transaction.out.is_some() => Err(Number::Waiting),
+            _ => Ok(()),
+        }
+    }
+
+    /// The open transaction with nothing out, else number 7 or 8.
+    fn acting(&mut self) -> Result<&mut Transaction, Number> {
+        self.nothing_out()?;
+        self.open.as_mut().ok_or(Number::Closed)
+    }
+
+    /// "an available cached object is read locally"
+    fn available(&self, address: u8) -> Option<u64> {
+        let page = self.cached[page_of(address) as usize].as_ref()?;
+        page.available(address)
+    }
+
+    /// "is requested (1)", "else sends 2", "else sends 1": only a locking station's write is a 2.
+    fn request(&mut self, out: Out) -> Answered {
+        let transaction = self.latest;
+        let message = match (self.kind, &out) {
+            (Kind::Locking, &Out::Write(address, _)) => Up::Write {
+                address,
+                transaction,
+            },
+            (_, &Out::Read(address) | &Out::Write(address, _)) => Up::Read {
+                address,
+                transaction,
+            },
+            (_, Out::Commit) => unreachable!("a commit is no request"),
+        };
+        self.acting()?.out = Some(out);
+        self.send(Answer::Waits, message)
+    }
+
+    /// "32 versions of 4 bytes (0 for an unused page; all 0 from a locking station)"
+    fn versions(&self, used: PageSet) -> [u32; PAGES] {
+        let mut versions = [0; PAGES];
+        if self.kind == Kind::Validating {
+            for page in rising(used) {
+                let cached = self.cached[page as usize].as_ref();
+                versions[page as usize] = cached.map_or(0, |page| page.version);
+            }
+        }
+        versions
+    }
+
+    fn send(&self, answer: Answer, message: Up) -> Answered {
+        let sent = vec![message.encode(self.number)];
+        Ok(Done { answer, sent })
+    }
+}
+
+/// The step.
+impl Station {
+    pub fn step(&mut self, bytes: &[u8]) -> Answered {
+        let (station, message) = Down::decode(bytes, self.number)?;
+        // reading 13: "byte 1 is this station; 17 to 20 for locking, 23 for validating"
+        if station != self.number || !self.takes(&message) {
+            return Err(Number::Unexpected);
+        }
+        match message {
+            Down::Page(page) => self.page_arrives(&page),
+            Down::DeEscalate { page, transaction } => self.de_escalate(page, transaction),
+            Down::Callback {
+                requester,
+                transaction,
+                objects,
+            } => self.call_back(
+                requester,
+                Callback {
+                    transaction,
+                    objects,
+                },
+            ),
+            Down::Committed {
+                transaction,
+                commit,
+            } => self.committed(transaction, commit),
+            Down::Aborted { transaction, cause } => self.aborted(transaction, cause),
+            Down::Invalidate { pages } => self.invalidate(pages),
+        }
+    }
+
+    fn takes(&self, message: &Down) -> bool {
+        match message {
+            Down::Page(page) => page.grant == Grant::Page || self.kind == Kind::Locking,
+            Down::DeEscalate { .. } | Down::Callback { .. } => self.kind == Kind::Locking,
+            Down::Invalidate { .. } => self.kind == Kind::Validating,
+            Down::Committed { .. } | Down::Aborted { .. } => true,
+        }
+    }
+
+    /// "the delivery that brings the page gives the owner's answer"
+    fn page_arrives(&mut self, message: &PageMessage) -> Answered {
+        let wants_lock = self.kind == Kind::Locking;
+        let locks = message.grant != Grant::Page;
+        let Some(open) = self.open_as(message.transaction) else {
+            return self.page_for_another(message);
+        };
+        let written = match open.out {
+            Some(Out::Read(address)) if address == message.address && !locks => None,
+            Some(Out::Write(address, value))
+                if address == message.address && locks == wants_lock =>
+            {
+                Some(value)
+            }
+            _ => return Err(Number::Unexpected),
+        };
+        self.take_page(message);
+        match written {
+            Some(value) => self.write_arrived(message, value),
+            None => self.read_arrived(message),
+        }
+    }
+
+    /// Reading 14: "A 16 for any begun validating transaction other than the open one is taken and ignored".
+    fn page_for_another(&self, message: &PageMessage) -> Answered {
+        if self.kind == Kind::Validating && message.transaction <= self.latest {
+            answered(Answer::Nothing)
+        } else {
+            Err(Number::Unexpected)
+        }
+    }
+
+    /// "An arriving page replaces the copy save for the transaction's own values."
+    fn take_page(&mut self, message: &PageMessage) {
+        let page = page_of(message.address);
+        self.cached[page as usize] = Some(Page::of(message));
+        self.lay_own_values(page);
+    }
+
+    fn read_arrived(&mut self, message: &PageMessage) -> Answered {
+        let value = message.values[object_of(message.address) as usize];
+        if let Some(transaction) = &mut self.open {
+            transaction.out = None;
+            transaction.reads.insert(message.address, value);
+        }
+        answered(Answer::Value(value))
+    }
+
+    fn write_arrived(&mut self, message: &PageMessage, value: u64) -> Answered {
+        let page = page_of(message.address);
+        if let Some(transaction) = &mut self.open {
+            transaction.out = None;
+            transaction.writes.insert(message.address, value);
+            match message.grant {
+                Grant::Page => (),
+                Grant::Object => transaction.locked.insert(message.address),
+                Grant::Whole => transaction.locked_whole |= page_bit(page),
+            }
+        }
+        self.lay_own_values(page);
+        answered(Answer::Written)
+    }
+
+    /// "send 8 with the objects written on that page, empty if that transaction is over; if it is open, the whole
+    /// lock becomes locks on those objects"; reading 15.
+    fn de_escalate(&mut self, page: u8, transaction: u32) -> Answered {
+        let mut written = 0;
+        if let Some(open) = self.open_as(transaction) {
+            written = open.written_on(page);
+            open.locked_whole &= !page_bit(page);
+            open.locked.join(page, written);
+        }
+        let message = Up::WrittenSet {
+            page,
+            transaction,
+            written,
+        };
+        self.send(Answer::Nothing, message)
+    }
+
+    fn call_back(&mut self, requester: u8, callback: Callback) -> Answered {
+        let open = self.open.as_ref();
+        if open.is_some_and(|open| open.uses_any(&callback.objects)) {
+            // "send 6 and keep the callback, a newer one from that requester replacing it"
+            let transaction = callback.transaction;
+            self.kept.insert(requester, callback);
+            let busy = Up::Busy {
+                requester,
+                transaction,
+            };
+            return self.send(Answer::Nothing, busy);
+        }
+        let done = self.call_back_done(requester, &callback);
+        self.send(Answer::Nothing, done)
+    }
+
+    /// "mark the named objects unavailable, drop each cached page named on which the transaction has read or written
+    /// nothing and for which no request is out, and send 7"
+    fn call_back_done(&mut self, requester: u8, callback: &Callback) -> Up {
+        let open = self.open.as_ref();
+        let used = open.map_or(0, Transaction::used);
+        let requested = open.and_then(Transaction::requested_page);
+        let mut dropped = 0;
+        for page in rising(callback.objects.pages()) {
+            let Some(copy) = &mut self.cached[page as usize] else {
+                continue;
+            };
+            copy.unavailable |= callback.objects.on(page);
+            if used & page_bit(page) == 0 && requested != Some(page) {
+                self.cached[page as usize] = None;
+                dropped |= page_bit(page);
+            }
+        }
+        Up::Done {
+            requester,
+            transaction: callback.transaction,
+            dropped,
+        }
+    }
+
+    /// "On 21 written pages take the commit number as version."
+    fn committed(&mut self, transaction: u32, commit: u32) -> Answered {
+        match self.open_as(transaction) {
+            Some(open) if open.out == Some(Out::Commit) => (),
+            _ => return Err(Number::Unexpected),
+        }
+        for page in rising(self.written_pages()) {
+            if let Some(copy) = &mut self.cached[page as usize] {
+                copy.version = commit;
+            }
+        }
+        self.ended(Answer::Committed(commit))
+    }
+
+    /// Reading 13: "22 any wait of the open transaction".
+    fn aborted(&mut self, transaction: u32, cause: Cause) -> Answered {
+        match self.open_as(transaction) {
+            Some(open) if open.out.is_some() => (),
+            _ => return Err(Number::Unexpected),
+        }
+        self.undo();
+        self.ended(Answer::Aborted(cause))
+    }
+
+    /// "drop the pages; if the transaction used one and no commit is out, it ends as aborted, cause 2"
+    fn invalidate(&mut self, pages: PageSet) -> Answered {
+        self.drop_pages(pages);
+        match &self.open {
+            Some(open) if open.used() & pages != 0 && open.out != Some(Out::Commit) => {
+                self.undo();
+                self.ended(Answer::Aborted(Cause::Version))
+            }
+            _ => answered(Answer::Nothing),
+        }
+    }
+
+    fn open_as(&mut self, transaction: u32) -> Option<&mut Transaction> {
+        let latest = self.latest;
+        self.open.as_mut().filter(|_| latest == transaction)
+    }
+
+    /// Own values stand in the copy, whatever arrived.
+    fn lay_own_values(&mut self, page: u8) {
+        if let (Some(copy), Some(open)) = (&mut self.cached[page as usize], &self.open) {
+            for (address, value) in &open.writes {
+                if page_of(*address) == page {
+                    copy.values[object_of(*address) as usize] = *value;
+                }
+            }
+        }
+    }
+
+    fn written_pages(&self) -> PageSet {
+        self.open.as_ref().map_or(0, Transaction::written_pages)
+    }
+
+    /// "However aborted, a locking station marks written objects unavailable; a validating one drops written pages."
+    fn undo(&mut self) {
+        let written = self.written_pages();
+        match self.kind {
+            Kind::Validating => self.drop_pages(written),
+            Kind::Locking => {
+                for page in rising(written) {
+                    let objects = self.open.as_ref().map_or(0, |open| open.written_on(page));
+                    if let Some(copy) = &mut self.cached[page as usize] {
+                        copy.unavailable |= objects;
+                    }
+                }
+            }
+        }
+    }
+
+    fn drop_pages(&mut self, pages: PageSet) {
+        for page in rising(pages) {
+            self.cached[page as usize] = None;
+        }
+    }
+
+    fn ended(&mut self, answer: Answer) -> Answered {
+        let mut sent = Vec::new();
+        self.end(&mut sent);
+        Ok(Done { answer, sent })
+    }
+
+    /// "Kept callbacks are done so, by rising requester, when the transaction ends, behind its 4."
+    fn end(&mut self, sent: &mut Vec<Vec<u8>>) {
+        self.open = None;
+        for (requester, callback) in std::mem::take(&mut self.kept) {
+            let done = self.call_back_done(requester, &callback);
+            sent.push(done.encode(self.number));
+        }
+    }
+}
+
+/// What a check of a whole line looks at.
+impl Station {
+    pub fn kind(&self) -> Kind {
+        self.kind
+    }
+
+    pub fn latest(&self) -> u32 {
+        self.latest
+    }
+
+    pub fn is_open(&self) -> bool {
+        self.open.is_some()
+    }
+
+    pub fn waits(&self) -> bool {
+        self.nothing_out().is_err()
+    }
+
+    pub fn has_kept(&self) -> bool {
+        !self.kept.is_empty()
+    }
+
+    /// The available objects of the pages cached, with their pages' versions.
+    pub fn copies(&self) -> impl Iterator<Item = (u8, u32, u64)> + '_ {
+        (0..=u8::MAX).filter_map(|address| {
+            let value = self.available(address)?;
+            let page = self.cached[page_of(address) as usize].as_ref()?;
+            Some((address, page.version, value))
+        })
+    }
+
+    /// Objects locked, and pages locked whole.
+    pub fn locks(&self) -> (Addresses, PageSet) {
+        let open = self.open.as_ref();
+        open.map_or_else(Default::default, |open| (open.locked, open.locked_whole))
+    }
+
+    /// Pages that the open transaction has read or written on.
+    pub fn used(&self) -> PageSet {
+        self.open.as_ref().map_or(0, Transaction::used)
+    }
+
+    pub fn cached(&self) -> PageSet {
+        (0..PAGES as u8)
+            .filter(|page| self.cached[*page as usize].is_some())
+            .fold(0, |pages, page| pages | page_bit(page))
+    }
+}

@@ -1,0 +1,208 @@
+//! Document 01's line examples C1 to C9 as scripts: locking 0 and 2, validating 1.
+
+#[allow(dead_code)]
+mod line_text;
+
+use line_text::*;
+
+const KINDS: &str = "01000000";
+
+/// Address 8 is object 0 of page 1, 9 its object 1.
+const PAGE_1: u32 = 1 << 1;
+
+/// "C1 fresh, 0 reads 8: 1, 16, value 0."
+fn c1() -> Line {
+    let mut line = Line::fresh(KINDS);
+    line.call("begin 0", "begun 1", &[]);
+    line.call("read 0 8", "waits", &[read(0, 1, 0, 1)]);
+    line.call("server 0", "none", &[page(16, 0, 1, 0, 1)]);
+    line.call("station 0", "value 0", &[]);
+    line
+}
+
+/// "C2 then 0 writes 8, nobody else listed: 18."
+fn c2() -> Line {
+    let mut line = c1();
+    line.call("write 0 8 5", "waits", &[write(0, 1, 0, 1)]);
+    line.call("server 0", "none", &[page(18, 0, 1, 0, 1)]);
+    line.call("station 0", "written", &[]);
+    line
+}
+
+#[test]
+fn c1_read() {
+    let mut line = c1();
+    // the second time locally
+    line.call("read 0 8", "value 0", &[]);
+    line.call("read 0 15", "value 0", &[]);
+    line.replies("server 0", "empty");
+    line.replies("station 0", "empty");
+}
+
+#[test]
+fn c2_whole_page() {
+    let mut line = c2();
+    line.call("read 0 8", "value 5", &[]);
+    line.call("write 0 9 6", "written", &[]);
+    let record = record(1, 0, 0).reads(&[(8, 0)]).writes(&[(8, 5), (9, 6)]);
+    line.call("commit 0", "waits", &[commit(PAGE_1, &[], &record)]);
+    line.archives("server 0", "none", &[committed(0, 1, 1)], &[record]);
+    line.call("station 0", "committed 1", &[]);
+    line.call("begin 0", "begun 2", &[]);
+    line.call("read 0 8", "value 5", &[]);
+}
+
+/// Station 2 has read `address`, and its transaction is open or over.
+fn with_2_reading(address: u8, over: bool) -> Line {
+    let mut line = c1();
+    line.call("begin 2", "begun 1", &[]);
+    let object = address - 8;
+    let command = format!("read 2 {address}");
+    line.call(&command, "waits", &[read(2, 1, object, 1)]);
+    line.call("server 2", "none", &[page(16, 2, 1, object, 1)]);
+    line.call("station 2", "value 0", &[]);
+    if over {
+        line.call("abort 2", "aborted", &[abort(2, 1)]);
+        line.call("server 2", "none", &[]);
+    }
+    line.call("write 0 8 5", "waits", &[write(0, 1, 0, 1)]);
+    line.call("server 0", "none", &[callback(2, 0, 1, &[(1, 1)])]);
+    line
+}
+
+/// "C3 as C2, page 1 unused at 2: 20, 7 dropping page 1, 18."
+#[test]
+fn c3_unused_page() {
+    let mut line = with_2_reading(8, true);
+    line.call("station 2", "none", &[done(2, 0, 1, PAGE_1)]);
+    line.call("server 2", "none", &[page(18, 0, 1, 0, 1)]);
+    line.call("station 0", "written", &[]);
+}
+
+/// "C4 2 has read 9: 7 dropping nothing, 17."
+#[test]
+fn c4_other_object() {
+    let mut line = with_2_reading(9, false);
+    line.call("station 2", "none", &[done(2, 0, 1, 0)]);
+    line.call("server 2", "none", &[page(17, 0, 1, 0, 1)]);
+    line.call("station 0", "written", &[]);
+    // the named object is unavailable at 2, the others are not
+    line.call("read 2 10", "value 0", &[]);
+    line.call("read 2 8", "waits", &[read(2, 1, 0, 1)]);
+    line.call("server 2", "none", &[]);
+}
+
+/// "C5 2 has read 8: 6; 0 waits until 2 ends."
+#[test]
+fn c5_busy() {
+    let mut line = with_2_reading(8, false);
+    line.call("station 2", "none", &[busy(2, 0, 1)]);
+    line.call("server 2", "none", &[]);
+    line.replies("station 0", "empty");
+    line.replies("read 0 9", "refused 7");
+    let messages = [abort(2, 1), done(2, 0, 1, PAGE_1)];
+    line.call("abort 2", "aborted", &messages);
+    line.call("server 2", "none", &[]);
+    line.call("server 2", "none", &[page(18, 0, 1, 0, 1)]);
+    line.call("station 0", "written", &[]);
+}
+
+/// C5 with a commit of 2 in place of its abort.
+#[test]
+fn c5_busy_until_committed() {
+    let mut line = with_2_reading(8, false);
+    let record = record(1, 2, 0).reads(&[(8, 0)]);
+    line.call("commit 2", "waits", &[commit(PAGE_1, &[], &record)]);
+    line.call("station 2", "none", &[busy(2, 0, 1)]);
+    line.archives("server 2", "none", &[committed(2, 1, 1)], &[record]);
+    line.call("server 2", "none", &[]);
+    line.call("station 2", "committed 1", &[done(2, 0, 1, PAGE_1)]);
+    line.call("server 2", "none", &[page(18, 0, 1, 0, 1)]);
+    line.call("station 0", "written", &[]);
+}
+
+/// "C6 0, then 2, read 8, and both write it: 2 gets cause 1."
+#[test]
+fn c6_cycle() {
+    let mut line = with_2_reading(8, false);
+    line.call("station 2", "none", &[busy(2, 0, 1)]);
+    line.call("server 2", "none", &[]);
+    line.call("write 2 8 7", "waits", &[write(2, 1, 0, 1)]);
+    line.call("server 2", "none", &[aborted(2, 1, 1)]);
+    line.call("station 2", "aborted 1", &[done(2, 0, 1, PAGE_1)]);
+    line.call("server 2", "none", &[page(18, 0, 1, 0, 1)]);
+    line.call("station 0", "written", &[]);
+}
+
+/// C6 with the younger one's write first.
+#[test]
+fn c6_cycle_other_way() {
+    let mut line = c1();
+    line.run("begin 2; read 2 8; server 2; station 2");
+    line.call("write 2 8 7", "waits", &[write(2, 1, 0, 1)]);
+    line.call("server 2", "none", &[callback(0, 2, 1, &[(1, 1)])]);
+    line.call("station 0", "none", &[busy(0, 2, 1)]);
+    line.call("server 0", "none", &[]);
+    line.call("write 0 8 5", "waits", &[write(0, 1, 0, 1)]);
+    // 2's request is gone with it, so 0's is looked at: 2 is listed still
+    let messages = [aborted(2, 1, 1), callback(2, 0, 1, &[(1, 1)])];
+    line.call("server 0", "none", &messages);
+    line.call("station 2", "aborted 1", &[]);
+    line.call("station 2", "none", &[done(2, 0, 1, PAGE_1)]);
+    line.call("server 2", "none", &[page(18, 0, 1, 0, 1)]);
+    line.call("station 0", "written", &[]);
+}
+
+/// "C7 1 reads 8, 0 commits 8: 1 gets 23 and ends, cause 2."
+#[test]
+fn c7_invalidated() {
+    let mut line = c2();
+    line.call("begin 1", "begun 1", &[]);
+    line.call("read 1 8", "waits", &[read(1, 1, 0, 1)]);
+    line.call("server 1", "none", &[page(16, 1, 1, 0, 1)]);
+    line.call("station 1", "value 0", &[]);
+    let record = record(1, 0, 0).reads(&[(8, 0)]).writes(&[(8, 5)]);
+    line.call("commit 0", "waits", &[commit(PAGE_1, &[], &record)]);
+    let messages = [committed(0, 1, 1), invalidate(1, PAGE_1)];
+    line.archives("server 0", "none", &messages, &[record]);
+    line.call("station 1", "aborted 2", &[]);
+    line.replies("read 1 8", "refused 8");
+    line.call("begin 1", "begun 2", &[]);
+    line.call("read 1 8", "waits", &[read(1, 1, 0, 2)]);
+    let fetched = page(16, 1, 1, 0, 2).version(1).values(&[(0, 5)]);
+    line.call("server 1", "none", &[fetched]);
+    line.call("station 1", "value 5", &[]);
+}
+
+/// "C8 0 holds page 1 whole, 1 commits a write to 9: cause 3."
+#[test]
+fn c8_locked() {
+    let mut line = c2();
+    line.call("begin 1", "begun 1", &[]);
+    line.call("write 1 9 6", "waits", &[read(1, 1, 1, 1)]);
+    line.call("server 1", "none", &[page(16, 1, 1, 1, 1)]);
+    line.call("station 1", "written", &[]);
+    let record = record(1, 1, 1).writes(&[(9, 6)]);
+    line.call("commit 1", "waits", &[commit(PAGE_1, &[], &record)]);
+    line.call("server 1", "none", &[aborted(1, 1, 3)]);
+    line.call("station 1", "aborted 3", &[]);
+    // a validating station drops its written pages
+    line.call("begin 1", "begun 2", &[]);
+    line.call("read 1 9", "waits", &[read(1, 1, 1, 2)]);
+}
+
+/// "C9 0 wrote 8 under 18, 2 reads 9: 19, 8 with set 1, 16 with unavailable set 1."
+#[test]
+fn c9_de_escalation() {
+    let mut line = c2();
+    line.call("begin 2", "begun 1", &[]);
+    line.call("read 2 9", "waits", &[read(2, 1, 1, 1)]);
+    line.call("server 2", "none", &[de_escalate(0, 1, 1)]);
+    line.call("station 0", "none", &[written_set(0, 1, 1, 1)]);
+    line.call("server 0", "none", &[page(16, 2, 1, 1, 1).unavailable(1)]);
+    line.call("station 2", "value 0", &[]);
+    // what is left at 0 is a lock on 8
+    line.call("write 0 8 6", "written", &[]);
+    line.call("write 0 10 6", "waits", &[write(0, 1, 2, 1)]);
+    line.call("server 0", "none", &[callback(2, 0, 1, &[(1, 4)])]);
+}

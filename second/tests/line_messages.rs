@@ -1,0 +1,241 @@
+//! Numbers 2 to 5 on raw messages, kind by kind and place by place.
+
+#[allow(dead_code)]
+mod line_text;
+
+use line_text::*;
+
+/// A message of each kind to a station 2 that is locking, every named field in range; places named are listed.
+fn samples() -> Vec<(Message, Vec<usize>)> {
+    let page_places: Vec<usize> = [1, 2, 3]
+        .into_iter()
+        .chain(4..8)
+        .chain(12..17)
+        .chain(48..112)
+        .collect();
+    let on_object: Vec<usize> = (1..8).collect();
+    let transaction: Vec<usize> = [1].into_iter().chain(4..8).collect();
+    let second: Vec<usize> = [1, 2].into_iter().chain(4..8).collect();
+    let with = |places: &[usize], more: std::ops::Range<usize>| -> Vec<usize> {
+        places.iter().copied().chain(more).collect()
+    };
+    vec![
+        (read(2, 1, 0, 1), on_object.clone()),
+        (write(2, 1, 0, 1), on_object.clone()),
+        (abort(2, 1), transaction.clone()),
+        (purge(2, 1), vec![1, 2]),
+        (busy(2, 1, 1), second.clone()),
+        (done(2, 1, 1, 0), with(&second, 8..12)),
+        (written_set(2, 1, 1, 1), with(&second, 16..17)),
+        (page(16, 2, 1, 0, 1), page_places.clone()),
+        (page(17, 2, 1, 0, 1), page_places.clone()),
+        (page(18, 2, 1, 0, 1), page_places),
+        (de_escalate(2, 1, 1), second.clone()),
+        (callback(2, 1, 1, &[]), with(&second, 16..48)),
+        (committed(2, 1, 1), with(&transaction, 12..16)),
+        (aborted(2, 1, 1), with(&transaction, 3..4)),
+        (invalidate(2, 1), with(&[1], 8..12)),
+    ]
+}
+
+fn command(message: &Message, bytes: &str) -> String {
+    match message.kind {
+        1..=8 => format!("serverraw {bytes}"),
+        _ => format!("stationraw 2 {bytes}"),
+    }
+}
+
+fn with_byte(message: &Message, at: usize, byte: u8) -> String {
+    let mut hex = message.hex();
+    hex.replace_range(2 * at..2 * at + 2, &format!("{byte:02x}"));
+    hex
+}
+
+/// The number given, or 0 for an accepted message.
+fn number(command: &str) -> u32 {
+    let mut driver = second::line::call::Driver::default();
+    driver.reply("fresh 00000000");
+    let reply = driver.reply(command);
+    match reply.strip_prefix("refused ") {
+        Some(number) => number.parse().unwrap(),
+        None => 0,
+    }
+}
+
+#[test]
+fn in_range_unless_an_unnamed_byte_is_set() {
+    for (message, named) in samples() {
+        for at in 1..112 {
+            let number = number(&command(&message, &with_byte(&message, at, 1)));
+            let expected = if named.contains(&at) { [0, 6] } else { [4, 4] };
+            assert!(
+                expected.contains(&number),
+                "{message:?}, byte {at}: {number}"
+            );
+        }
+    }
+}
+
+#[test]
+fn ranges() {
+    for (message, named) in samples() {
+        let check = |at: usize, byte: u8, number_4: bool| {
+            let number = number(&command(&message, &with_byte(&message, at, byte)));
+            assert_eq!(number == 4, number_4, "{message:?}: {at} {byte} {number}");
+        };
+        check(1, 7, false);
+        check(1, 8, true);
+        let requester = matches!(message.kind, 6 | 7 | 20);
+        let paged = named.contains(&2) && !requester;
+        check(2, 7, !named.contains(&2));
+        check(2, 8, !paged);
+        check(2, 31, !paged);
+        check(2, 32, true);
+        match message.kind {
+            22 => {
+                check(3, 0, true);
+                check(3, 4, false);
+                check(3, 5, true);
+            }
+            _ => {
+                check(3, 7, !named.contains(&3));
+                check(3, 8, true);
+            }
+        }
+        if named.contains(&4) {
+            check(4, 0, true);
+        }
+        if message.kind == 21 {
+            check(12, 0, true);
+        }
+    }
+}
+
+/// Reading 3: a callback's requester is compared with the station whose step runs.
+#[test]
+fn callback_of_the_station_itself() {
+    let own = callback(2, 2, 1, &[]).hex();
+    assert_eq!(number(&format!("stationraw 2 {own}")), 4);
+    assert_eq!(number(&format!("stationraw 3 {own}")), 6);
+    let others = callback(2, 3, 1, &[]).hex();
+    assert_eq!(number(&format!("stationraw 3 {others}")), 4);
+    assert_eq!(number(&format!("serverraw {}", busy(2, 2, 1).hex())), 0);
+    assert_eq!(number(&format!("serverraw {}", done(2, 2, 1, 0).hex())), 0);
+}
+
+#[test]
+fn lengths_and_kinds() {
+    for (message, _) in samples() {
+        let hex = message.hex();
+        assert_eq!(number(&command(&message, &hex[2..])), 2);
+        assert_eq!(number(&command(&message, &hex[..222])), 2);
+        assert_eq!(number(&command(&message, &format!("{hex}00"))), 2);
+        let other_end = match message.kind {
+            1..=8 => format!("stationraw 2 {hex}"),
+            _ => format!("serverraw {hex}"),
+        };
+        assert_eq!(number(&other_end), 3);
+    }
+    for kind in [0, 9, 15, 24, 255] {
+        let hex = with_byte(&abort(2, 1), 0, kind);
+        assert_eq!(number(&format!("serverraw {hex}")), 3);
+        assert_eq!(number(&format!("stationraw 2 {hex}")), 3);
+    }
+    // reading 1: byte 0 makes a commit, at either end
+    let commit_kind = with_byte(&abort(2, 1), 0, 3);
+    assert_eq!(number(&format!("serverraw {commit_kind}")), 2);
+    assert_eq!(number(&format!("stationraw 2 {commit_kind}")), 2);
+}
+
+/// A locking station's commit that reads 8 and 16.
+fn sample_commit() -> Message {
+    commit(6, &[], &record(0, 2, 0).reads(&[(8, 1), (16, 2)]))
+}
+
+fn commit_number(message: &Message) -> u32 {
+    number(&format!("serverraw {}", message.hex()))
+}
+
+#[test]
+fn commits() {
+    let good = sample_commit();
+    assert_eq!(commit_number(&good), 0);
+    let hex = good.hex();
+    assert_eq!(number(&format!("stationraw 2 {hex}")), 3);
+    assert_eq!(number(&format!("serverraw {}", &hex[..hex.len() - 2])), 2);
+    assert_eq!(number(&format!("serverraw {hex}00")), 2);
+    assert_eq!(number(&format!("serverraw {}", &hex[..510])), 2);
+    // 4 before 5
+    let both = Message {
+        station: 8,
+        pages: 7,
+        ..good.clone()
+    };
+    assert_eq!(commit_number(&both), 4);
+    for at in [2, 3, 12, 15, 16, 17, 47, 48, 111] {
+        assert_eq!(number(&format!("serverraw {}", with_byte(&good, at, 1))), 4);
+    }
+    // versions, then the record's header: number, transaction, station, kind, zero bytes, addresses
+    for (at, byte) in [
+        (112, 1),
+        (116, 1),
+        (239, 1),
+        (244, 1),
+        (248, 2),
+        (252, 3),
+        (252, 8),
+        (253, 1),
+        (253, 2),
+        (254, 1),
+        (255, 1),
+        (256, 16),
+        (257, 8),
+        (257, 24),
+    ] {
+        let number = number(&format!("serverraw {}", with_byte(&good, at, byte)));
+        assert_eq!(number, 5, "{at} {byte}");
+    }
+    for pages in [0, 2, 7] {
+        let other = Message {
+            pages,
+            ..good.clone()
+        };
+        assert_eq!(commit_number(&other), 5);
+    }
+    // values are not compared
+    assert_eq!(
+        number(&format!("serverraw {}", with_byte(&good, 258, 9))),
+        0
+    );
+}
+
+#[test]
+fn validating_versions() {
+    let mut line = Line::fresh("01000000");
+    let reads = record(0, 1, 1).reads(&[(8, 0)]);
+    line.server_refuses(&commit(2, &[(2, 1)], &reads), 5);
+    line.server_refuses(
+        &commit(
+            2,
+            &[],
+            &Record {
+                kind: 0,
+                ..reads.clone()
+            },
+        ),
+        5,
+    );
+    line.server_takes(&commit(2, &[(1, 1)], &reads), &[aborted(1, 1, 2)]);
+}
+
+/// "C10 n = m = 256 ...; n = 257: number 5", inside a commit.
+#[test]
+fn longest_commit() {
+    let all: Vec<(u8, u64)> = (0..=255).map(|address| (address, 0)).collect();
+    let longest = commit(u32::MAX, &[], &record(0, 2, 0).reads(&all));
+    assert_eq!(commit_number(&longest), 0);
+    let mut too_many = all.clone();
+    too_many.push((255, 0));
+    let broken = commit(u32::MAX, &[], &record(0, 2, 0).reads(&too_many));
+    assert_eq!(commit_number(&broken), 5);
+}
