@@ -4,6 +4,7 @@
 //! the line on random crossings.
 
 pub mod archive;
+pub mod chart;
 #[cfg(feature = "proved")]
 pub mod ffi;
 pub mod generate;

@@ -706,3 +706,43 @@ impl Server {
         self.listed[station as usize]
     }
 }
+
+/// What keeps a waiter: the first gate that is shut to it.
+#[derive(Clone, Copy, Debug, PartialEq, Eq)]
+pub enum HeldBy {
+    /// Holders of locks on objects, and earlier waiters.
+    Blocked(StationSet),
+    /// Holders of whole pages, who owe an 8.
+    Whole(StationSet),
+    /// Stations that owe a 7, and those of them that sent 6.
+    Callbacks { owed: StationSet, busy: StationSet },
+}
+
+/// What a chart shows.
+impl Server {
+    /// The waiting list in its order.
+    pub fn held_up(&self) -> Vec<(u8, HeldBy)> {
+        let waiters = self.waiting.iter().enumerate();
+        waiters
+            .map(|(at, waiter)| (waiter.station, self.held_by(at)))
+            .collect()
+    }
+
+    fn held_by(&self, at: usize) -> HeldBy {
+        let blockers = self.blockers(at);
+        if blockers != 0 {
+            return HeldBy::Blocked(blockers);
+        }
+        let holders = rising(self.whole_by_another(at))
+            .filter_map(|page| self.whole[page as usize])
+            .fold(0, |set, lock| set | station_bit(lock.holder));
+        if holders != 0 {
+            return HeldBy::Whole(holders);
+        }
+        let callbacks = self.waiting[at].callbacks;
+        HeldBy::Callbacks {
+            owed: callbacks.map_or(0, |callbacks| callbacks.owed),
+            busy: callbacks.map_or(0, |callbacks| callbacks.busy),
+        }
+    }
+}
