@@ -1,0 +1,1 @@
+// No code: the archive of every run, as bytes, is in specs/.
