@@ -306,8 +306,12 @@ answerWait (ForRead a) s = does (Value (s .copy a)) (recordRead a s) []
 answerWait (ForWrite a v) s = does Written (writeLocal a v s) []
 answerWait ForCommit s = does Nothing s []
 
+-- "taken and ignored"
+abbrev pub ignored : ℕ → ℕ → (ℕ → Bool) → (ℕ → ℕ) → Station → Did
+ignored a v u x s = does Nothing s []
+
 unfoldable pub onPage : Lock → ℕ → ℕ → ℕ → (ℕ → Bool) → (ℕ → ℕ) → Station → Did
-onPage l a t v u x s = cond (ended s t) (does Nothing s []) (answerWait (s .wait) (setWait (arrive (pageOf a) v u x (takeLock l a s)) Idle))
+onPage l a t v u x s = cond (ended s t) (ignored a v u x s) (answerWait (s .wait) (setWait (arrive (pageOf a) v u x (takeLock l a s)) Idle))
 
 -- "On 19: send 8 with the objects written on that page, empty if that transaction is over; if it is open, the whole lock becomes
 -- locks on those objects."
@@ -320,11 +324,15 @@ loosen p set s = setWl (setOl s (λ b. s .ol b || set b)) (upd (s .wl) p false)
 unfoldable pub onDeescalate : ℕ → ℕ → Station → Did
 onDeescalate p t s = does Nothing (cond (live s t && s .wl p) (loosen p (writtenOn p t s) s) s) (WrittenSet p t (writtenOn p t s) ∷ [])
 
+-- "the open transaction has read or written a named object"
+abbrev pub inUse : (ℕ → Bool) → Station → Bool
+inUse set s = any 256 (λ a. set a && usedAt s a)
+
 -- "Locking, on 20: if the open transaction has read or written a named object, send 6 and keep the callback, a newer one from that
 -- requester replacing it; else mark .., drop .., and send 7."
 unfoldable pub onCallback : ℕ → ℕ → (ℕ → Bool) → Station → Did
 onCallback r t set s =
-    cond (any 256 (λ a. set a && usedAt s a))
+    cond (inUse set s)
     (does Nothing (setKept s (upd (s .kept) r (KeptCall t set))) (Busy r t ∷ []))
     (doCallback r t set (does Nothing s []))
 
@@ -335,10 +343,14 @@ onCommitted n s = close (does (CommittedAs n) (setCver s (λ p. cond (s .cached 
 unfoldable pub onAborted : ℕ → Station → Did
 onAborted c s = close (does (AbortedFor c) (undo s) [])
 
+-- "the transaction used one" of the pages
+abbrev pub touched : (ℕ → Bool) → Station → Bool
+touched d s = any 32 (λ p. d p && usedPage s p)
+
 -- "Validating, on 23: drop the pages; if the transaction used one and no commit is out, it ends as aborted, cause 2"
 unfoldable pub onInvalidate : (ℕ → Bool) → Station → Did
 onInvalidate d s =
-    cond (any 32 (λ p. d p && usedPage s p) && not (forCommit (s .wait)))
+    cond (touched d s && not (forCommit (s .wait)))
     (close (does (AbortedFor 2) (undo (dropPages d s)) []))
     (does Nothing (dropPages d s) [])
 

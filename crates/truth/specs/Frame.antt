@@ -10,7 +10,7 @@ use Rattle.sets.specs.Base.{upd, snoc, Val, none, some, any, turned}
 use Rattle.sets.specs.Laws.{byB, byEq, eqb-same, eqb-yes, eqb-no, ltb-yes, ltb-no, and-l, and-r, or-yes, or-no, not-yes, not-no}
 use Rattle.line.specs.All.{All, all-append}
 use Rattle.line.specs.Messages.{pageOf, locking, Work, Up, ReadRequest, WriteRequest, Commit, Abort, Purge, Busy, Done, WrittenSet, Lock, NoLock, ObjectLock, WholeLock, Down, Page, Deescalate, Callback, Committed, Aborted, Invalidate, Sent, To, Nothing, Begun, Value, Waits, Written, AbortedFor, Purged, Refused}
-use Rattle.line.specs.Station.{Station, Did, does, didStation, unless, setKept, setNum, setOpened, setWait, Wait, Idle, ForRead, ForWrite, ForCommit, waiting, forRead, forWrite, forCommit, requested, Kept, NotKept, KeptCall, live, usedAt, usedPage, shown, mayWrite, workOf, ended, fits, fitsPage, checkBegin, checkOpen, checkAddress, checkPurge, dropPages, recordRead, writeLocal, doCallback, doKept, doAllKept, closed, close, undo, ownBegin, readLocal, readAsk, readAs, ownRead, writeAsk, ownWrite, ownCommit, ownAbort, ownPurge, arrive, takeLock, answerWait, onPage, onDeescalate, onCallback, onCommitted, onAborted, onInvalidate, onDown, stationStep}
+use Rattle.line.specs.Station.{Station, Did, does, didStation, unless, setKept, setNum, setOpened, setWait, Wait, Idle, ForRead, ForWrite, ForCommit, waiting, forRead, forWrite, forCommit, requested, Kept, NotKept, KeptCall, live, usedAt, usedPage, shown, mayWrite, workOf, ended, fits, fitsPage, checkBegin, checkOpen, checkAddress, checkPurge, dropPages, recordRead, writeLocal, doCallback, doKept, doAllKept, closed, close, undo, ownBegin, readLocal, readAsk, readAs, ownRead, writeAsk, ownWrite, ownCommit, ownAbort, ownPurge, arrive, takeLock, answerWait, onPage, onDeescalate, onCallback, onCommitted, onAborted, onInvalidate, onDown, stationStep, inUse, touched, ignored}
 use Rattle.line.specs.Server.{Server, Serving, onServer, send, setListed, wrotePage, informed, write, archive, inform, informFrom, install, badNumber, unlocked, lockOn, unexpected, notice, finish, leave, serveNow, joinRead, joinWrite, joinCommit, commitNow, unlist, openCall, markBusy, answered, openAsk, loosen, accept, concerned, callsFrom}
 use Rattle.line.specs.Line.{Op, Begin, Read, Write, Commits, Aborts, Purges, perform, sentTo}
 use Rattle.line.specs.Laws.{sentTo-snoc}
@@ -283,18 +283,18 @@ arrived l a v u x s = setWait (arrive (pageOf a) v u x (takeLock l a s)) Idle
 
 pub record Takes (s : Station) (P : Down → Did → Type 0) : Type 0 where
   pub refused : (m : Down) → fits m s ≡ false → P m (does (Refused 6) s [])
-  pub old-page : (a t v : ℕ) (u : ℕ → Bool) (x : ℕ → ℕ) → ended s t ≡ true → P (Page NoLock a t v u x) (does Nothing s [])
+  pub old-page : (a t v : ℕ) (u : ℕ → Bool) (x : ℕ → ℕ) → ended s t ≡ true → P (Page NoLock a t v u x) (ignored a v u x s)
   pub page-read : (a t v : ℕ) (u : ℕ → Bool) (x : ℕ → ℕ) → live s t ≡ true → s .wait ≡ ForRead a
       → P (Page NoLock a t v u x) (does (Value ((arrived NoLock a v u x s) .copy a)) (recordRead a (arrived NoLock a v u x s)) [])
   pub page-write : (l : Lock) (a t v : ℕ) (u : ℕ → Bool) (x : ℕ → ℕ) (y : ℕ) → live s t ≡ true → s .wait ≡ ForWrite a y → locking (s .kind) ≡ isLock l
       → P (Page l a t v u x) (does Written (writeLocal a y (arrived l a v u x s)) [])
   pub deescalates : (p t : ℕ) → locking (s .kind) ≡ true → P (Deescalate p t) (onDeescalate p t s)
-  pub keeps : (r t : ℕ) (set : ℕ → Bool) → locking (s .kind) ≡ true → any 256 (λ a. set a && usedAt s a) ≡ true → P (Callback r t set) (does Nothing (setKept s (upd (s .kept) r (KeptCall t set))) (Busy r t ∷ []))
-  pub dones : (r t : ℕ) (set : ℕ → Bool) → locking (s .kind) ≡ true → any 256 (λ a. set a && usedAt s a) ≡ false → P (Callback r t set) (doCallback r t set (does Nothing s []))
+  pub keeps : (r t : ℕ) (set : ℕ → Bool) → locking (s .kind) ≡ true → inUse set s ≡ true → P (Callback r t set) (does Nothing (setKept s (upd (s .kept) r (KeptCall t set))) (Busy r t ∷ []))
+  pub dones : (r t : ℕ) (set : ℕ → Bool) → locking (s .kind) ≡ true → inUse set s ≡ false → P (Callback r t set) (doCallback r t set (does Nothing s []))
   pub commits : (t n : ℕ) → live s t ≡ true → s .wait ≡ ForCommit → P (Committed t n) (onCommitted n s)
   pub aborts : (t c : ℕ) → live s t ≡ true → waiting (s .wait) ≡ true → P (Aborted t c) (onAborted c s)
-  pub invalid-ends : (d : ℕ → Bool) → locking (s .kind) ≡ false → any 32 (λ p. d p && usedPage s p) ≡ true → forCommit (s .wait) ≡ false → P (Invalidate d) (close (does (AbortedFor 2) (undo (dropPages d s)) []))
-  pub invalid : (d : ℕ → Bool) → locking (s .kind) ≡ false → (any 32 (λ p. d p && usedPage s p) && not (forCommit (s .wait))) ≡ false → P (Invalidate d) (does Nothing (dropPages d s) [])
+  pub invalid-ends : (d : ℕ → Bool) → locking (s .kind) ≡ false → touched d s ≡ true → forCommit (s .wait) ≡ false → P (Invalidate d) (close (does (AbortedFor 2) (undo (dropPages d s)) []))
+  pub invalid : (d : ℕ → Bool) → locking (s .kind) ≡ false → (touched d s && not (forCommit (s .wait))) ≡ false → P (Invalidate d) (does Nothing (dropPages d s) [])
 
 -- which wait it is
 pub for-read : (w : Wait) (a : ℕ) → forRead w a ≡ true → w ≡ ForRead a
@@ -354,12 +354,12 @@ module _ (s : Station) (P : Down → Did → Type 0) (k : Takes s P) where
   unfolding onDown onCallback onInvalidate
   takes-down (Page l a t v u x) e = page-takes l a t v u x e
   takes-down (Deescalate p t) e = k .deescalates p t e
-  takes-down (Callback r t set) e = if-did (P (Callback r t set)) (any 256 (λ a. set a && usedAt s a)) (λ q. k .keeps r t set e q) (λ q. k .dones r t set e q)
+  takes-down (Callback r t set) e = if-did (P (Callback r t set)) (inUse set s) (λ q. k .keeps r t set e q) (λ q. k .dones r t set e q)
   takes-down (Committed t n) e = k .commits t n (and-l (live s t) _ e) (for-commit (s .wait) (and-r (live s t) _ e))
   takes-down (Aborted t c) e = k .aborts t c (and-l (live s t) _ e) (and-r (live s t) _ e)
   takes-down (Invalidate d) e =
-      if-did (P (Invalidate d)) (any 32 (λ p. d p && usedPage s p) && not (forCommit (s .wait)))
-      (λ q. k .invalid-ends d (not-yes (locking (s .kind)) e) (and-l (any 32 (λ p. d p && usedPage s p)) _ q) (not-yes (forCommit (s .wait)) (and-r (any 32 (λ p. d p && usedPage s p)) _ q)))
+      if-did (P (Invalidate d)) (touched d s && not (forCommit (s .wait)))
+      (λ q. k .invalid-ends d (not-yes (locking (s .kind)) e) (and-l (touched d s) _ q) (not-yes (forCommit (s .wait)) (and-r (touched d s) _ q)))
       (λ q. k .invalid d (not-yes (locking (s .kind)) e) q)
 
   pub takes : (m : Down) → P m (stationStep m s)
