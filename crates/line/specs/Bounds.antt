@@ -463,7 +463,7 @@ unfolding doAllKept
 kept-most zero r d = omega arith
 kept-most (suc n) r d = omega (arith, kept-one r (d .station .kept r) d, kept-most n (suc r) (doKept r (d .station .kept r) d))
 
-kept-stays : (own r : ℕ) (k : Kept) (d : Did) → d .station .kept own ≡ NotKept → (doKept r k d) .station .kept own ≡ NotKept
+pub kept-stays : (own r : ℕ) (k : Kept) (d : Did) → d .station .kept own ≡ NotKept → (doKept r k d) .station .kept own ≡ NotKept
 unfolding doKept doCallback dropPages mark
 kept-stays own r NotKept d e = e
 kept-stays own r (KeptCall t set) d e = byEq own r (λ q. rw q refl) (λ q. rw q e)
@@ -490,7 +490,7 @@ close-7 : (own : ℕ) (d : Did) → own < 8 → d .station .kept own ≡ NotKept
 unfolding close closed
 close-7 own d b e = omega (arith, kept-less own 8 0 (didStation d (closed (d .station))) (omega arith) (omega arith) e)
 
-undo-kept : (s : Station) → (undo s) .kept ≡ s .kept
+pub undo-kept : (s : Station) → (undo s) .kept ≡ s .kept
 unfolding undo mark dropPages
 undo-kept s = byB (locking (s .kind)) (λ e. rw e refl) (λ e. rw e refl)
 
@@ -700,7 +700,7 @@ refused-nothing (StationTakes i) w = either w (ltb i 8) _ _ (station-refused i (
 refused-nothing (Broken n) w = turned-back w (Refused n)
 
 -- what a call sends and archives. The server's calls need no premise: a step runs only for a station, and only if nothing is
--- unexpected. The premise is number 1's, for the owners' calls: no station keeps a callback of its own
+-- unexpected. The premise is number 1's, for the owners' calls: no station keeps a callback of its own (in a run none does: `kept-run`)
 
 pub record ReplyBound (r : Reply) : Type 0 where
   pub ups : length (r .ups) ≤ 8

@@ -21,5 +21,6 @@ pub mod All
 pub mod Runs
 pub mod Apart
 pub mod Counters
-pub mod PageOnly
+pub mod Says
+pub mod Kept
 pub mod Ordered
