@@ -69,11 +69,9 @@ module _ (s : Server) (i : ℕ) (u : blocked s i ≡ false) where
       let g : any 8 (blocks s i n) ≡ false = rw v at p in
       let o = or-no (eqb (s .ol n) (suc j) && not (eqb j i)) _ (any-no 8 (blocks s i n) g j c) in
       byB (s .queue j .reads n || s .queue j .writes n)
-      (λ t. absurd (false≢true (sym (o .1) ∙ full j n z l t w))) (λ t. t)
-    where
-      full : (j n : ℕ) → waits s j ≡ true → ltb (s .queue j .arrival) (s .queue i .arrival) ≡ true → wants s j n ≡ true → s .queue i .writes n ≡ true
-          → (earlier s j i && wants s j n && (s .queue j .writes n || s .queue i .writes n)) ≡ true
-      full j n z l t w = rw (z, l, t, w) (byB (s .queue j .writes n) (λ e. rw e refl) (λ e. rw e refl))
+      (λ t.
+      byB (s .queue j .writes n) (λ e. absurd (false≢true (sym (rw (z, l, t, w, e) at (o .1))))) (λ e. absurd (false≢true (sym (rw (z, l, t, w, e) at (o .1))))))
+      (λ t. t)
 
   called-G4 : (P : ℕ → Bool) → G4Of (s .queue) → G4Of (upd (s .queue) i (waiterPend (waiterCalled (s .queue i) true) P))
   called-G4 P h =

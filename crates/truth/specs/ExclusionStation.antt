@@ -57,7 +57,7 @@ marked-less set s a e =
 pub undone-less : (s : Station) (a : ℕ) → shown (undo s) a ≡ true → shown s a ≡ true
 unfolding undo
 undone-less s a e =
-    byB (locking (s .kind)) (λ q. marked-less (λ b. has (s .wr b)) s a (rw q at e)) (λ q. dropped-less (wrotePage s) s a (rw q at e))
+    byB (locking (s .kind)) (λ q. marked-less _ s a (rw q at e)) (λ q. dropped-less (wrotePage s) s a (rw q at e))
 
 pub undone-kind : (s : Station) → (undo s) .kind ≡ s .kind
 unfolding undo mark dropPages
@@ -392,7 +392,7 @@ module _ (s : Server) (t : ℕ → Station) (u : ℕ → List Up) (d : ℕ → L
         moves =
             record {
               refused = λ n e q f. absurd (false≢true (sym f));
-              old-page = λ a n v x y e q f. fine-tail _ q _ (same-less (t i)) (λ r c. refl);
+              old-page = λ a n v x y e q f. fine-tail _ q _ (record { kind = refl; shows = λ a z. z; rd = λ a z. z }) (λ r c. refl);
               page-read = λ a n v x y e w q f. page-read a n v x y q;
               page-write = λ o a n v x y z e w k q f. page-write o a n v x y z q;
               deescalates = λ p n k q f. deescalates p n q;

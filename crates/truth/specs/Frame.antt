@@ -359,7 +359,7 @@ module _ (s : Station) (P : Down → Did → Type 0) (k : Takes s P) where
   takes-down (Aborted t c) e = k .aborts t c (and-l (live s t) _ e) (and-r (live s t) _ e)
   takes-down (Invalidate d) e =
       if-did (P (Invalidate d)) (touched d s && not (forCommit (s .wait)))
-      (λ q. k .invalid-ends d (not-yes (locking (s .kind)) e) (and-l (touched d s) _ q) (not-yes (forCommit (s .wait)) (and-r (touched d s) _ q)))
+      (λ q. k .invalid-ends d (not-yes (locking (s .kind)) e) (and-l (touched d s) (not (forCommit (s .wait))) q) (not-yes (forCommit (s .wait)) (and-r (touched d s) (not (forCommit (s .wait))) q)))
       (λ q. k .invalid d (not-yes (locking (s .kind)) e) q)
 
   pub takes : (m : Down) → P m (stationStep m s)

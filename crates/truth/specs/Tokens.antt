@@ -982,7 +982,7 @@ unfolding onDeescalate S.loosen doCallback dropPages mark
 station-frozen s e =
     record {
       refused = λ m f n. still s;
-      old-page = λ a t v u x f n. still s;
+      old-page = λ a t v u x f n. record { num = refl; opened = refl; rd = refl; wr = refl; wait = refl };
       page-read = λ a t v u x f g n. absurd (false≢true (sym (ap forCommit g) ∙ ap forCommit e));
       page-write = λ l a t v u x y f g o n. absurd (false≢true (sym (ap forCommit g) ∙ ap forCommit e));
       deescalates = λ p t f n. byB (live s t && s .wl p) (λ z. rw z (record { num = refl; opened = refl; rd = refl; wr = refl; wait = refl })) (λ z. rw z (still s));
