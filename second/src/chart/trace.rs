@@ -323,17 +323,7 @@ fn bytes_taken<'a>(call: &'a Call, before: &'a World) -> Option<&'a [u8]> {
 
 /// The end at which a call is made.
 fn actor(call: &Call) -> End {
-    match call {
-        Call::Begin(station)
-        | Call::Read(station, _)
-        | Call::Write(station, _, _)
-        | Call::Commit(station)
-        | Call::Abort(station)
-        | Call::Purge(station, _)
-        | Call::Station(station)
-        | Call::StationRaw(station, _) => End::Station(*station),
-        Call::Server(_) | Call::ServerRaw(_) | Call::Fresh(_) | Call::Numbers(..) => End::Server,
-    }
+    call.station().map_or(End::Server, End::Station)
 }
 
 /// What was called, with an arrow behind it; nothing for a step on a line's message.

@@ -45,6 +45,21 @@ impl Call {
             _ => return None,
         })
     }
+
+    /// The station at which the call is made; none for one made at the server.
+    pub fn station(&self) -> Option<u8> {
+        match self {
+            Call::Begin(station)
+            | Call::Read(station, _)
+            | Call::Write(station, _, _)
+            | Call::Commit(station)
+            | Call::Abort(station)
+            | Call::Purge(station, _)
+            | Call::Station(station)
+            | Call::StationRaw(station, _) => Some(*station),
+            Call::Server(_) | Call::ServerRaw(_) | Call::Fresh(_) | Call::Numbers(..) => None,
+        }
+    }
 }
 
 fn kinds_of(digits: &str) -> Option<[Kind; STATIONS]> {

@@ -122,7 +122,7 @@ impl<'a> Watched<'a> {
         }
         match call {
             Call::Server(_) | Call::ServerRaw(_) => Before::Server(self.world.server.clone()),
-            _ => owner_of(call).map_or(Before::NotKept, |station| {
+            _ => call.station().map_or(Before::NotKept, |station| {
                 Before::Station(self.world.stations[station as usize].clone())
             }),
         }
@@ -142,9 +142,9 @@ impl<'a> Watched<'a> {
         let same = match before {
             Before::NotKept => true,
             Before::Server(server) => server == self.world.server,
-            Before::Station(station) => {
-                owner_of(call).is_some_and(|number| station == self.world.stations[number as usize])
-            }
+            Before::Station(station) => call
+                .station()
+                .is_some_and(|number| station == self.world.stations[number as usize]),
         };
         if !same {
             return failed("a refusal changes nothing", call.to_string());
@@ -309,21 +309,6 @@ impl<'a> Watched<'a> {
             }
         }
         Ok(())
-    }
-}
-
-/// The station whose state a call may change.
-fn owner_of(call: &Call) -> Option<u8> {
-    match call {
-        Call::Begin(station)
-        | Call::Read(station, _)
-        | Call::Write(station, _, _)
-        | Call::Commit(station)
-        | Call::Abort(station)
-        | Call::Purge(station, _)
-        | Call::Station(station)
-        | Call::StationRaw(station, _) => Some(*station),
-        _ => None,
     }
 }
 
