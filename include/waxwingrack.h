@@ -1,5 +1,5 @@
 /*
- * Waxwingrack: check, write, read and replay the records of a bottling line's archive.
+ * Waxwingrack: the stations of a bottling line, and check, write, read and replay the records of its archive.
  *
  * Link with libwaxwingrack.a. The functions allocate nothing and keep nothing between calls,
  * so they may run at the same time on different buffers.
@@ -40,8 +40,17 @@ extern "C" {
 
 /* Answers. */
 #define WAX_OK       UINT32_C(0)
-#define WAX_BUFFER   UINT32_C(1)   /* the buffer for the result is too short */
-#define WAX_RECORD   UINT32_C(5)   /* the record's layout is broken */
+#define WAX_BUFFER   UINT32_C(1)   /* a state is none, or a buffer for the result is too short */
+#define WAX_LENGTH   UINT32_C(2)   /* a message has a wrong length */
+#define WAX_KIND     UINT32_C(3)   /* this end does not take messages of that kind */
+#define WAX_RANGE    UINT32_C(4)   /* a number lies outside its range */
+#define WAX_RECORD   UINT32_C(5)   /* the record's layout is broken, or it disagrees with its message */
+#define WAX_UNEXPECTED UINT32_C(6) /* a message that fits neither station, kind nor what is out */
+#define WAX_WAITING  UINT32_C(7)   /* a request or commit is out */
+#define WAX_CLOSED   UINT32_C(8)   /* no transaction is open */
+#define WAX_OPEN     UINT32_C(9)   /* a transaction is open */
+#define WAX_KEPT     UINT32_C(10)  /* the page is used by the transaction, or not cached */
+#define WAX_SPENT    UINT32_C(11)  /* the last transaction number is used up */
 #define WAX_SHORT    UINT32_C(12)  /* the bytes end inside a record */
 #define WAX_SEQUENCE UINT32_C(13)  /* the commit number is not one more than the last */
 #define WAX_REPLAY   UINT32_C(14)  /* a read differs from the value left by earlier records */
@@ -180,6 +189,105 @@ typedef struct wax_playback {
  *   uint32_t answer = wax_playback_record(&playback, record, length);
  */
 uint32_t wax_playback_record(wax_playback *playback, const uint8_t *record, size_t length);
+
+/*
+ * STATIONS
+ *
+ * A station's state is WAX_STATION_LENGTH bytes that the host keeps and lends to every call (docs/STATE.md has their meaning).
+ * Each call takes two more buffers and the place for what it tells:
+ *
+ *   messages  at least WAX_STATION_MESSAGES bytes: messages of WAX_MESSAGE_LENGTH bytes for the server, one behind the other
+ *   commit    at least WAX_COMMIT_LENGTH bytes: a commit for the server
+ *   told      at least WAX_TOLD numbers:
+ *             told[WAX_TOLD_ANSWER]    what the owner is told, WAX_BEGUN ... WAX_NOTHING
+ *             told[WAX_TOLD_VALUE]     the value, transaction, commit number or cause that goes with it, else 0
+ *             told[WAX_TOLD_MESSAGES]  how many messages to send, in order
+ *             told[WAX_TOLD_COMMIT]    bytes of the commit to send, 0 if there is none
+ *
+ * A call sends either messages or a commit, never both. Bytes of messages and commit behind what is sent stay as they are.
+ * Any answer but WAX_OK changes nothing at all.
+ */
+#define WAX_MESSAGE_LENGTH   112
+#define WAX_COMMIT_HEAD      240  /* message and 32 versions; the record comes behind */
+#define WAX_COMMIT_LENGTH    4864 /* WAX_COMMIT_HEAD + WAX_LONGEST_RECORD */
+#define WAX_STATION_LENGTH   6713
+#define WAX_STATION_MESSAGES 896  /* 8 messages */
+
+#define WAX_TOLD          4
+#define WAX_TOLD_ANSWER   0
+#define WAX_TOLD_VALUE    1
+#define WAX_TOLD_MESSAGES 2
+#define WAX_TOLD_COMMIT   3
+
+/* What an owner is told. After WAX_WAITS the answer is told by the step that takes the delivery. */
+#define WAX_BEGUN     UINT64_C(1) /* value: the transaction's number */
+#define WAX_VALUE     UINT64_C(2) /* value: what was read */
+#define WAX_WAITS     UINT64_C(3)
+#define WAX_WRITTEN   UINT64_C(4)
+#define WAX_COMMITTED UINT64_C(5) /* value: the commit number */
+#define WAX_ABORTED   UINT64_C(6) /* value: the cause, 0 for the owner's own abort */
+#define WAX_PURGED    UINT64_C(7)
+#define WAX_NOTHING   UINT64_C(8) /* a message was taken that tells the owner nothing */
+
+/* Causes. */
+#define WAX_CAUSE_DEADLOCK   1
+#define WAX_CAUSE_STALE      2
+#define WAX_CAUSE_LOCKED     3
+#define WAX_CAUSE_NO_NUMBERS 4
+
+/*
+ * A fresh state.
+ *
+ *   WAX_BUFFER  length is not WAX_STATION_LENGTH
+ *   WAX_RANGE   station is above 7, or kind is neither WAX_LOCKING nor WAX_VALIDATING
+ */
+uint32_t wax_station_fresh(uint32_t station, uint32_t kind, uint8_t *state, size_t length);
+
+/*
+ * The owner's operations. Each can answer WAX_BUFFER: the state is not one, or messages, commit or told is too short.
+ *
+ *   begin   WAX_WAITING, WAX_OPEN, WAX_SPENT                tells WAX_BEGUN
+ *   read    WAX_RANGE (address above 255), WAX_WAITING, WAX_CLOSED    tells WAX_VALUE or WAX_WAITS
+ *   write   the same                                        tells WAX_WRITTEN or WAX_WAITS
+ *   commit  WAX_WAITING, WAX_CLOSED                         tells WAX_WAITS
+ *   abort   WAX_WAITING, WAX_CLOSED                         tells WAX_ABORTED, value 0
+ *   purge   WAX_RANGE (page above 31), WAX_WAITING (it is the requested page), WAX_KEPT    tells WAX_PURGED
+ */
+uint32_t wax_station_begin(uint8_t *state, size_t state_length, uint8_t *messages, size_t messages_length,
+                           uint8_t *commit, size_t commit_length, uint64_t *told, size_t told_length);
+uint32_t wax_station_read(uint32_t address, uint8_t *state, size_t state_length, uint8_t *messages, size_t messages_length,
+                          uint8_t *commit, size_t commit_length, uint64_t *told, size_t told_length);
+uint32_t wax_station_write(uint32_t address, uint64_t value, uint8_t *state, size_t state_length,
+                           uint8_t *messages, size_t messages_length, uint8_t *commit, size_t commit_length,
+                           uint64_t *told, size_t told_length);
+uint32_t wax_station_commit(uint8_t *state, size_t state_length, uint8_t *messages, size_t messages_length,
+                            uint8_t *commit, size_t commit_length, uint64_t *told, size_t told_length);
+uint32_t wax_station_abort(uint8_t *state, size_t state_length, uint8_t *messages, size_t messages_length,
+                           uint8_t *commit, size_t commit_length, uint64_t *told, size_t told_length);
+uint32_t wax_station_purge(uint32_t page, uint8_t *state, size_t state_length, uint8_t *messages, size_t messages_length,
+                           uint8_t *commit, size_t commit_length, uint64_t *told, size_t told_length);
+
+/*
+ * The station's step on one message from the server.
+ *
+ *   WAX_BUFFER, WAX_LENGTH, WAX_KIND, WAX_RANGE, WAX_UNEXPECTED, in this order
+ *
+ * Tells WAX_VALUE, WAX_WRITTEN, WAX_COMMITTED or WAX_ABORTED where the message answers the owner (WAX_ABORTED, cause 2, also
+ * where it ends a transaction that waits for nothing), else WAX_NOTHING.
+ */
+uint32_t wax_station_step(const uint8_t *message, size_t message_length, uint8_t *state, size_t state_length,
+                          uint8_t *messages, size_t messages_length, uint8_t *commit, size_t commit_length,
+                          uint64_t *told, size_t told_length);
+
+/*
+ * What the bytes of a message say, before any state is looked at.
+ *
+ *   wax_down_check  for station `station`: WAX_LENGTH, WAX_KIND, WAX_RANGE (also a station above 7), else WAX_OK
+ *   wax_up_check    for a server whose stations have these 8 kinds: WAX_BUFFER (kinds are not 8 bytes of 0 or 1),
+ *                   WAX_LENGTH, WAX_KIND, WAX_RANGE, WAX_RECORD, else WAX_OK
+ */
+uint32_t wax_down_check(uint32_t station, const uint8_t *message, size_t length);
+uint32_t wax_up_check(const uint8_t *kinds, size_t kinds_length, const uint8_t *message, size_t length);
 
 #ifdef __cplusplus
 }

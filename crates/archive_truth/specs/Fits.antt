@@ -15,7 +15,7 @@ use Rattle.line.specs.Station.{Station, Did, unless, Wait, Idle, ForRead, ForWr
 use Rattle.line.specs.Server.{Server, Serving, Waiter, noWaiter, Want, NoWant, WantRead, WantWrite, WantCommit, unexpected, notice, finish, join, leave, sendPage, abort, informed, write, archive, inform, informFrom, install, serveNow, joinRead, joinWrite, joinCommit, commitNow, unlist, openCall, markBusy, answered, openAsk, loosen, accept, ask, serveRead, concerned, callsFrom, call, grantPage, grantObject, installWaiter, start, serverStep}
 use Rattle.line.specs.Pass.{Atomic, if-keeps, step-keeps}
 use Rattle.line.specs.Line.{World, Op, Begin, Read, Write, Commits, Aborts, Purges, Call, Owner, ServerTakes, StationTakes, Broken, fresh, worldDown, tell, sentTo, carryUp, carryDown, perform, ownerActs, stationTakes, serverTakes, act, run, isRefused}
-use Rattle.archive_truth.specs.Bytes.{FitVal, Within}
+use Rattle.entries.specs.Entries.{FitVal, Within}
 
 -- WHAT FITS
 

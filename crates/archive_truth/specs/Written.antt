@@ -22,7 +22,8 @@ use Rattle.line.specs.Line.{World, Call, Told, ToldRead, ToldWrite, ToldCommit,
 use Rattle.line.specs.Truth as Line
 use Rattle.line.specs.Truth.{In, here, there, leftBefore, NumberedFrom, lastWrite, firstOf, firstRead, True}
 use Rattle.truth.specs.Truth.{truth}
-use Rattle.archive_truth.specs.Bytes.{asRecord, recordsOf, recsOf, Narrow, all-given-back, entries-rise, entries-count, entries-fit, left-is, ReadsLeft, replays-of}
+use Rattle.entries.specs.Entries.{entries-rise, entries-count, entries-fit}
+use Rattle.archive_truth.specs.Bytes.{asRecord, recordsOf, recsOf, Narrow, all-given-back, left-is, ReadsLeft, replays-of}
 use Rattle.archive_truth.specs.Fits.{FitRec, FitCalls, fits-run}
 
 -- WHAT FITS IS WELL FORMED

@@ -114,7 +114,7 @@ fn fill(to: &mut [u8], from: &[u8])
     bytes::copy(from, to);
 }
 
-fn put_header(
+pub fn put_header(
     out: &mut [u8],
     reads: u32,
     writes: u32,

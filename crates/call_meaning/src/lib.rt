@@ -1,0 +1,1 @@
+// No code: a station's calls mean document 01's steps.

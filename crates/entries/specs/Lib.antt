@@ -1,0 +1,2 @@
+-- A record's entries as functions by address, and back.
+pub mod Entries

@@ -1,0 +1,2 @@
+-- A station's calls as C takes them.
+pub mod Host

@@ -1,0 +1,18 @@
+-- `message::purge_ok` meets its contract.
+use Rattle.message.specs.Range.{purgeOk}
+use borrow.Author.Needs.{needs}
+use Rattle.message.proofs.purge_ok.Statement.{statement}
+use Rattle.message.proofs.purge_ok.Tie as tie
+
+shared-slice-read-result : tie.Need-shared-slice-read-result
+shared-slice-read-result c = search needs
+
+zeros-requires : tie.Need-zeros-requires
+zeros-requires c κs = search needs
+
+returns : tie.Need-returns
+unfolding purgeOk
+returns c = rw (c .zeros .ensures)
+
+pub purge-ok-spec : {M : Type 1} → statement M
+purge-ok-spec = tie.close (tie.spec shared-slice-read-result zeros-requires returns)

@@ -1,0 +1,232 @@
+-- What a message that a station takes tells of its bytes: numbers 2 to 4 are not due.
+use Prim.Native.Nat.{ℕ, suc, _+_, _*_, _^_, _≤_, _<_}
+use mathlib.Core.Path.{_≡_, refl}
+use mathlib.Core.Bool.{Bool, true, false, _&&_, cond}
+use mathlib.Core.List.{List}
+use mathlib.Core.Logic.{_≢_}
+use native.Mathlib.Omega.{arith}
+use lib.ListN.{length, getD}
+use lib.Dec.{eqb, leb}
+use borrow.Author.Tests.{eqb-true, eqb-false, ne-eqb, leb-true, not-true}
+use Rattle.lists.specs.Tests.{and-l, and-r, allTo-at}
+use Rattle.lists.specs.Bytes.{Bytes, byte-at}
+use Rattle.le.specs.Width.{numAt-lt}
+use Rattle.le.specs.Laws.{u32At-is, u64At-is}
+use Rattle.sets.specs.Laws.{byEq, eqb-no}
+use Rattle.message.specs.Layout.{kindOf, stationOf, pageOf, requesterOf, objectOf, causeOf, transactionOf, pagesOf, versionOf, setOf, valueOf}
+use Rattle.message.specs.Range.{zeroAt, zeros, stationOk, pageOk, objectOk, requesterOk, transactionOk, pageMessageOk, deescalateOk, callbackOk, committedOk, abortedOk, invalidateOk, downFieldsOk}
+use Rattle.message.specs.Number.{lengthOk, downRange, downNumber}
+
+-- the n bytes from a are 0
+abbrev pub Zero : List ℕ → ℕ → ℕ → Type 0
+Zero m a n = (i : ℕ) → i < n → getD m (a + i) 0 ≡ 0
+
+pub zeros-are : (m : List ℕ) (a n : ℕ) → zeros m a n ≡ true → Zero m a n
+unfolding zeros zeroAt
+zeros-are m a n h i l = eqb-true _ _ (allTo-at (zeroAt m a) n h i l)
+
+-- what the fields of any bytes are below
+pub record Fits (m : List ℕ) : Type 0 where
+  pub page-fits : pageOf m < 256
+  pub object-fits : objectOf m < 256
+  pub transaction-fits : transactionOf m < 2 ^ 32
+  pub pages-fit : pagesOf m < 2 ^ 32
+  pub version-fits : versionOf m < 2 ^ 32
+  pub set-fits : (p : ℕ) → setOf m p < 256
+  pub value-fits : (o : ℕ) → valueOf m o < 2 ^ 64
+
+pub fields-fit : (m : List ℕ) → Bytes m → Fits m
+fields-fit m h =
+    record {
+      page-fits = byte-at m 2 h;
+      object-fits = byte-at m 3 h;
+      transaction-fits = rw u32At-is (numAt-lt 4 m 4 h);
+      pages-fit = rw u32At-is (numAt-lt 4 m 8 h);
+      version-fits = rw u32At-is (numAt-lt 4 m 12 h);
+      set-fits = λ p. byte-at m (16 + p) h;
+      value-fits = λ o. rw u64At-is (numAt-lt 8 m (48 + o * 8) h);
+    }
+
+-- what each test of a field tells
+module _ (m : List ℕ) where
+  pub page-lt : pageOk m ≡ true → pageOf m < 32
+  page-lt h = omega (arith, leb-true (pageOf m) 31 h)
+
+  pub object-lt : objectOk m ≡ true → objectOf m < 8
+  object-lt h = omega (arith, leb-true (objectOf m) 7 h)
+
+  pub requester-lt : requesterOk m ≡ true → requesterOf m < 8
+  requester-lt h = omega (arith, leb-true (requesterOf m) 7 h)
+
+  pub station-lt : stationOk m ≡ true → stationOf m < 8
+  station-lt h = omega (arith, leb-true (stationOf m) 7 h)
+
+  pub transaction-named : transactionOk m ≡ true → transactionOf m ≢ 0
+  transaction-named h = eqb-false (transactionOf m) 0 (not-true (eqb (transactionOf m) 0) h)
+
+-- a number that is 0 comes from a test that passed
+pub passed : (b : Bool) (x n : ℕ) → cond b x (suc n) ≡ 0 → (b ≡ true) × (x ≡ 0)
+passed true x n e = (refl, e)
+passed false x n e = absurd (omega arith)
+
+-- WHAT EACH KIND'S FIELDS ARE
+
+-- "16 page (page, object, transaction, version, unavailable set, values)", 17 and 18 the same
+pub record PageFields (m : List ℕ) : Type 0 where
+  pub page-is : pageOf m < 32
+  pub object-is : objectOf m < 8
+  pub transaction-not-0 : transactionOf m ≢ 0
+  pub unnamed-8 : Zero m 8 4
+  pub unnamed-17 : Zero m 17 31
+
+page-fields : (m : List ℕ) → pageMessageOk m ≡ true → PageFields m
+unfolding pageMessageOk
+page-fields m h =
+    record {
+      page-is = page-lt m (search (and-l, and-r));
+      object-is = object-lt m (search (and-l, and-r));
+      transaction-not-0 = transaction-named m (search (and-l, and-r));
+      unnamed-8 = zeros-are m 8 4 (search (and-l, and-r));
+      unnamed-17 = zeros-are m 17 31 (search (and-l, and-r));
+    }
+
+-- "19 de-escalate (page, transaction)"
+pub record DeescalateFields (m : List ℕ) : Type 0 where
+  pub page-is : pageOf m < 32
+  pub transaction-not-0 : transactionOf m ≢ 0
+  pub unnamed-3 : Zero m 3 1
+  pub unnamed-8 : Zero m 8 104
+
+deescalate-fields : (m : List ℕ) → deescalateOk m ≡ true → DeescalateFields m
+unfolding deescalateOk
+deescalate-fields m h =
+    record {
+      page-is = page-lt m (search (and-l, and-r));
+      transaction-not-0 = transaction-named m (search (and-l, and-r));
+      unnamed-3 = zeros-are m 3 1 (search (and-l, and-r));
+      unnamed-8 = zeros-are m 8 104 (search (and-l, and-r));
+    }
+
+-- "20 callback (requester, its transaction, object sets by page)": it comes to `at`
+pub record CallbackFields (at : ℕ) (m : List ℕ) : Type 0 where
+  pub requester-is : requesterOf m < 8
+  pub requester-other : requesterOf m ≢ at
+  pub transaction-not-0 : transactionOf m ≢ 0
+  pub unnamed-3 : Zero m 3 1
+  pub unnamed-8 : Zero m 8 8
+  pub unnamed-48 : Zero m 48 64
+
+callback-fields : (at : ℕ) (m : List ℕ) → callbackOk at m ≡ true → CallbackFields at m
+unfolding callbackOk
+callback-fields at m h =
+    record {
+      requester-is = requester-lt m (search (and-l, and-r) depth 7);
+      requester-other = eqb-false (requesterOf m) at (not-true (eqb (requesterOf m) at) (search (and-l, and-r) depth 7));
+      transaction-not-0 = transaction-named m (search (and-l, and-r));
+      unnamed-3 = zeros-are m 3 1 (search (and-l, and-r));
+      unnamed-8 = zeros-are m 8 8 (search (and-l, and-r));
+      unnamed-48 = zeros-are m 48 64 (search (and-l, and-r));
+    }
+
+-- "21 committed (transaction, commit number)"
+pub record CommittedFields (m : List ℕ) : Type 0 where
+  pub transaction-not-0 : transactionOf m ≢ 0
+  pub number-not-0 : versionOf m ≢ 0
+  pub unnamed-2 : Zero m 2 2
+  pub unnamed-8 : Zero m 8 4
+  pub unnamed-16 : Zero m 16 96
+
+committed-fields : (m : List ℕ) → committedOk m ≡ true → CommittedFields m
+unfolding committedOk
+committed-fields m h =
+    record {
+      transaction-not-0 = transaction-named m (search (and-l, and-r));
+      number-not-0 = eqb-false (versionOf m) 0 (not-true (eqb (versionOf m) 0) (search (and-l, and-r)));
+      unnamed-2 = zeros-are m 2 2 (search (and-l, and-r));
+      unnamed-8 = zeros-are m 8 4 (search (and-l, and-r));
+      unnamed-16 = zeros-are m 16 96 (search (and-l, and-r));
+    }
+
+-- "22 aborted (transaction, cause)"
+pub record AbortedFields (m : List ℕ) : Type 0 where
+  pub cause-not-0 : causeOf m ≢ 0
+  pub cause-is : causeOf m ≤ 4
+  pub transaction-not-0 : transactionOf m ≢ 0
+  pub unnamed-2 : Zero m 2 1
+  pub unnamed-8 : Zero m 8 104
+
+aborted-fields : (m : List ℕ) → abortedOk m ≡ true → AbortedFields m
+unfolding abortedOk
+aborted-fields m h =
+    let low : 1 ≤ causeOf m = leb-true 1 (causeOf m) (search (and-l, and-r)) in
+    record {
+      cause-not-0 = omega arith;
+      cause-is = leb-true (causeOf m) 4 (search (and-l, and-r));
+      transaction-not-0 = transaction-named m (search (and-l, and-r));
+      unnamed-2 = zeros-are m 2 1 (search (and-l, and-r));
+      unnamed-8 = zeros-are m 8 104 (search (and-l, and-r));
+    }
+
+-- "23 invalidate (page set)"
+pub record InvalidateFields (m : List ℕ) : Type 0 where
+  pub unnamed-2 : Zero m 2 6
+  pub unnamed-12 : Zero m 12 100
+
+invalidate-fields : (m : List ℕ) → invalidateOk m ≡ true → InvalidateFields m
+unfolding invalidateOk
+invalidate-fields m h =
+    record { unnamed-2 = zeros-are m 2 6 (and-l (zeros m 2 6) (zeros m 12 100) h); unnamed-12 = zeros-are m 12 100 (and-r (zeros m 2 6) (zeros m 12 100) h) }
+
+-- WHAT A STATION TAKES
+
+pub record DownAccepted (at : ℕ) (m : List ℕ) : Type 0 where
+  pub length-is : length m ≡ 112
+  pub at-is : at < 8
+  pub station-is : stationOf m < 8
+  pub kind-from : 16 ≤ kindOf m
+  pub kind-to : kindOf m ≤ 23
+  -- 16, 17 and 18
+  pub page : kindOf m ≤ 18 → PageFields m
+  pub deescalate : kindOf m ≡ 19 → DeescalateFields m
+  pub callback : kindOf m ≡ 20 → CallbackFields at m
+  pub committed : kindOf m ≡ 21 → CommittedFields m
+  pub aborted : kindOf m ≡ 22 → AbortedFields m
+  pub invalidate : kindOf m ≡ 23 → InvalidateFields m
+
+-- no commit comes to a station
+length-down : (m : List ℕ) → 16 ≤ kindOf m → lengthOk m ≡ true → length m ≡ 112
+unfolding lengthOk
+length-down m k h = eqb-true (length m) 112 (rw (ne-eqb (kindOf m) 3 (λ e. omega arith)) at h)
+
+page-kind : (at : ℕ) (m : List ℕ) → 16 ≤ kindOf m → kindOf m ≤ 18 → downFieldsOk at m ≡ true → PageFields m
+unfolding downFieldsOk
+page-kind at m from to h =
+    byEq (kindOf m) 16 (λ e. page-fields m (rw e at h))
+    (λ e.
+    byEq (kindOf m) 17 (λ f. page-fields m (rw (e, f) at h))
+    (λ f.
+    let is : kindOf m ≡ 18 = omega (arith, eqb-no (kindOf m) 16 e, eqb-no (kindOf m) 17 f) in
+    page-fields m (rw is at h)))
+
+pub down-accepted : (at : ℕ) (m : List ℕ) → downNumber at m ≡ 0 → DownAccepted at m
+unfolding downNumber downRange downFieldsOk
+down-accepted at m h =
+    let len = passed (lengthOk m) (downRange at m) 1 h in
+    let kinds = passed (leb 16 (kindOf m) && leb (kindOf m) 23) (cond (leb at 7 && stationOk m && downFieldsOk at m) 0 4) 2 (len .1) in
+    let ranges = passed (leb at 7 && stationOk m && downFieldsOk at m) 0 3 (kinds .1) in
+    let from : 16 ≤ kindOf m = leb-true 16 (kindOf m) (and-l _ _ (kinds .0)) in
+    let fields : downFieldsOk at m ≡ true = and-r (leb at 7 && stationOk m) (downFieldsOk at m) (ranges .0) in
+    let here = and-l (leb at 7 && stationOk m) (downFieldsOk at m) (ranges .0) in
+    record {
+      length-is = length-down m from (len .0);
+      at-is = omega (arith, leb-true at 7 (and-l (leb at 7) (stationOk m) here));
+      station-is = station-lt m (and-r (leb at 7) (stationOk m) here);
+      kind-from = from;
+      kind-to = leb-true (kindOf m) 23 (and-r (leb 16 (kindOf m)) _ (kinds .0));
+      page = λ to. page-kind at m from to fields;
+      deescalate = λ e. deescalate-fields m (rw e at fields);
+      callback = λ e. callback-fields at m (rw e at fields);
+      committed = λ e. committed-fields m (rw e at fields);
+      aborted = λ e. aborted-fields m (rw e at fields);
+      invalidate = λ e. invalidate-fields m (rw e at fields);
+    }

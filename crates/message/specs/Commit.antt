@@ -1,0 +1,39 @@
+-- A commit: "followed by 32 versions of 4 bytes (0 for an unused page; all 0 from a locking station) and a record". Its length, and number 5.
+use Prim.Native.Nat.{ℕ, zero, suc, _+_, _*_, _/_, _^_}
+use mathlib.Core.List.{List}
+use mathlib.Core.Bool.{Bool, not, _&&_, _||_, cond}
+use lib.ListN.{length, getD, drop}
+use lib.Bits.{bitAnd, bitOr}
+use lib.Dec.{eqb, leb}
+use Rattle.lists.specs.Tests.{allTo}
+use Rattle.le.specs.Le.{u16At, u32At}
+use Rattle.layout.specs.Record.{recordLength}
+use Rattle.record.specs.Check.{checkOf}
+use Rattle.message.specs.Layout.{stationOf, transactionOf, pagesOf}
+
+-- the record's size fields
+abbrev pub entriesOf : List ℕ → ℕ
+entriesOf m = u16At m 240 + u16At m 242
+
+-- "a commit isn't 240 and its record's length"
+unfoldable pub commitLengthOk : List ℕ → Bool
+commitLengthOk m = leb 256 (length m) && eqb (length m) (240 + recordLength (u16At m 240) (u16At m 242))
+
+-- "a version that must be 0 isn't": it may be another of a used page, from a validating station
+unfoldable pub versionOk : ℕ → List ℕ → ℕ → Bool
+versionOk kind m p = eqb (u32At m (112 + p * 4)) 0 || (eqb kind 1 && not (eqb (bitAnd (pagesOf m) (2 ^ p)) 0))
+
+-- the pages of the first n addresses of the record
+unfoldable pub pagesTo : List ℕ → ℕ → ℕ
+pagesTo m zero = 0
+pagesTo m (suc n) = bitOr (pagesTo m n) (2 ^ (getD m (256 + n) 0 / 8))
+
+-- "a commit's record disagrees with message or server on station, kind, transaction or pages used"; its number is 0 on the way up
+unfoldable pub recordAgrees : ℕ → List ℕ → Bool
+recordAgrees kind m =
+    eqb (u32At m 244) 0 && eqb (u32At m 248) (transactionOf m) && eqb (getD m 252 0) (stationOf m) && eqb (getD m 253 0) kind
+    && allTo (versionOk kind m) 32 && eqb (pagesTo m (entriesOf m)) (pagesOf m)
+
+-- number 5 of a commit of the right length; kind is that of the station at the server
+unfoldable pub commitNumber : ℕ → List ℕ → ℕ
+commitNumber kind m = cond (eqb (checkOf (drop 240 m)) 0) (cond (recordAgrees kind m) 0 5) 5

@@ -1,0 +1,8 @@
+-- Document 01, "Messages, 112 bytes": the layout, and the numbers 2 to 5 for both ends.
+pub mod Layout
+pub mod Range
+pub mod Commit
+pub mod Number
+pub mod Stores
+pub mod Facts
+pub mod Accepted

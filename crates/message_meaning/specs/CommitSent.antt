@@ -1,0 +1,211 @@
+-- A commit that a station sends is taken by the server and read as meant: "3 commit (transaction, set of pages used)", "followed by 32
+-- versions of 4 bytes (0 for an unused page; all 0 from a locking station) and a record".
+use Prim.Native.Nat.{ℕ, _+_, _*_, _^_, _≤_, _<_}
+use mathlib.Core.Path.{_≡_, refl, sym, ap, _∙_, fun-ext}
+use mathlib.Core.Bool.{true, false, _&&_, cond, or-true}
+use mathlib.Core.List.{List, [], _++_, append-nil}
+use native.Mathlib.Nat.{zero-add, le-refl}
+use native.Mathlib.Omega.{arith}
+use lib.ListN.{length, drop, getD, replicate, length-append}
+use lib.Seq.{getD-drop, drop-at}
+use lib.Dec.{eqb, ltb}
+use borrow.Author.Tests.{eq-eqb, ne-eqb, le-leb}
+use Rattle.lists.specs.Tests.{allTo, allTo-of}
+use Rattle.lists.specs.Bytes.{Bytes, bytes-append}
+use Rattle.lists.specs.Parts.{drop-behind}
+use Rattle.le.specs.Le.{u32At}
+use Rattle.le.specs.Width.{bytes}
+use Rattle.le.specs.Laws.{u32At-is}
+use Rattle.sets.specs.Laws.{byB, eqb-same, ltb-yes}
+use Rattle.cells.specs.Bits.{tb, tb-test, tb-tells}
+use Rattle.layout.specs.Record.{Record, WellFormed, bytesOf}
+use Rattle.record.specs.Check.{commitNumber, transactionNumber, stationNumber, stationKind, lengthOf, checkOf}
+use Rattle.record_meaning.specs.Parse.{recordOf}
+use Rattle.record_meaning.specs.Layout.{bytesOf-are}
+use Rattle.record_meaning.specs.Meaning.{written-read as record-back}
+use Rattle.line.specs.Messages.{Work, Commit}
+use Rattle.line.specs.Server.{usedPage}
+use Rattle.entries.specs.Entries.{valueIn}
+use Rattle.message.specs.Stores.{length-up}
+use Rattle.message.specs.Layout.{kindOf, stationOf, message, single, upMessage}
+use Rattle.message.specs.Range.{zeroAt, zeros, commitOk, upFieldsOk}
+use Rattle.message.specs.Commit.{entriesOf as entriesIn, commitLengthOk, versionOk, pagesTo, recordAgrees, commitNumber as commitTurned}
+use Rattle.message.specs.Number.{lengthOk, upRange, kindsOk, upNumber}
+use Rattle.message_meaning.specs.Meant.{versionAt, workAt}
+use Rattle.message_meaning.specs.Kinds.{up-3}
+use Rattle.message_meaning.specs.Numbers.{numbers, length-numbers, numbers-are, numbers-read}
+use Rattle.message_meaning.specs.Inverse.{ReadBack, written-read, message-more}
+use Rattle.message_meaning.specs.Sent.{Reads, up-are}
+use Rattle.message_meaning.specs.Uses.{mask-fits}
+use Rattle.message_meaning.specs.CommitRead.{u16-behind, u32-behind, pages-used}
+
+-- "32 versions of 4 bytes": the n from page p on
+abbrev pub versionBytes : (ℕ → ℕ) → ℕ → ℕ → List ℕ
+versionBytes v n p = numbers 4 v n p
+
+-- the bytes of a commit with this record, set of pages used and versions
+abbrev pub commitMessage : Record → ℕ → (ℕ → ℕ) → List ℕ
+commitMessage r used v = upMessage 3 (r .station) 0 0 (r .transaction) used 0 ++ (versionBytes v 32 0 ++ bytesOf r)
+
+-- and what it brings
+abbrev pub workIn : Record → (ℕ → ℕ) → Work
+workIn r v = record { transaction = r .transaction; reads = valueIn (r .reads); writes = valueIn (r .writes); versions = λ p. cond (ltb p 32) (v p) 0 }
+
+-- what is read of a record's bytes
+module _ (r : Record) (w : WellFormed r) where
+  record-accepted : checkOf (bytesOf r) ≡ 0
+  record-accepted = rw append-nil at (record-back r [] w .accepts)
+
+  record-read : recordOf (bytesOf r) ≡ r
+  record-read = rw append-nil at (record-back r [] w .record-is)
+
+  record-size : lengthOf (bytesOf r) ≡ length (bytesOf r)
+  record-size = rw append-nil at (record-back r [] w .length-is)
+
+  commit-read : commitNumber (bytesOf r) ≡ r .commit
+  unfolding recordOf
+  commit-read = ap (λ (x : Record). x .commit) record-read
+
+  transaction-read : transactionNumber (bytesOf r) ≡ r .transaction
+  unfolding recordOf
+  transaction-read = ap (λ (x : Record). x .transaction) record-read
+
+  station-read : stationNumber (bytesOf r) ≡ r .station
+  unfolding recordOf
+  station-read = ap (λ (x : Record). x .station) record-read
+
+  kind-read : stationKind (bytesOf r) ≡ r .kind
+  unfolding recordOf
+  kind-read = ap (λ (x : Record). x .kind) record-read
+
+-- numbers 2 to 5
+takes : (kinds m : List ℕ) → kindsOk kinds ≡ true → kindOf m ≡ 3 → commitLengthOk m ≡ true → stationOf m ≤ 7 → commitOk m ≡ true
+    → commitTurned (getD kinds (stationOf m) 0) m ≡ 0 → upNumber kinds m ≡ 0
+unfolding upNumber lengthOk upRange upFieldsOk
+takes kinds m ok is len st fields n = rw (ok, is, len, le-leb (stationOf m) 7 st, fields, n)
+
+zeros-commit : (st t used : ℕ) (rest : List ℕ) → (zeros (upMessage 3 st 0 0 t used 0 ++ rest) 2 2 ≡ true) × (zeros (upMessage 3 st 0 0 t used 0 ++ rest) 12 100 ≡ true)
+unfolding message bytes zeros zeroAt allTo
+zeros-commit st t used rest = (refl, refl)
+
+-- what makes a record, a set of pages and versions a commit that a station sends
+pub record Sendable (kinds : List ℕ) (r : Record) (used : ℕ) (v : ℕ → ℕ) : Type 0 where
+  pub kinds-ok : kindsOk kinds ≡ true
+  pub kind-known : getD kinds (r .station) 0 ≡ r .kind
+  pub well-formed : WellFormed r
+  -- "commit number (4; 0 on the way up)"
+  pub commit-0 : r .commit ≡ 0
+  -- "set of pages used": those of the reads and writes
+  pub pages-fit : used < 2 ^ 32
+  pub pages-are : (p : ℕ) → p < 32 → tb used p ≡ usedPage (workIn r v) p
+  -- "0 for an unused page; all 0 from a locking station"
+  pub versions-fit : (p : ℕ) → p < 32 → v p < 2 ^ 32
+  pub versions-0 : (p : ℕ) → p < 32 → (eqb (r .kind) 1 && tb used p) ≡ false → v p ≡ 0
+
+module _ {kinds : List ℕ} {r : Record} {used : ℕ} {v : ℕ → ℕ} (h : Sendable kinds r used v) where
+  -- where its parts stand
+  versions-place : drop 112 (commitMessage r used v) ≡ versionBytes v 32 0 ++ bytesOf r
+  versions-place = drop-at (upMessage 3 (r .station) 0 0 (r .transaction) used 0) _ 112 (length-up 3 (r .station) 0 0 (r .transaction) used 0)
+
+  record-place : drop 240 (commitMessage r used v) ≡ bytesOf r
+  record-place = drop-behind (versionBytes v 32 0) (bytesOf r) (commitMessage r used v) 112 240 versions-place (rw length-numbers)
+
+  length-commit : length (commitMessage r used v) ≡ 240 + length (bytesOf r)
+  length-commit =
+      rw (length-append, length-append, length-up 3 (r .station) 0 0 (r .transaction) used 0, length-numbers) (omega arith)
+
+  commit-are : Bytes (commitMessage r used v)
+  commit-are =
+      let at : r .station < 256 = omega (arith, h .well-formed .station-is) in
+      bytes-append (upMessage 3 (r .station) 0 0 (r .transaction) used 0) _
+      (up-are 3 (r .station) 0 0 (r .transaction) used 0 (omega arith) at (omega arith) (omega arith) (omega arith))
+      (bytes-append (versionBytes v 32 0) (bytesOf r) (numbers-are 4 v 32 0) (bytesOf-are r (h .well-formed)))
+
+  -- what is read of it
+  head-read : ReadBack 3 (r .station) 0 0 (r .transaction) used 0 (single 0) (replicate 64 0 ++ (versionBytes v 32 0 ++ bytesOf r)) (commitMessage r used v)
+  head-read =
+      rw (message-more 3 (r .station) 0 0 (r .transaction) used 0 (single 0) (replicate 64 0) (versionBytes v 32 0 ++ bytesOf r))
+      (written-read 3 (r .station) 0 0 (r .transaction) used 0 (single 0) _ (h .well-formed .transaction-fits) (h .pages-fit) (omega arith) refl)
+
+  version-read : (p : ℕ) → p < 32 → u32At (commitMessage r used v) (112 + p * 4) ≡ v p
+  version-read p l =
+      u32-behind 112 (commitMessage r used v) (p * 4)
+      ∙ rw (versions-place, u32At-is) (rw zero-add at (numbers-read 4 v 32 0 (bytesOf r) p l (rw zero-add (h .versions-fit p l))))
+
+  work-read : workAt (commitMessage r used v) ≡ workIn r v
+  unfolding workAt versionAt
+  work-read =
+      let m = commitMessage r used v in
+      let version-is : versionAt m ≡ (workIn r v) .versions = fun-ext (λ p. byB (ltb p 32) (λ e. rw e (version-read p (ltb-yes p 32 e))) (λ e. rw e)) in
+      rw (record-place, record-read r (h .well-formed), head-read .transaction-is, version-is)
+
+  -- its length and its first 112 bytes pass
+  length-ok : commitLengthOk (commitMessage r used v) ≡ true
+  unfolding commitLengthOk
+  length-ok =
+      let m = commitMessage r used v in
+      let size = record-size r (h .well-formed) in
+      rw (u16-behind 240 m 0, u16-behind 240 m 2, record-place, length-commit, le-leb 256 (240 + length (bytesOf r)) (omega arith))
+      (eq-eqb (240 + length (bytesOf r)) (240 + lengthOf (bytesOf r)) (omega arith))
+
+  commit-ok : commitOk (commitMessage r used v) ≡ true
+  unfolding commitOk
+  commit-ok =
+      let z = zeros-commit (r .station) (r .transaction) used (versionBytes v 32 0 ++ bytesOf r) in
+      rw (z .0, z .1, head-read .transaction-is, ne-eqb (r .transaction) 0 (λ e. omega (arith, h .well-formed .transaction-not-0)))
+
+  -- its versions
+  version-ok : (p : ℕ) → p < 32 → versionOk (r .kind) (commitMessage r used v) p ≡ true
+  unfolding versionOk
+  version-ok p l =
+      rw (version-read p l, head-read .pages-are, tb-test p used)
+      (byB (eqb (r .kind) 1 && tb used p) (λ e. rw e (or-true (eqb (v p) 0))) (λ e. rw (e, h .versions-0 p l e)))
+
+  -- the mask of the record's addresses is the message's set
+  pages-agree : pagesTo (commitMessage r used v) (entriesIn (commitMessage r used v)) ≡ used
+  pages-agree =
+      let m = commitMessage r used v in
+      let there : lengthOf (drop 240 m) ≤ length (drop 240 m) = rw record-place (rw (record-size r (h .well-formed)) (le-refl (length (bytesOf r)))) in
+      tb-tells 32 (pagesTo m (entriesIn m)) used (mask-fits m (entriesIn m) commit-are) (h .pages-fit)
+      (λ p l. pages-used m there p ∙ ap (λ (x : Work). usedPage x p) work-read ∙ sym (h .pages-are p l))
+
+  agrees : recordAgrees (r .kind) (commitMessage r used v) ≡ true
+  unfolding recordAgrees
+  agrees =
+      let m = commitMessage r used v in
+      let w = h .well-formed in
+      let commit-is : u32At m 244 ≡ 0 = u32-behind 240 m 4 ∙ rw record-place (commit-read r w ∙ h .commit-0) in
+      let transaction-is : u32At m 248 ≡ r .transaction = u32-behind 240 m 8 ∙ rw record-place (transaction-read r w) in
+      let station-is : getD m 252 0 ≡ r .station = sym (getD-drop 240 m 12 0) ∙ rw record-place (station-read r w) in
+      let kind-is : getD m 253 0 ≡ r .kind = sym (getD-drop 240 m 13 0) ∙ rw record-place (kind-read r w) in
+      rw (
+        commit-is,
+        transaction-is,
+        station-is,
+        kind-is,
+        head-read .transaction-is,
+        head-read .station-is,
+        head-read .pages-are,
+        eqb-same (r .transaction),
+        eqb-same (r .station),
+        eqb-same (r .kind),
+        allTo-of (versionOk (r .kind) m) 32 version-ok,
+        pages-agree,
+      )
+      (eqb-same used)
+
+  turned-not : commitTurned (getD kinds (stationOf (commitMessage r used v)) 0) (commitMessage r used v) ≡ 0
+  unfolding commitTurned
+  turned-not = rw (head-read .station-is, h .kind-known, record-place, record-accepted r (h .well-formed), agrees)
+
+  -- the server takes it, and reads what the record, the set and the versions say
+  pub commit-sent : Reads kinds (r .station) (240 + length (bytesOf r)) (commitMessage r used v) (Commit (workIn r v))
+  commit-sent =
+      let m = commitMessage r used v in
+      record {
+        length-is = length-commit;
+        bytes-are = commit-are;
+        accepted = takes kinds m (h .kinds-ok) (head-read .kind-is) length-ok (rw (head-read .station-is) (h .well-formed .station-is)) commit-ok turned-not;
+        station-is = head-read .station-is;
+        meant = up-3 m (head-read .kind-is) ∙ ap Commit work-read;
+      }

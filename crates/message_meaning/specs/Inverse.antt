@@ -1,0 +1,125 @@
+-- A message written from its fields and its fields read: each undoes the other.
+use Prim.Native.Nat.{ℕ, _+_, _*_, _^_, _<_}
+use mathlib.Core.Path.{_≡_, refl, sym, ap, _∙_, fun-ext}
+use mathlib.Core.List.{List, [], _++_, append-assoc, append-nil}
+use native.Mathlib.Nat.{zero-add}
+use native.Mathlib.Omega.{arith}
+use lib.ListN.{length, take, drop, getD, length-append, length-drop, take-append-drop, List·getD-append}
+use lib.Seq.{drop-cons, getD-drop, drop-drop, take-at, take-all}
+use Rattle.lists.specs.Bytes.{Bytes, bytes-append}
+use Rattle.lists.specs.Parts.{drop-behind}
+use Rattle.le.specs.Le.{u32At, u64At}
+use Rattle.le.specs.Width.{bytes, bytes-are, bytes-numAt}
+use Rattle.le.specs.Laws.{u32At-is, u64At-is}
+use Rattle.le.specs.Parts.{numAt-drop}
+use Rattle.message.specs.Layout.{kindOf, stationOf, pageOf, objectOf, transactionOf, pagesOf, versionOf, setOf, valueOf, message}
+use Rattle.message_meaning.specs.Meant.{setsOf}
+use Rattle.message_meaning.specs.Numbers.{numbers, numbers-read, numbers-written}
+
+-- WRITTEN, THEN READ
+
+-- m says these fields: `values` are all that stands behind the 48 bytes
+pub record ReadBack (kind station page object transaction pages version : ℕ) (sets values m : List ℕ) : Type 0 where
+  pub kind-is : kindOf m ≡ kind
+  pub station-is : stationOf m ≡ station
+  pub page-is : pageOf m ≡ page
+  pub object-is : objectOf m ≡ object
+  pub transaction-is : transactionOf m ≡ transaction
+  pub pages-are : pagesOf m ≡ pages
+  pub version-is : versionOf m ≡ version
+  pub sets-are : setsOf m ≡ sets
+  pub set-is : (p : ℕ) → p < 32 → setOf m p ≡ getD sets p 0
+  pub values-are : drop 48 m ≡ values
+  pub value-is : (o : ℕ) → valueOf m o ≡ u64At values (o * 8)
+  pub length-is : length m ≡ 48 + length values
+
+-- what stands behind the 16 bytes of single fields
+module _ (sets values m : List ℕ) (e : drop 16 m ≡ sets ++ values) (hs : length sets ≡ 32) where
+  sets-back : setsOf m ≡ sets
+  sets-back = rw e (take-at sets values 32 hs)
+
+  set-back : (p : ℕ) → p < 32 → setOf m p ≡ getD sets p 0
+  set-back p l = sym (getD-drop 16 m p 0) ∙ rw e (List·getD-append sets values 0 p (omega arith))
+
+  values-back : drop 48 m ≡ values
+  values-back = drop-behind sets values m 16 48 e (rw hs)
+
+  value-back : (o : ℕ) → valueOf m o ≡ u64At values (o * 8)
+  value-back o = rw (u64At-is m (48 + o * 8), u64At-is values (o * 8), ← values-back) (sym (numAt-drop 8 48 m (o * 8)))
+
+module _ (kind station page object transaction pages version : ℕ) (sets values : List ℕ) where
+  behind-16 : drop 16 (message kind station page object transaction pages version sets values) ≡ sets ++ values
+  unfolding message bytes
+  behind-16 = refl
+
+  pub written-read : transaction < 2 ^ 32 → pages < 2 ^ 32 → version < 2 ^ 32 → length sets ≡ 32
+      → ReadBack kind station page object transaction pages version sets values (message kind station page object transaction pages version sets values)
+  unfolding message bytes u32At
+  written-read ht hp hv hs =
+      let m = message kind station page object transaction pages version sets values in
+      record {
+        kind-is = refl;
+        station-is = refl;
+        page-is = refl;
+        object-is = refl;
+        transaction-is = omega arith;
+        pages-are = omega arith;
+        version-is = omega arith;
+        sets-are = sets-back sets values m behind-16 hs;
+        set-is = set-back sets values m behind-16 hs;
+        values-are = values-back sets values m behind-16 hs;
+        value-is = value-back sets values m behind-16 hs;
+        length-is = omega (arith, length-append sets values);
+      }
+
+  pub message-are : kind < 256 → station < 256 → page < 256 → object < 256 → Bytes sets → Bytes values
+      → Bytes (message kind station page object transaction pages version sets values)
+  unfolding message
+  message-are h0 h1 h2 h3 hs hv =
+      let version-on = bytes-append (bytes 4 version) (sets ++ values) (bytes-are 4 version) (bytes-append sets values hs hv) in
+      let pages-on = bytes-append (bytes 4 pages) _ (bytes-are 4 pages) version-on in
+      (h0, (h1, (h2, (h3, bytes-append (bytes 4 transaction) _ (bytes-are 4 transaction) pages-on))))
+
+  -- what follows a message follows its values
+  pub message-more : (rest : List ℕ)
+      → message kind station page object transaction pages version sets values ++ rest ≡ message kind station page object transaction pages version sets (values ++ rest)
+  unfolding message bytes
+  message-more rest = rw (append-assoc sets values rest)
+
+-- "eight values", written one behind the other
+pub value-read : (f : ℕ → ℕ) (o : ℕ) → o < 8 → f o < 2 ^ 64 → u64At (numbers 8 f 8 0) (o * 8) ≡ f o
+value-read f o l h = rw (u64At-is, ← append-nil (numbers 8 f 8 0)) (rw zero-add at (numbers-read 8 f 8 0 [] o l (rw zero-add h)))
+
+-- READ, THEN WRITTEN
+
+-- a part, and what stands behind it
+part-rest : (k a b : ℕ) (s : List ℕ) → b ≡ a + k → take k (drop a s) ++ drop b s ≡ drop a s
+part-rest k a b s e = rw (e, ← drop-drop k a s) (take-append-drop k (drop a s))
+
+module _ (m : List ℕ) (hm : Bytes m) (hl : length m ≡ 112) where
+  -- the message of the fields that are read is the one that they were read from: no byte says nothing
+  pub read-written : message (kindOf m) (stationOf m) (pageOf m) (objectOf m) (transactionOf m) (pagesOf m) (versionOf m) (setsOf m) (drop 48 m) ≡ m
+  unfolding message
+  read-written =
+      rw (
+        u32At-is m 4,
+        u32At-is m 8,
+        u32At-is m 12,
+        bytes-numAt 4 m 4 hm (omega arith),
+        bytes-numAt 4 m 8 hm (omega arith),
+        bytes-numAt 4 m 12 hm (omega arith),
+        part-rest 32 16 48 m refl,
+        part-rest 4 12 16 m refl,
+        part-rest 4 8 12 m refl,
+        part-rest 4 4 8 m refl,
+        ← drop-cons m 3 0 (omega arith),
+        ← drop-cons m 2 0 (omega arith),
+        ← drop-cons m 1 0 (omega arith),
+        ← drop-cons m 0 0 (omega arith),
+      )
+
+  pub values-written : numbers 8 (valueOf m) 8 0 ≡ drop 48 m
+  values-written =
+      ap (λ f. numbers 8 f 8 0) (fun-ext (λ o. u64At-is m (48 + o * 8)))
+      ∙ numbers-written 8 48 m 8 0 hm (omega arith)
+      ∙ take-all 64 (drop 48 m) (rw length-drop (omega arith))

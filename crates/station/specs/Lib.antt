@@ -1,0 +1,3 @@
+-- The station's step.
+pub mod Station
+pub mod Facts

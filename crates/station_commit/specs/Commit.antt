@@ -1,0 +1,51 @@
+-- The bytes of a commit: "3 commit (transaction, set of pages used)", "followed by 32 versions of 4 bytes (0 for an unused page; all 0
+-- from a locking station) and a record".
+use Prim.Native.Nat.{ℕ, zero, suc}
+use mathlib.Core.List.{List, [], _++_}
+use mathlib.Core.Bool.{not, _&&_, cond}
+use lib.ListN.{length}
+use lib.Seq.{sets}
+use lib.Dec.{eqb}
+use Rattle.le.specs.Width.{bytes}
+use Rattle.sets.specs.Base.{Val, none, some}
+use Rattle.layout.specs.Record.{Record, bytesOf}
+use Rattle.entries.specs.Entries.{entriesOf}
+use Rattle.message.specs.Layout.{upMessage}
+use Rattle.station_state.specs.Layout.{readValue, writtenValue, versionOf, number, station, kind, readSetFrom, writtenSetFrom, member}
+use Rattle.station_pages.specs.Pages.{usedPageB, usedPagesB}
+
+-- the recorded reads and the own last writes, by address
+abbrev pub readsOf : List ℕ → ℕ → Val
+readsOf s a = cond (member s readSetFrom a) (some (readValue s a)) none
+
+abbrev pub writesOf : List ℕ → ℕ → Val
+writesOf s a = cond (member s writtenSetFrom a) (some (writtenValue s a)) none
+
+-- "commit number (4; 0 on the way up)"
+abbrev pub recordSent : List ℕ → Record
+recordSent s =
+    record { reads = entriesOf (readsOf s); writes = entriesOf (writesOf s); commit = 0; transaction = number s; station = station s; kind = kind s }
+
+-- "0 for an unused page; all 0 from a locking station"
+unfoldable pub versionSent : List ℕ → ℕ → ℕ
+versionSent s p = cond (not (eqb (kind s) 0) && usedPageB s p) (versionOf s p) 0
+
+-- the n versions from page p on
+unfoldable pub versionsSent : List ℕ → ℕ → ℕ → List ℕ
+versionsSent s zero p = []
+versionsSent s (suc n) p = bytes 4 (versionSent s p) ++ versionsSent s n (suc p)
+
+unfoldable pub commitBytes : List ℕ → List ℕ
+commitBytes s =
+    upMessage 3 (station s) 0 0 (number s) (usedPagesB s) 0 ++ (versionsSent s 32 0 ++ bytesOf (recordSent s))
+
+-- the output afterwards, and how many of its bytes are the commit
+pub record Filled : Type 0 where
+  pub out : List ℕ
+  pub count : ℕ
+
+abbrev pub filled : List ℕ → ℕ → Filled
+filled o n = record { out = o; count = n }
+
+abbrev pub commitFilled : List ℕ → List ℕ → Filled
+commitFilled s c = filled (sets c 0 (commitBytes s)) (length (commitBytes s))

@@ -1,0 +1,21 @@
+-- `station_delivery::ended` meets its contract.
+use Rattle.station_delivery.specs.Delivery.{endedB}
+use borrow.Author.Needs.{needs}
+use Rattle.station_delivery.proofs.ended.Statement.{statement}
+use Rattle.station_delivery.proofs.ended.Tie as tie
+
+shared-slice-read-result : tie.Need-shared-slice-read-result
+shared-slice-read-result c = search needs
+
+live-requires : tie.Need-live-requires
+live-requires c κs = search needs
+
+get-u32-requires : tie.Need-get-u32-requires
+get-u32-requires c κs = search needs
+
+returns : tie.Need-returns
+unfolding endedB
+returns c = cc
+
+pub ended-spec : {M : Type 1} → statement M
+ended-spec = tie.close (tie.spec shared-slice-read-result live-requires get-u32-requires returns)

@@ -1,0 +1,88 @@
+-- `station_delivery::fits` meets its contract.
+use Rattle.station_delivery.specs.Delivery.{fitsB}
+use Rattle.message.specs.Layout.{kindOf}
+use borrow.Author.Tests.{ne-eqb}
+use borrow.Author.Needs.{needs}
+use Rattle.station_delivery.proofs.fits.Statement.{statement}
+use Rattle.station_delivery.proofs.fits.Tie as tie
+
+shared-slice-read-match : tie.Need-shared-slice-read-match
+shared-slice-read-match c = search needs
+
+fits-page-requires : tie.Need-fits-page-requires
+fits-page-requires c κs = search needs
+
+fits-lock-requires : tie.Need-fits-lock-requires
+fits-lock-requires c κs = search needs
+
+fits-lock-requires-2 : tie.Need-fits-lock-requires-2
+fits-lock-requires-2 c κs = search needs
+
+shared-slice-read-result : tie.Need-shared-slice-read-result
+shared-slice-read-result c = search needs
+
+shared-slice-read-result-2 : tie.Need-shared-slice-read-result-2
+shared-slice-read-result-2 c = search needs
+
+fits-committed-requires : tie.Need-fits-committed-requires
+fits-committed-requires c κs = search needs
+
+fits-aborted-requires : tie.Need-fits-aborted-requires
+fits-aborted-requires c κs = search needs
+
+shared-slice-read-result-3 : tie.Need-shared-slice-read-result-3
+shared-slice-read-result-3 c = search needs
+
+returns : tie.Need-returns
+unfolding fitsB
+returns c = rw (c .before .match .keys1) (c .fits-page .ensures)
+
+returns-2 : tie.Need-returns-2
+unfolding fitsB
+returns-2 c = rw (c .before .match .keys2) (c .fits-lock .ensures)
+
+returns-3 : tie.Need-returns-3
+unfolding fitsB
+returns-3 c = rw (c .before .match .keys3) (c .fits-lock2 .ensures)
+
+returns-4 : tie.Need-returns-4
+unfolding fitsB
+returns-4 c = rw (c .before .match .keys4)
+
+returns-5 : tie.Need-returns-5
+unfolding fitsB
+returns-5 c = rw (c .before .match .keys5)
+
+returns-6 : tie.Need-returns-6
+unfolding fitsB
+returns-6 c = rw (c .before .match .keys6) (c .fits-committed .ensures)
+
+returns-7 : tie.Need-returns-7
+unfolding fitsB
+returns-7 c = rw (c .before .match .keys7) (c .fits-aborted .ensures)
+
+returns-8 : tie.Need-returns-8
+unfolding fitsB
+returns-8 c = let k = kindOf (c .before .before .before .before .before .args .m .now) in let r = c .before .match .rest in simp (ne-eqb k 16 (r .0 .0 .0 .0 .0 .0 .1), ne-eqb k 17 (r .0 .0 .0 .0 .0 .1), ne-eqb k 18 (r .0 .0 .0 .0 .1), ne-eqb k 19 (r .0 .0 .0 .1), ne-eqb k 20 (r .0 .0 .1), ne-eqb k 21 (r .0 .1), ne-eqb k 22 (r .1))
+
+pub fits-spec : {M : Type 1} → statement M
+fits-spec =
+    tie.close
+    (tie.spec
+    shared-slice-read-match
+    fits-page-requires
+    fits-lock-requires
+    fits-lock-requires-2
+    shared-slice-read-result
+    shared-slice-read-result-2
+    fits-committed-requires
+    fits-aborted-requires
+    shared-slice-read-result-3
+    returns
+    returns-2
+    returns-3
+    returns-4
+    returns-5
+    returns-6
+    returns-7
+    returns-8)

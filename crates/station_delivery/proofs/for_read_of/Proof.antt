@@ -1,0 +1,23 @@
+-- `station_delivery::for_read_of` meets its contract.
+use Rattle.station_delivery.specs.Delivery.{forReadOf}
+use native.Mathlib.Omega.{arith}
+use borrow.Author.Needs.{needs}
+use Rattle.station_delivery.proofs.for_read_of.Statement.{statement}
+use Rattle.station_delivery.proofs.for_read_of.Tie as tie
+
+shared-slice-read-result : tie.Need-shared-slice-read-result
+shared-slice-read-result c = search needs
+
+shared-slice-read-result-2 : tie.Need-shared-slice-read-result-2
+shared-slice-read-result-2 c = search needs
+
+cast-result : tie.Need-cast-result
+cast-result c = omega (arith, c .shared-slice-known2 .given 6712)
+
+returns : tie.Need-returns
+unfolding forReadOf
+returns c = search needs
+
+pub for-read-of-spec : {M : Type 1} → statement M
+for-read-of-spec =
+    tie.close (tie.spec shared-slice-read-result shared-slice-read-result-2 cast-result returns)

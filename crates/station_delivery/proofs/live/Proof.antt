@@ -1,0 +1,18 @@
+-- `station_delivery::live` meets its contract.
+use Rattle.station_delivery.specs.Delivery.{liveB}
+use borrow.Author.Needs.{needs}
+use Rattle.station_delivery.proofs.live.Statement.{statement}
+use Rattle.station_delivery.proofs.live.Tie as tie
+
+shared-slice-read-result : tie.Need-shared-slice-read-result
+shared-slice-read-result c = search needs
+
+get-u32-requires : tie.Need-get-u32-requires
+get-u32-requires c κs = search needs
+
+returns : tie.Need-returns
+unfolding liveB
+returns c = cc
+
+pub live-spec : {M : Type 1} → statement M
+live-spec = tie.close (tie.spec shared-slice-read-result get-u32-requires returns)

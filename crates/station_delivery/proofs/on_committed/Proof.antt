@@ -1,0 +1,42 @@
+-- `station_delivery::on_committed` meets its contract.
+use Rattle.station_delivery.specs.Laws.{committed-sent}
+use borrow.Author.Needs.{needs}
+use Rattle.station_delivery.proofs.on_committed.Statement.{statement}
+use Rattle.station_delivery.proofs.on_committed.Tie as tie
+
+slice-read-i : tie.Need-slice-read-i
+slice-read-i c = search needs
+
+get-u32-requires : tie.Need-get-u32-requires
+get-u32-requires c κs = search needs
+
+versions-requires : tie.Need-versions-requires
+versions-requires c κs = search needs
+
+close-requires : tie.Need-close-requires
+close-requires c κs = search needs
+
+say-requires : tie.Need-say-requires
+say-requires c κs = search needs
+
+same-length : tie.Need-same-length
+same-length c = search needs
+
+same-length-2 : tie.Need-same-length-2
+same-length-2 c = search needs
+
+returns : tie.Need-returns
+returns c = committed-sent _ _ _ _ _ _ (c .before .before .before .before .before .before .before .before .before .before .before .before .get-u32 .ensures) (c .before .before .before .before .before .before .before .before .before .before .versions .ensures) (c .before .before .before .before .before .close .ensures) (c .say .ensures)
+
+pub on-committed-spec : {M : Type 1} → statement M
+on-committed-spec =
+    tie.close
+    (tie.spec
+    slice-read-i
+    get-u32-requires
+    versions-requires
+    close-requires
+    say-requires
+    same-length
+    same-length-2
+    returns)

@@ -1,0 +1,66 @@
+-- `station_delivery::on_invalidate` meets its contract.
+use Rattle.station_delivery.specs.Laws.{invalidate-ends, invalidate-drops}
+use borrow.Author.Needs.{needs}
+use Rattle.station_delivery.proofs.on_invalidate.Statement.{statement}
+use Rattle.station_delivery.proofs.on_invalidate.Tie as tie
+
+slice-read-i : tie.Need-slice-read-i
+slice-read-i c = search needs
+
+get-u32-requires : tie.Need-get-u32-requires
+get-u32-requires c κs = search needs
+
+touched-requires : tie.Need-touched-requires
+touched-requires c κs = search needs
+
+slice-read-ends : tie.Need-slice-read-ends
+slice-read-ends c = search needs
+
+drop-pages-requires : tie.Need-drop-pages-requires
+drop-pages-requires c κs = search needs
+
+undo-requires : tie.Need-undo-requires
+undo-requires c κs = search needs
+
+close-requires : tie.Need-close-requires
+close-requires c κs = search needs
+
+say-requires : tie.Need-say-requires
+say-requires c κs = search needs
+
+same-length : tie.Need-same-length
+same-length c = search needs
+
+same-length-2 : tie.Need-same-length-2
+same-length-2 c = search needs
+
+returns : tie.Need-returns
+returns c = invalidate-ends _ _ _ (c .before .before .before .before .before .before .before .before .before .before .before .before .before .before .before .before .before .before .before .before .get-u32 .ensures) (c .before .before .before .before .before .before .before .before .before .before .before .before .before .before .before .before .before .before .touched .ensures) (c .before .before .before .before .before .before .before .before .before .before .before .before .before .before .before .drop-pages .ensures) _ _ _ (c .before .before .before .before .before .before .before .before .before .before .before .before .if1 .taken) (c .before .before .before .before .before .before .before .before .before .before .undo .ensures) (c .before .before .before .before .before .close .ensures) (c .say .ensures)
+
+say-requires-2 : tie.Need-say-requires-2
+say-requires-2 c κs = search needs
+
+same-length-3 : tie.Need-same-length-3
+same-length-3 c = search needs
+
+returns-2 : tie.Need-returns-2
+returns-2 c = invalidate-drops _ _ _ (c .before .before .before .before .before .before .before .before .before .get-u32 .ensures) (c .before .before .before .before .before .before .before .touched .ensures) (c .before .before .before .before .drop-pages .ensures) (c .before .if1 .left) (c .say2 .ensures)
+
+pub on-invalidate-spec : {M : Type 1} → statement M
+on-invalidate-spec =
+    tie.close
+    (tie.spec
+    slice-read-i
+    get-u32-requires
+    touched-requires
+    slice-read-ends
+    drop-pages-requires
+    undo-requires
+    close-requires
+    say-requires
+    same-length
+    same-length-2
+    returns
+    say-requires-2
+    same-length-3
+    returns-2)

@@ -1,0 +1,322 @@
+-- What a station does page by page: pages dropped, marked, arrived and given a version.
+use Prim.Native.Nat.{ℕ, zero, suc, _+_, _-_, _*_, _/_, _%_, _≤_, _<_, _^_}
+use mathlib.Core.Path.{_≡_, refl, sym, ap, ap₂, subst, _∙_, fun-ext}
+use mathlib.Core.Bool.{Bool, true, false, not, cond, _&&_, _||_, and-true, and-false, or-false}
+use mathlib.Core.List.{List}
+use native.Mathlib.Omega.{arith}
+use lib.Dec.{eqb, ltb}
+use lib.ListN.{getD, set}
+use lib.Bits.{bitAnd, bitOr}
+use borrow.Author.Tests.{lt-ltb, le-ltb}
+use Rattle.sets.specs.Base.{upd, zeros, valOr}
+use Rattle.sets.specs.Laws.{byB, byEq, eqb-same, eqb-yes, eqb-no, ltb-no}
+use Rattle.le.specs.Le.{u32At, u64At, setU32, setU64}
+use Rattle.le.specs.Laws.{u32At-is, u64At-is}
+use Rattle.cells.specs.Upd.{ltb-suc, cond-rel, bulk, bulk-none, bulk-more}
+use Rattle.cells.specs.Num.{AllBytes, num-lt}
+use Rattle.cells.specs.Bits.{tb, tb-zero, tb-or, tb-high, tb-mask, tb-test, tb-set}
+use Rattle.cells.specs.Cells.{Cells, view, upd3, Holds, put8, put32, put64, get64, cell-lt}
+use Rattle.cells.specs.Sets.{or8, and32, on32, test8}
+use Rattle.line.specs.Messages.{pageOf}
+use Rattle.line.specs.Station.{Station, setCached, setCver, setCopy, setUnav, wrotePage, dropPages, mark, arrive}
+use Rattle.station_state.specs.Layout.{hasBit}
+use Rattle.station_state.specs.Changes.{pageOn}
+use Rattle.station_pages.specs.Pages.{wrotePageB, blankTo, dropPageB, dropOneB, dropTo, dropPagesB, markOneB, markTo, markB, arrivesB, arriveTo, arriveB, versionOneB, versionsTo, versionsB}
+use Rattle.station_meaning.specs.Meant.{table, within, valueIf, meant, Is, start, done}
+use Rattle.station_meaning.specs.Named.{named}
+use Rattle.station_meaning.specs.Tests.{cached-at, wrotePage-at, cached-high}
+
+-- what the code tests
+has-is : (x k : ℕ) → hasBit x k ≡ tb x k
+unfolding hasBit
+has-is x k = tb-test k x
+
+-- the copies of a page, one after another
+
+-- the first n of page p are those of g
+abbrev pageTo : Cells → ℕ → ℕ → (ℕ → ℕ) → Cells
+pageTo C p n g k i j = cond (eqb k 0) (cond (eqb i 0) (cond (eqb (j / 8) p && ltb (j % 8) n) (g j) (C k i j)) (C k i j)) (C k i j)
+
+page-none : (C : Cells) (p : ℕ) (g : ℕ → ℕ) → C ≡ pageTo C p 0 g
+page-none C p g = fun-ext (λ k. fun-ext (λ i. fun-ext (λ j. byEq k 0 (λ e. byEq i 0 (λ f. rw (e, f) (none j (C k i j))) (λ f. rw (e, f))) (λ e. rw e))))
+  where
+    none : (j x : ℕ) → x ≡ cond (eqb (j / 8) p && ltb (j % 8) 0) (g j) x
+    none j x = rw (le-ltb (j % 8) 0 (omega arith)) (byEq (j / 8) p (λ e. rw e) (λ e. rw e))
+
+page-more : (C : Cells) (p n : ℕ) (g : ℕ → ℕ) → n < 8 → upd3 (pageTo C p n g) 0 0 (p * 8 + n) (g (p * 8 + n)) ≡ pageTo C p (suc n) g
+page-more C p n g l = fun-ext (λ k. fun-ext (λ i. fun-ext (λ j. byEq k 0 (λ e. byEq i 0 (λ f. rw (e, f) (more j (C k i j))) (λ f. rw (e, f))) (λ e. rw e))))
+  where
+    more : (j x : ℕ) → cond (eqb j (p * 8 + n)) (g (p * 8 + n)) (cond (eqb (j / 8) p && ltb (j % 8) n) (g j) x) ≡ cond (eqb (j / 8) p && ltb (j % 8) (suc n)) (g j) x
+    more j x =
+        let d : (p * 8 + n) / 8 ≡ p = omega arith in
+        let m : (p * 8 + n) % 8 ≡ n = omega arith in
+        byEq j (p * 8 + n)
+        (λ e. rw (e, eqb-yes j (p * 8 + n) e, d, m, eqb-same p, lt-ltb n (suc n) (omega arith)))
+        (λ e.
+        byEq (j / 8) p
+        (λ f. rw (e, f, ltb-suc (j % 8) n (λ q. eqb-no j (p * 8 + n) e (omega (arith, eqb-yes (j / 8) p f)))))
+        (λ f. rw (e, f)))
+
+-- all eight
+abbrev pageOver : Cells → ℕ → (ℕ → ℕ) → Cells
+pageOver C p g k i j = cond (eqb k 0) (cond (eqb i 0) (cond (eqb (j / 8) p) (g j) (C k i j)) (C k i j)) (C k i j)
+
+page-over : (C : Cells) (p : ℕ) (g : ℕ → ℕ) → pageTo C p 8 g ≡ pageOver C p g
+page-over C p g = fun-ext (λ k. fun-ext (λ i. fun-ext (λ j. rw (lt-ltb (j % 8) 8 (omega arith), and-true (eqb (j / 8) p)))))
+
+-- pages dropped
+
+blank-to : {s₀ s : List ℕ} {C : Cells} → Holds table 0 s₀ s C → (p : ℕ) → p < 32 → (n : ℕ) → n ≤ 8 → Holds table 0 s₀ (blankTo s p n) (pageTo C p n zeros)
+unfolding blankTo
+blank-to {s₀} {s} {C} h p l zero q = subst (Holds table 0 s₀ s) (page-none C p zeros) h
+blank-to {s₀} {s} {C} h p l (suc n) q =
+    subst (Holds table 0 s₀ (setU64 (blankTo s p n) ((p * 8 + n) * 8) 0)) (page-more C p n zeros q)
+    (put64 (blank-to h p l n (omega arith)) 0 0 (p * 8 + n) 0 ((p * 8 + n) * 8) refl (omega arith) (omega arith) (omega arith) (omega arith))
+
+blank-is : {s₀ s : List ℕ} {C : Cells} → Holds table 0 s₀ s C → (p : ℕ) → p < 32 → Holds table 0 s₀ (blankTo s p 8) (pageOver C p zeros)
+blank-is {s₀} {s} {C} h p l = subst (Holds table 0 s₀ (blankTo s p 8)) (page-over C p zeros) (blank-to h p l 8 (omega arith))
+
+-- what dropPages does save for the set of cached pages
+abbrev emptied : (ℕ → Bool) → Station → Station
+emptied f m =
+    setCver (setCopy (setUnav m
+    (λ a. not (f (pageOf a)) && m .unav a))
+    (λ a. cond (f (pageOf a)) 0 (m .copy a)))
+    (λ p. cond (f p) 0 (m .cver p))
+
+page-drop : {i : ℕ} {s : List ℕ} {m : Station} → Is i s m → (p : ℕ) → p < 32 → Is i (dropPageB s p) (emptied (λ q. eqb q p) m)
+unfolding dropPageB
+page-drop {i} {s} h p l =
+    done h (emptied (λ q. eqb q p))
+    (put8 (put32 (blank-is (start h) p l) 5 0 p 0 (6184 + p * 4) refl (omega arith) (omega arith) l (omega arith)) 9 0 p 0 (6324 + p) refl (omega arith) (omega arith) l (omega arith))
+    (ap (setUnav (emptied (λ q. eqb q p) (meant s))) (fun-ext (λ a. byEq (a / 8) p (λ e. rw e (tb-zero (a % 8))) (λ e. rw e))))
+    (refl, refl, refl)
+
+-- once more: the pages of both sets
+empty-twice : (f g : ℕ → Bool) (m : Station) → emptied f (emptied g m) ≡ emptied (λ q. f q || g q) m
+empty-twice f g m =
+    three (fun-ext (λ a. sets (f (a / 8)) (g (a / 8)) (m .unav a)))
+    (fun-ext (λ a. numbers (f (a / 8)) (g (a / 8)) (m .copy a)))
+    (fun-ext (λ p. numbers (f p) (g p) (m .cver p)))
+  where
+    three : {u u′ : ℕ → Bool} {c c′ v v′ : ℕ → ℕ} → u ≡ u′ → c ≡ c′ → v ≡ v′ → setCver (setCopy (setUnav m u) c) v ≡ setCver (setCopy (setUnav m u′) c′) v′
+    three x y z = rw (x, y, z)
+
+    sets : (a b c : Bool) → (not a && (not b && c)) ≡ (not (a || b) && c)
+    sets true b c = refl
+    sets false b c = refl
+
+    numbers : (a b : Bool) (x : ℕ) → cond a 0 (cond b 0 x) ≡ cond (a || b) 0 x
+    numbers true b x = refl
+    numbers false b x = refl
+
+-- equal sets
+empty-same : (f g : ℕ → Bool) (m : Station) → ((q : ℕ) → f q ≡ g q) → emptied f m ≡ emptied g m
+empty-same f g m e = ap (λ (x : ℕ → Bool). emptied x m) (fun-ext e)
+
+-- the pages of d below n
+abbrev below : ℕ → ℕ → ℕ → Bool
+below d n q = ltb q n && tb d q
+
+below-none : (d : ℕ) (m : Station) → m ≡ emptied (below d 0) m
+below-none d m = empty-same (λ q. false) (below d 0) m (λ q. rw (le-ltb q 0 (omega arith)))
+
+below-more : (d n : ℕ) (m : Station) → cond (tb d n) (emptied (λ q. eqb q n) (emptied (below d n) m)) (emptied (below d n) m) ≡ emptied (below d (suc n)) m
+below-more d n m = go (tb d n) refl
+  where
+    on : (q : ℕ) → tb d n ≡ true → (eqb q n || below d n q) ≡ below d (suc n) q
+    on q h = byEq q n (λ e. rw (e, eqb-yes q n e, lt-ltb n (suc n) (omega arith), h)) (λ e. rw (e, ltb-suc q n (eqb-no q n e)))
+
+    off : (q : ℕ) → tb d n ≡ false → below d n q ≡ below d (suc n) q
+    off q h = byEq q n (λ e. rw (eqb-yes q n e, le-ltb n n (omega arith), lt-ltb n (suc n) (omega arith), h)) (λ e. rw (ltb-suc q n (eqb-no q n e)))
+
+    go : (b : Bool) → tb d n ≡ b → cond b (emptied (λ q. eqb q n) (emptied (below d n) m)) (emptied (below d n) m) ≡ emptied (below d (suc n)) m
+    go true h = empty-twice (λ q. eqb q n) (below d n) m ∙ empty-same (λ q. eqb q n || below d n q) (below d (suc n)) m (λ q. on q h)
+    go false h = empty-same (below d n) (below d (suc n)) m (λ q. off q h)
+
+below-all : (d : ℕ) (m : Station) → d < 2 ^ 32 → emptied (below d 32) m ≡ emptied (tb d) m
+below-all d m l = empty-same (below d 32) (tb d) m (λ q. byB (ltb q 32) (λ e. rw e) (λ e. rw (e, tb-high 32 q d (ltb-no q 32 e) l)))
+
+drop-to : {i : ℕ} {s : List ℕ} {m : Station} → Is i s m → (d n : ℕ) → n ≤ 32 → Is i (dropTo s d n) (emptied (below d n) m)
+unfolding dropTo dropOneB
+drop-to {i} {s} {m} h d zero q = subst (Is i s) (below-none d m) h
+drop-to {i} {s} {m} h d (suc n) q =
+    let r = drop-to h d n (omega arith) in
+    subst (Is i (dropOneB (dropTo s d n) d n)) (below-more d n m)
+    (cond-rel (Is i) (hasBit d n) (tb d n) (has-is d n) (page-drop r n q) r)
+
+drop-all : {i : ℕ} {s : List ℕ} {m : Station} → Is i s m → (d : ℕ) → d < 2 ^ 32 → Is i (dropTo s d 32) (emptied (tb d) m)
+drop-all {i} {s} {m} h d l = subst (Is i (dropTo s d 32)) (below-all d m l) (drop-to h d 32 (omega arith))
+
+-- .. and taken out of the set of cached pages
+drop-cached : {i : ℕ} {s : List ℕ} {m : Station} → Is i s m → (d : ℕ) → d < 2 ^ 32
+    → Is i (setU32 s 6316 (bitAnd (u32At s 6316) (4294967295 - d))) (setCached m (λ p. not (tb d p) && m .cached p))
+drop-cached {i} {s} {m} h d l =
+    done h (λ m. setCached m (λ p. not (tb d p) && m .cached p))
+    (and32 (start h) 7 0 0 (4294967295 - d) 6316 refl (omega arith) (omega arith) refl)
+    (ap (setCached (meant s)) (fun-ext (λ p. tb-mask 32 (view table 0 s 7 0 0) d p (cell-lt (start h) 7 0 0) l)))
+    (refl, refl, refl)
+
+pub drop-is : {i : ℕ} {s : List ℕ} {m : Station} → Is i s m → (d : ℕ) → d < 2 ^ 32 → Is i (dropPagesB d s) (dropPages (tb d) m)
+unfolding dropPagesB dropPages
+drop-is h d l = drop-cached (drop-all h d l) d l
+
+-- .. where d is the set f
+pub drop-as : {i : ℕ} {s : List ℕ} {m : Station} → Is i s m → (d : ℕ) → d < 2 ^ 32 → (f : ℕ → Bool) → ((p : ℕ) → tb d p ≡ f p) → Is i (dropPagesB d s) (dropPages f m)
+drop-as {i} {s} {m} h d l f e = subst (λ g. Is i (dropPagesB d s) (dropPages g m)) (fun-ext e) (drop-is h d l)
+
+-- the named objects of cached pages marked unavailable
+
+-- the objects of y on page p
+mark-page : {i : ℕ} {s : List ℕ} {m : Station} → Is i s m → (p y : ℕ) → p < 32 → y < 256
+    → Is i (set s (6324 + p) (bitOr (getD s (6324 + p) 0) y)) (setUnav m (λ a. cond (eqb (a / 8) p) (m .unav a || tb y (a % 8)) (m .unav a)))
+mark-page {i} {s} {m} h p y l ly =
+    done h (λ m. setUnav m (λ a. cond (eqb (a / 8) p) (m .unav a || tb y (a % 8)) (m .unav a)))
+    (or8 (start h) 9 0 p y (6324 + p) (omega arith) (omega arith) l refl ly)
+    (ap (setUnav (meant s))
+    (fun-ext (λ a. byEq (a / 8) p (λ e. rw (e, eqb-yes (a / 8) p e) (tb-or (a % 8) (view table 0 s 9 0 p) y)) (λ e. rw e))))
+    (refl, refl, refl)
+
+-- of the pages below n
+abbrev markedTo : List ℕ → Station → ℕ → ℕ → Bool
+markedTo sets m n a = m .unav a || (m .cached (a / 8) && cond (ltb (a / 8) n) (tb (getD sets (a / 8) 0) (a % 8)) false)
+
+marked-none : (sets : List ℕ) (m : Station) → m ≡ setUnav m (markedTo sets m 0)
+marked-none sets m = ap (setUnav m) (fun-ext (λ a. none a))
+  where
+    none : (a : ℕ) → m .unav a ≡ markedTo sets m 0 a
+    none a = rw (le-ltb (a / 8) 0 (omega arith), and-false, or-false)
+
+marked-more : (sets : List ℕ) (m : Station) (n : ℕ)
+    → cond (m .cached n)
+    (setUnav m (λ a. cond (eqb (a / 8) n) (markedTo sets m n a || tb (getD sets n 0) (a % 8)) (markedTo sets m n a)))
+    (setUnav m (markedTo sets m n))
+    ≡ setUnav m (markedTo sets m (suc n))
+marked-more sets m n = go (m .cached n) refl
+  where
+    on : (a : ℕ) → m .cached n ≡ true → cond (eqb (a / 8) n) (markedTo sets m n a || tb (getD sets n 0) (a % 8)) (markedTo sets m n a) ≡ markedTo sets m (suc n) a
+    on a h =
+        byEq (a / 8) n
+        (λ e. rw (e, eqb-yes (a / 8) n e, le-ltb n n (omega arith), lt-ltb n (suc n) (omega arith), h, or-false))
+        (λ e. rw (e, ltb-suc (a / 8) n (eqb-no (a / 8) n e)))
+
+    off : (a : ℕ) → m .cached n ≡ false → markedTo sets m n a ≡ markedTo sets m (suc n) a
+    off a h = byEq (a / 8) n (λ e. rw (eqb-yes (a / 8) n e, h)) (λ e. rw (ltb-suc (a / 8) n (eqb-no (a / 8) n e)))
+
+    go : (b : Bool) → m .cached n ≡ b
+        → cond b
+        (setUnav m (λ a. cond (eqb (a / 8) n) (markedTo sets m n a || tb (getD sets n 0) (a % 8)) (markedTo sets m n a)))
+        (setUnav m (markedTo sets m n))
+        ≡ setUnav m (markedTo sets m (suc n))
+    go true h = ap (setUnav m) (fun-ext (λ a. on a h))
+    go false h = ap (setUnav m) (fun-ext (λ a. off a h))
+
+mark-to : {i : ℕ} {s : List ℕ} {m : Station} → Is i s m → (sets : List ℕ) → AllBytes sets → (n : ℕ) → n ≤ 32 → Is i (markTo sets s n) (setUnav m (markedTo sets m n))
+unfolding markTo markOneB
+mark-to {i} {s} {m} h sets b zero q = subst (Is i s) (marked-none sets m) h
+mark-to {i} {s} {m} h sets b (suc n) q =
+    let r = mark-to h sets b n (omega arith) in
+    subst (Is i (markOneB sets (markTo sets s n) n)) (marked-more sets m n)
+    (cond-rel (Is i) (hasBit (u32At (markTo sets s n) 6316) n) (m .cached n) (cached-at r n) (mark-page r n (getD sets n 0) q (b n)) r)
+
+pub mark-is : {i : ℕ} {s : List ℕ} {m : Station} → Is i s m → (sets : List ℕ) → AllBytes sets → Is i (markB sets s) (mark (named sets) m)
+unfolding markB mark
+mark-is h sets b = mark-to h sets b 32 (omega arith)
+
+-- a page that arrives
+
+u32-lt : (x : List ℕ) → AllBytes x → (at : ℕ) → u32At x at < 2 ^ 32
+u32-lt x b at = rw (u32At-is x at) (num-lt 4 x at b)
+
+u64-lt : (x : List ℕ) → AllBytes x → (at : ℕ) → u64At x at < 2 ^ 64
+u64-lt x b at = rw (u64At-is x at) (num-lt 8 x at b)
+
+-- the eight values of page p that message x brings
+abbrev brought : List ℕ → ℕ → ℕ → ℕ
+brought x p b = cond (eqb (b / 8) p) (u64At x (48 + (b % 8) * 8)) 0
+
+-- .. save for the transaction's own
+abbrev arrived : Cells → List ℕ → ℕ → ℕ → ℕ
+arrived C x p b = valOr (valueIf (within (C 11 0) b) (C 2 0 b)) (brought x p b)
+
+-- the value that the code stores for object o is that of its address
+arrived-at : (C : Cells) (x : List ℕ) (p o : ℕ) → o < 8 → cond (tb (C 11 0 p) o) (C 2 0 (p * 8 + o)) (u64At x (48 + o * 8)) ≡ arrived C x p (p * 8 + o)
+arrived-at C x p o l =
+    let d : (p * 8 + o) / 8 ≡ p = omega arith in
+    let m : (p * 8 + o) % 8 ≡ o = omega arith in
+    rw (d, m, eqb-same p) (own (tb (C 11 0 p) o))
+  where
+    own : (b : Bool) → cond b (C 2 0 (p * 8 + o)) (u64At x (48 + o * 8)) ≡ valOr (valueIf b (C 2 0 (p * 8 + o))) (u64At x (48 + o * 8))
+    own true = refl
+    own false = refl
+
+cond-lt : (b : Bool) (x y n : ℕ) → x < n → y < n → cond b x y < n
+cond-lt true x y n p q = p
+cond-lt false x y n p q = q
+
+arrive-to : {s₀ s : List ℕ} {C : Cells} → Holds table 0 s₀ s C → (x : List ℕ) → AllBytes x → (p : ℕ) → p < 32 → (n : ℕ) → n ≤ 8
+    → Holds table 0 s₀ (arriveTo x s p n) (pageTo C p n (arrived C x p))
+unfolding arriveTo arrivesB hasBit
+arrive-to {s₀} {s} {C} h x b p l zero q = subst (Holds table 0 s₀ s) (page-none C p (arrived C x p)) h
+arrive-to {s₀} {s} {C} h x b p l (suc n) q =
+    let r = arrive-to h x b p l n (omega arith) in
+    let t = arriveTo x s p n in
+    let v = cond (tb (C 11 0 p) n) (C 2 0 (p * 8 + n)) (u64At x (48 + n * 8)) in
+    let own = test8 r 11 0 p n (6388 + p) (omega arith) (omega arith) l refl in
+    let val = get64 r 2 0 (p * 8 + n) (4096 + (p * 8 + n) * 8) refl (omega arith) (omega arith) (omega arith) in
+    let e : arrivesB x t p n ≡ v = rw (own, val) in
+    let lt : v < 2 ^ 64 = cond-lt (tb (C 11 0 p) n) (C 2 0 (p * 8 + n)) (u64At x (48 + n * 8)) (2 ^ 64) (cell-lt h 2 0 (p * 8 + n)) (u64-lt x b (48 + n * 8)) in
+    subst (λ y. Holds table 0 s₀ (setU64 t ((p * 8 + n) * 8) y) (pageTo C p (suc n) (arrived C x p))) (sym e)
+    (subst (Holds table 0 s₀ (setU64 t ((p * 8 + n) * 8) v))
+    (ap (upd3 (pageTo C p n (arrived C x p)) 0 0 (p * 8 + n)) (arrived-at C x p n q) ∙ page-more C p n (arrived C x p) q)
+    (put64 r 0 0 (p * 8 + n) v ((p * 8 + n) * 8) refl (omega arith) (omega arith) (omega arith) lt))
+
+arrive-values : {s₀ s : List ℕ} {C : Cells} → Holds table 0 s₀ s C → (x : List ℕ) → AllBytes x → (p : ℕ) → p < 32
+    → Holds table 0 s₀ (arriveTo x s p 8) (pageOver C p (arrived C x p))
+arrive-values {s₀} {s} {C} h x b p l = subst (Holds table 0 s₀ (arriveTo x s p 8)) (page-over C p (arrived C x p)) (arrive-to h x b p l 8 (omega arith))
+
+pub arrive-is : {i : ℕ} {s : List ℕ} {m : Station} → Is i s m → (x : List ℕ) (p : ℕ) → AllBytes x → p < 32
+    → Is i (arriveB x p s)
+    (arrive p (u32At x 12) (λ b. eqb (b / 8) p && tb (getD x 16 0) (b % 8)) (λ b. cond (eqb (b / 8) p) (u64At x (48 + (b % 8) * 8)) 0) m)
+unfolding arriveB pageOn arrive
+arrive-is {i} {s} {m} h x p b l =
+    let op : Station → Station = arrive p (u32At x 12) (λ b. eqb (b / 8) p && tb (getD x 16 0) (b % 8)) (brought x p) in
+    let values = arrive-values (start h) x b p l in
+    let version = put32 values 5 0 p (u32At x 12) (6184 + p * 4) refl (omega arith) (omega arith) l (u32-lt x b 12) in
+    let unav = put8 version 9 0 p (getD x 16 0) (6324 + p) refl (omega arith) (omega arith) l (b 16) in
+    done h op
+    (on32 unav 7 0 0 p 6316 refl (omega arith) (omega arith) refl l)
+    (ap₂ (λ u c. setCached (setUnav (op (meant s)) u) c)
+    (fun-ext (λ a. byEq (a / 8) p (λ e. rw e) (λ e. rw e)))
+    (fun-ext (tb-set (view table 0 s 7 0 0) p)))
+    (refl, refl, refl)
+
+-- written pages get a version
+
+version-page : {i : ℕ} {s : List ℕ} {m : Station} → Is i s m → (p n : ℕ) → p < 32 → n < 2 ^ 32 → Is i (setU32 s (6184 + p * 4) n) (setCver m (upd (m .cver) p n))
+version-page h p n l q =
+    done h (λ m. setCver m (upd (m .cver) p n))
+    (put32 (start h) 5 0 p n (6184 + p * 4) refl (omega arith) (omega arith) l q) refl
+    (refl, refl, refl)
+
+-- cached and written
+abbrev renewed : Station → ℕ → Bool
+renewed m p = m .cached p && wrotePage m p
+
+versions-to : {i : ℕ} {s : List ℕ} {m : Station} → Is i s m → (n : ℕ) → n < 2 ^ 32 → (k : ℕ) → k ≤ 32
+    → Is i (versionsTo n s k) (setCver m (bulk (m .cver) (renewed m) (λ _. n) k))
+unfolding versionsTo versionOneB
+versions-to {i} {s} {m} h n l zero q = subst (Is i s) (ap (setCver m) (bulk-none (m .cver) (renewed m) (λ _. n))) h
+versions-to {i} {s} {m} h n l (suc k) q =
+    let r = versions-to h n l k (omega arith) in
+    let t = versionsTo n s k in
+    subst (Is i (versionOneB n t k)) (bulk-more (setCver m) (m .cver) (renewed m) (λ _. n) k)
+    (cond-rel (Is i) (hasBit (u32At t 6316) k && wrotePageB t k) (renewed m k) (ap₂ _&&_ (cached-at r k) (wrotePage-at r k q)) (version-page r k n q l) r)
+
+pub versions-is : {i : ℕ} {s : List ℕ} {m : Station} → Is i s m → (n : ℕ) → n < 2 ^ 32
+    → Is i (versionsB n s) (setCver m (λ p. cond (m .cached p && wrotePage m p) n (m .cver p)))
+unfolding versionsB
+versions-is {i} {s} {m} h n l = subst (Is i (versionsTo n s 32)) (ap (setCver m) (fun-ext all)) (versions-to h n l 32 (omega arith))
+  where
+    all : (p : ℕ) → bulk (m .cver) (renewed m) (λ _. n) 32 p ≡ cond (renewed m p) n (m .cver p)
+    all p = byB (ltb p 32) (λ e. rw e) (λ e. rw (e, cached-high h p (ltb-no p 32 e)))

@@ -1,0 +1,338 @@
+-- What a station's bytes are read for means the model's field or test.
+use Prim.Native.Nat.{ℕ, zero, suc, _+_, _*_, _≤_, _<_, _/_, _%_, _^_}
+use mathlib.Core.Path.{_≡_, refl, sym, ap, _∙_, fun-ext}
+use mathlib.Core.Bool.{Bool, true, false, not, _&&_, _||_}
+use mathlib.Core.List.{List}
+use native.Mathlib.Omega.{arith}
+use lib.Dec.{eqb, ltb}
+use lib.ListN.{getD, take, drop}
+use lib.Bits.{bitOr}
+use lib.Seq.{getD-take, getD-drop}
+use Rattle.sets.specs.Base.{none, has, any}
+use Rattle.sets.specs.Laws.{byB, any-ext, ltb-yes, ltb-no}
+use Rattle.cells.specs.Num.{AllBytes}
+use Rattle.cells.specs.Bits.{tb, tb-zero, tb-or, tb-test, tb-high}
+use Rattle.cells.specs.Cells.{view, view-col, get8, get32, get64, cell-lt}
+use Rattle.cells.specs.Sets.{test8, test32}
+use Rattle.cells.specs.Loops.{anyTo, any-to, any-same, mask-is, mask-lt}
+use Rattle.cells.specs.Pages.{page-any, page-join, page-meet, any-all}
+use Rattle.line.specs.Station.{Station, waiting, forRead, forWrite, forCommit, requested, usedAt, usedPage, wrotePage, drops, inUse, touched}
+use Rattle.station_state.specs.Layout.{copyOf, readValue, writtenValue, waitingValue, keptOf, versionOf, number, cached, whole, readSet, writtenSet, unavailableFrom, readSetFrom, writtenSetFrom, locksFrom, namedFrom, station, kind, opened, wait, address, hasBit, member, requestedB}
+use Rattle.station_pages.specs.Pages.{usedPageB, wrotePageB, usedPagesB, writtenPagesB, usesB, inUseB, touchesB, touchedB, dropsB, droppedB}
+use Rattle.station_meaning.specs.Meant.{table, within, valueIf, waitOf, keptIf, meant, Is, start}
+use Rattle.station_meaning.specs.Named.{named, named-at, named-is}
+
+-- whether there is a value
+pub has-if : (b : Bool) (v : ℕ) → has (valueIf b v) ≡ b
+has-if true v = refl
+has-if false v = refl
+
+-- the tests on the byte that says what is out, for the four numbers that a valid state has there
+
+waiting-of : (k a v : ℕ) → k ≤ 3 → not (eqb k 0) ≡ waiting (waitOf k a v)
+waiting-of zero a v l = refl
+waiting-of (suc zero) a v l = refl
+waiting-of (suc (suc zero)) a v l = refl
+waiting-of (suc (suc (suc zero))) a v l = refl
+waiting-of (suc (suc (suc (suc k)))) a v l = absurd (omega arith)
+
+forCommit-of : (k a v : ℕ) → k ≤ 3 → eqb k 3 ≡ forCommit (waitOf k a v)
+forCommit-of zero a v l = refl
+forCommit-of (suc zero) a v l = refl
+forCommit-of (suc (suc zero)) a v l = refl
+forCommit-of (suc (suc (suc zero))) a v l = refl
+forCommit-of (suc (suc (suc (suc k)))) a v l = absurd (omega arith)
+
+forRead-of : (k a v b : ℕ) → k ≤ 3 → (eqb k 1 && eqb b a) ≡ forRead (waitOf k a v) b
+forRead-of zero a v b l = refl
+forRead-of (suc zero) a v b l = refl
+forRead-of (suc (suc zero)) a v b l = refl
+forRead-of (suc (suc (suc zero))) a v b l = refl
+forRead-of (suc (suc (suc (suc k)))) a v b l = absurd (omega arith)
+
+forWrite-of : (k a v b : ℕ) → k ≤ 3 → (eqb k 2 && eqb b a) ≡ forWrite (waitOf k a v) b
+forWrite-of zero a v b l = refl
+forWrite-of (suc zero) a v b l = refl
+forWrite-of (suc (suc zero)) a v b l = refl
+forWrite-of (suc (suc (suc zero))) a v b l = refl
+forWrite-of (suc (suc (suc (suc k)))) a v b l = absurd (omega arith)
+
+requested-of : (k a v p : ℕ) → k ≤ 3 → ((eqb k 1 || eqb k 2) && eqb p (a / 8)) ≡ requested (waitOf k a v) p
+requested-of zero a v p l = refl
+requested-of (suc zero) a v p l = refl
+requested-of (suc (suc zero)) a v p l = refl
+requested-of (suc (suc (suc zero))) a v p l = refl
+requested-of (suc (suc (suc (suc k)))) a v p l = absurd (omega arith)
+
+-- a test of all addresses, page by page
+all-pages : (f g : ℕ → Bool) → ((p : ℕ) → p < 32 → g p ≡ any 8 (λ o. f (p * 8 + o))) → anyTo g 32 ≡ any 256 f
+all-pages f g k = any-to g (λ p. any 8 (λ o. f (p * 8 + o))) 32 k ∙ sym (any-all f)
+
+no-eight : (f : ℕ → Bool) → ((o : ℕ) → o < 8 → f o ≡ false) → any 8 f ≡ false
+no-eight f k = any-same f (λ o. false) 8 k
+
+-- a page's set names an address of the page, or is 0
+page-named : (sets : List ℕ) (p : ℕ) → p < 32 → getD sets p 0 < 256 → not (eqb (getD sets p 0) 0) ≡ any 8 (λ o. named sets (p * 8 + o))
+page-named sets p l b =
+    sym (page-any (λ j. getD sets j 0) p b)
+    ∙ any-same (λ o. tb (getD sets ((p * 8 + o) / 8) 0) ((p * 8 + o) % 8)) (λ o. named sets (p * 8 + o)) 8 (λ o q. sym (named-at sets (p * 8 + o) (omega arith)))
+
+-- page sets have no page past the last
+
+pub usedPages-lt : (s : List ℕ) → usedPagesB s < 2 ^ 32
+unfolding usedPagesB
+usedPages-lt s = mask-lt (usedPageB s) 32
+
+pub writtenPages-lt : (s : List ℕ) → writtenPagesB s < 2 ^ 32
+unfolding writtenPagesB
+writtenPages-lt s = mask-lt (wrotePageB s) 32
+
+pub dropped-lt : (sets s : List ℕ) → droppedB sets s < 2 ^ 32
+unfolding droppedB
+dropped-lt sets s = mask-lt (dropsB sets s) 32
+
+module _ {i : ℕ} {s : List ℕ} {m : Station} (h : Is i s m) where
+  -- numbers
+
+  pub station-at : station s ≡ i
+  station-at = get8 (start h) 14 0 0 6708 refl refl (omega arith) (omega arith) ∙ h .own
+
+  pub kind-at : kind s ≡ m .kind
+  kind-at = get8 (start h) 15 0 0 6709 refl refl (omega arith) (omega arith) ∙ ap (λ (n : Station). n .kind) (h .is)
+
+  pub number-cell : number s ≡ view table 0 s 6 0 0
+  number-cell = get32 (start h) 6 0 0 6312 refl refl (omega arith) (omega arith)
+
+  pub number-at : number s ≡ m .num
+  number-at = number-cell ∙ ap (λ (n : Station). n .num) (h .is)
+
+  pub number-lt : number s < 2 ^ 32
+  number-lt = rw number-cell (cell-lt (start h) 6 0 0)
+
+  pub copy-cell : (a : ℕ) → a < 256 → copyOf s a ≡ view table 0 s 0 0 a
+  copy-cell a l = get64 (start h) 0 0 a (a * 8) refl (omega arith) (omega arith) l
+
+  pub copy-at : (a : ℕ) → a < 256 → copyOf s a ≡ m .copy a
+  copy-at a l = copy-cell a l ∙ ap (λ (n : Station). n .copy a) (h .is)
+
+  pub copy-lt : (a : ℕ) → a < 256 → copyOf s a < 2 ^ 64
+  copy-lt a l = rw (copy-cell a l) (cell-lt (start h) 0 0 a)
+
+  version-cell : (p : ℕ) → p < 32 → versionOf s p ≡ view table 0 s 5 0 p
+  version-cell p l = get32 (start h) 5 0 p (6184 + p * 4) refl (omega arith) (omega arith) l
+
+  pub version-at : (p : ℕ) → p < 32 → versionOf s p ≡ m .cver p
+  version-at p l = version-cell p l ∙ ap (λ (n : Station). n .cver p) (h .is)
+
+  pub version-lt : (p : ℕ) → p < 32 → versionOf s p < 2 ^ 32
+  version-lt p l = rw (version-cell p l) (cell-lt (start h) 5 0 p)
+
+  -- what is open, and what is out
+
+  pub open-at : not (eqb (opened s) 0) ≡ m .opened
+  open-at = rw (get8 (start h) 16 0 0 6710 refl refl (omega arith) (omega arith)) (ap (λ (n : Station). n .opened) (h .is))
+
+  wait-cell : wait s ≡ view table 0 s 17 0 0
+  wait-cell = get8 (start h) 17 0 0 6711 refl refl (omega arith) (omega arith)
+
+  address-cell : address s ≡ view table 0 s 18 0 0
+  address-cell = get8 (start h) 18 0 0 6712 refl refl (omega arith) (omega arith)
+
+  waitingValue-cell : waitingValue s ≡ view table 0 s 3 0 0
+  waitingValue-cell = get64 (start h) 3 0 0 6144 refl refl (omega arith) (omega arith)
+
+  pub open-le : opened s ≤ 1
+  open-le = rw (get8 (start h) 16 0 0 6710 refl refl (omega arith) (omega arith)) (h .open-flag)
+
+  pub wait-le : wait s ≤ 3
+  wait-le = rw wait-cell (h .wait-flag)
+
+  pub address-lt : address s < 256
+  address-lt = rw address-cell (cell-lt (start h) 18 0 0)
+
+  pub waitingValue-lt : waitingValue s < 2 ^ 64
+  waitingValue-lt = rw waitingValue-cell (cell-lt (start h) 3 0 0)
+
+  pub wait-is : m .wait ≡ waitOf (wait s) (address s) (waitingValue s)
+  wait-is = sym (rw (wait-cell, address-cell, waitingValue-cell) (ap (λ (n : Station). n .wait) (h .is)))
+
+  pub waiting-at : not (eqb (wait s) 0) ≡ waiting (m .wait)
+  waiting-at = rw wait-is (waiting-of (wait s) (address s) (waitingValue s) wait-le)
+
+  pub forCommit-at : eqb (wait s) 3 ≡ forCommit (m .wait)
+  forCommit-at = rw wait-is (forCommit-of (wait s) (address s) (waitingValue s) wait-le)
+
+  pub forRead-at : (a : ℕ) → (eqb (wait s) 1 && eqb a (address s)) ≡ forRead (m .wait) a
+  forRead-at a = rw wait-is (forRead-of (wait s) (address s) (waitingValue s) a wait-le)
+
+  pub forWrite-at : (a : ℕ) → (eqb (wait s) 2 && eqb a (address s)) ≡ forWrite (m .wait) a
+  forWrite-at a = rw wait-is (forWrite-of (wait s) (address s) (waitingValue s) a wait-le)
+
+  pub requested-at : (p : ℕ) → requestedB s p ≡ requested (m .wait) p
+  unfolding requestedB
+  requested-at p = rw wait-is (requested-of (wait s) (address s) (waitingValue s) p wait-le)
+
+  -- sets
+
+  pub cached-at : (p : ℕ) → hasBit (cached s) p ≡ m .cached p
+  unfolding hasBit
+  cached-at p = test32 (start h) 7 0 0 p 6316 refl (omega arith) (omega arith) refl ∙ ap (λ (n : Station). n .cached p) (h .is)
+
+  pub cached-lt : cached s < 2 ^ 32
+  cached-lt = rw (get32 (start h) 7 0 0 6316 refl refl (omega arith) (omega arith)) (cell-lt (start h) 7 0 0)
+
+  pub whole-at : (p : ℕ) → hasBit (whole s) p ≡ m .wl p
+  unfolding hasBit
+  whole-at p = test32 (start h) 8 0 0 p 6320 refl (omega arith) (omega arith) refl ∙ ap (λ (n : Station). n .wl p) (h .is)
+
+  pub unav-at : (a : ℕ) → a < 256 → member s unavailableFrom a ≡ m .unav a
+  unfolding hasBit member
+  unav-at a l = test8 (start h) 9 0 (a / 8) (a % 8) (6324 + a / 8) (omega arith) (omega arith) (omega arith) refl ∙ ap (λ (n : Station). n .unav a) (h .is)
+
+  pub lock-at : (a : ℕ) → a < 256 → member s locksFrom a ≡ m .ol a
+  unfolding hasBit member
+  lock-at a l = test8 (start h) 12 0 (a / 8) (a % 8) (6420 + a / 8) (omega arith) (omega arith) (omega arith) refl ∙ ap (λ (n : Station). n .ol a) (h .is)
+
+  pub read-at : (a : ℕ) → a < 256 → m .rd a ≡ valueIf (member s readSetFrom a) (readValue s a)
+  unfolding hasBit member
+  read-at a l =
+      sym
+      (rw (
+        test8 (start h) 10 0 (a / 8) (a % 8) (6356 + a / 8) (omega arith) (omega arith) (omega arith) refl,
+        get64 (start h) 1 0 a (2048 + a * 8) refl (omega arith) (omega arith) l,
+      )
+      (ap (λ (n : Station). n .rd a) (h .is)))
+
+  pub wrote-at : (a : ℕ) → a < 256 → m .wr a ≡ valueIf (member s writtenSetFrom a) (writtenValue s a)
+  unfolding hasBit member
+  wrote-at a l =
+      sym
+      (rw (
+        test8 (start h) 11 0 (a / 8) (a % 8) (6388 + a / 8) (omega arith) (omega arith) (omega arith) refl,
+        get64 (start h) 2 0 a (4096 + a * 8) refl (omega arith) (omega arith) l,
+      )
+      (ap (λ (n : Station). n .wr a) (h .is)))
+
+  pub readValue-lt : (a : ℕ) → a < 256 → readValue s a < 2 ^ 64
+  readValue-lt a l = rw (get64 (start h) 1 0 a (2048 + a * 8) refl (omega arith) (omega arith) l) (cell-lt (start h) 1 0 a)
+
+  pub writtenValue-lt : (a : ℕ) → a < 256 → writtenValue s a < 2 ^ 64
+  writtenValue-lt a l = rw (get64 (start h) 2 0 a (4096 + a * 8) refl (omega arith) (omega arith) l) (cell-lt (start h) 2 0 a)
+
+  -- kept callbacks
+
+  kept-cell : (r : ℕ) → r < 8 → keptOf s r ≡ view table 0 s 4 r 0
+  kept-cell r l = get32 (start h) 4 r 0 (6152 + r * 4) refl (omega arith) l (omega arith)
+
+  pub kept-lt : (r : ℕ) → r < 8 → keptOf s r < 2 ^ 32
+  kept-lt r l = rw (kept-cell r l) (cell-lt (start h) 4 r 0)
+
+  named-cells : (r : ℕ) → r < 8 → within (view table 0 s 13 r) ≡ named (take 32 (drop (namedFrom r) s))
+  named-cells r l =
+      named-is (view table 0 s 13 r) (take 32 (drop (namedFrom r) s))
+      (λ j q.
+      sym (getD-take 32 (drop (namedFrom r) s) j 0 q ∙ getD-drop (namedFrom r) s j 0 ∙ get8 (start h) 13 r j (namedFrom r + j) refl (omega arith) l q))
+      (λ j q. view-col table 0 s 13 r j q)
+
+  pub kept-at : (r : ℕ) → r < 8 → m .kept r ≡ keptIf (keptOf s r) (named (take 32 (drop (namedFrom r) s)))
+  kept-at r l = sym (rw (kept-cell r l, ← named-cells r l) (ap (λ (n : Station). n .kept r) (h .is)))
+
+  -- pages
+
+  readSet-cell : (p : ℕ) → p < 32 → readSet s p ≡ view table 0 s 10 0 p
+  readSet-cell p l = get8 (start h) 10 0 p (6356 + p) refl (omega arith) (omega arith) l
+
+  writtenSet-cell : (p : ℕ) → p < 32 → writtenSet s p ≡ view table 0 s 11 0 p
+  writtenSet-cell p l = get8 (start h) 11 0 p (6388 + p) refl (omega arith) (omega arith) l
+
+  used-cells : (a : ℕ) → (within (view table 0 s 10 0) a || within (view table 0 s 11 0) a) ≡ usedAt (meant s) a
+  used-cells a = rw (has-if (within (view table 0 s 10 0) a) (view table 0 s 1 0 a), has-if (within (view table 0 s 11 0) a) (view table 0 s 2 0 a))
+
+  pub usedPage-at : (p : ℕ) → p < 32 → usedPageB s p ≡ usedPage m p
+  unfolding usedPageB
+  usedPage-at p l =
+      rw (readSet-cell p l, writtenSet-cell p l)
+      (sym (page-join (view table 0 s 10 0) (view table 0 s 11 0) p (cell-lt (start h) 10 0 p) (cell-lt (start h) 11 0 p))
+      ∙ any-ext 8 (λ o. within (view table 0 s 10 0) (p * 8 + o) || within (view table 0 s 11 0) (p * 8 + o)) (λ o. usedAt (meant s) (p * 8 + o)) (λ o. used-cells (p * 8 + o))
+      ∙ ap (λ (n : Station). usedPage n p) (h .is))
+
+  pub wrotePage-at : (p : ℕ) → p < 32 → wrotePageB s p ≡ wrotePage m p
+  unfolding wrotePageB
+  wrotePage-at p l =
+      rw (writtenSet-cell p l)
+      (sym (page-any (view table 0 s 11 0) p (cell-lt (start h) 11 0 p))
+      ∙ any-ext 8 (λ o. within (view table 0 s 11 0) (p * 8 + o)) (λ o. has ((meant s) .wr (p * 8 + o)))
+      (λ o. sym (has-if (within (view table 0 s 11 0) (p * 8 + o)) (view table 0 s 2 0 (p * 8 + o))))
+      ∙ ap (λ (n : Station). wrotePage n p) (h .is))
+
+  uses-at : (sets : List ℕ) → AllBytes sets → (p : ℕ) → p < 32 → usesB sets s p ≡ any 8 (λ o. named sets (p * 8 + o) && usedAt m (p * 8 + o))
+  unfolding usesB
+  uses-at sets b p l =
+      rw (readSet-cell p l, writtenSet-cell p l)
+      (sym (page-meet (λ j. getD sets j 0) (λ j. bitOr (view table 0 s 10 0 j) (view table 0 s 11 0 j)) p (b p))
+      ∙ any-same
+      (λ o. tb (getD sets ((p * 8 + o) / 8) 0) ((p * 8 + o) % 8) && tb (bitOr (view table 0 s 10 0 ((p * 8 + o) / 8)) (view table 0 s 11 0 ((p * 8 + o) / 8))) ((p * 8 + o) % 8))
+      (λ o. named sets (p * 8 + o) && usedAt (meant s) (p * 8 + o)) 8 at-one
+      ∙ ap (λ (n : Station). any 8 (λ o. named sets (p * 8 + o) && usedAt n (p * 8 + o))) (h .is))
+    where
+      at-one : (o : ℕ) → o < 8
+          → (tb (getD sets ((p * 8 + o) / 8) 0) ((p * 8 + o) % 8) && tb (bitOr (view table 0 s 10 0 ((p * 8 + o) / 8)) (view table 0 s 11 0 ((p * 8 + o) / 8))) ((p * 8 + o) % 8))
+          ≡ (named sets (p * 8 + o) && usedAt (meant s) (p * 8 + o))
+      at-one o q =
+          rw (named-at sets (p * 8 + o) (omega arith), tb-or ((p * 8 + o) % 8) (view table 0 s 10 0 ((p * 8 + o) / 8)) (view table 0 s 11 0 ((p * 8 + o) / 8)), ← used-cells (p * 8 + o))
+
+  pub inUse-at : (sets : List ℕ) → AllBytes sets → inUseB sets s ≡ inUse (named sets) m
+  unfolding inUseB
+  inUse-at sets b = all-pages (λ a. named sets a && usedAt m a) (usesB sets s) (uses-at sets b)
+
+  pub touched-at : (d : ℕ) → d < 2 ^ 32 → touchedB d s ≡ touched (tb d) m
+  unfolding touchedB touchesB hasBit
+  touched-at d _ = any-to (touchesB d s) (λ p. tb d p && usedPage m p) 32 (λ p l. rw (tb-test p d, usedPage-at p l))
+
+  -- past the last page and address there is nothing
+
+  pub cached-high : (p : ℕ) → 32 ≤ p → m .cached p ≡ false
+  cached-high p l = sym (ap (λ (n : Station). n .cached p) (h .is)) ∙ tb-high 32 p (view table 0 s 7 0 0) l (cell-lt (start h) 7 0 0)
+
+  pub read-high : (a : ℕ) → 256 ≤ a → m .rd a ≡ none
+  read-high a l =
+      sym (ap (λ (n : Station). n .rd a) (h .is)) ∙ rw (view-col table 0 s 10 0 (a / 8) (omega arith), tb-zero (a % 8))
+
+  pub wrote-high : (a : ℕ) → 256 ≤ a → m .wr a ≡ none
+  wrote-high a l =
+      sym (ap (λ (n : Station). n .wr a) (h .is)) ∙ rw (view-col table 0 s 11 0 (a / 8) (omega arith), tb-zero (a % 8))
+
+  pub usedPage-high : (p : ℕ) → 32 ≤ p → usedPage m p ≡ false
+  usedPage-high p l = no-eight (λ o. usedAt m (p * 8 + o)) (λ o q. rw (read-high (p * 8 + o) (omega arith), wrote-high (p * 8 + o) (omega arith)))
+
+  pub wrotePage-high : (p : ℕ) → 32 ≤ p → wrotePage m p ≡ false
+  wrotePage-high p l = no-eight (λ o. has (m .wr (p * 8 + o))) (λ o q. rw (wrote-high (p * 8 + o) (omega arith)))
+
+  -- page sets
+
+  pub usedPages-at : (p : ℕ) → tb (usedPagesB s) p ≡ (ltb p 32 && usedPage m p)
+  unfolding usedPagesB
+  usedPages-at p = mask-is (usedPageB s) 32 p ∙ byB (ltb p 32) (λ e. rw e (usedPage-at p (ltb-yes p 32 e))) (λ e. rw e)
+
+  pub writtenPages-at : (p : ℕ) → tb (writtenPagesB s) p ≡ (ltb p 32 && wrotePage m p)
+  unfolding writtenPagesB
+  writtenPages-at p = mask-is (wrotePageB s) 32 p ∙ byB (ltb p 32) (λ e. rw e (wrotePage-at p (ltb-yes p 32 e))) (λ e. rw e)
+
+  pub usedPages-is : _≡_ {A = ℕ → Bool} (tb (usedPagesB s)) (usedPage m)
+  usedPages-is = fun-ext (λ p. usedPages-at p ∙ byB (ltb p 32) (λ e. rw e) (λ e. rw (e, usedPage-high p (ltb-no p 32 e))))
+
+  pub writtenPages-is : _≡_ {A = ℕ → Bool} (tb (writtenPagesB s)) (wrotePage m)
+  writtenPages-is = fun-ext (λ p. writtenPages-at p ∙ byB (ltb p 32) (λ e. rw e) (λ e. rw (e, wrotePage-high p (ltb-no p 32 e))))
+
+  pub drops-at : (sets : List ℕ) → AllBytes sets → (p : ℕ) → tb (droppedB sets s) p ≡ drops (named sets) m p
+  unfolding droppedB dropsB
+  drops-at sets b p =
+      mask-is (dropsB sets s) 32 p
+      ∙ byB (ltb p 32)
+      (λ e.
+      let l = ltb-yes p 32 e in
+      rw (e, cached-at p, page-named sets p l (b p), usedPage-at p l, requested-at p))
+      (λ e. rw (e, cached-high p (ltb-no p 32 e)))
+
+  pub drops-is : (sets : List ℕ) → AllBytes sets → _≡_ {A = ℕ → Bool} (tb (droppedB sets s)) (drops (named sets) m)
+  drops-is sets b = fun-ext (drops-at sets b)

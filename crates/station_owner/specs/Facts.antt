@@ -1,0 +1,131 @@
+-- What the checks tell that were passed, and how a call's refusals and results stand in the lent bytes.
+use Prim.Native.Nat.{ℕ, _≤_, _<_}
+use mathlib.Core.Path.{_≡_, refl, sym, ap, _∙_}
+use mathlib.Core.Bool.{Bool, true, false, not, _&&_, _||_, cond}
+use mathlib.Core.Logic.{_≢_}
+use mathlib.Core.List.{List, [], _∷_, append-nil}
+use native.Mathlib.Omega.{arith}
+use lib.ListN.{length}
+use lib.Seq.{sets}
+use lib.Dec.{eqb, ltb, leb}
+use borrow.Author.Tests.{eqb-true, leb-true, eq-eqb, ne-eqb}
+use Rattle.sets.specs.Base.{turned}
+use Rattle.sets.specs.Laws.{byB, eqb-no, ltb-yes, not-no}
+use Rattle.lists.specs.Tests.{and-l, and-r}
+use Rattle.station_state.specs.Layout.{number, station, wait, cached, hasBit, requestedB}
+use Rattle.station_state.specs.Valid.{valid}
+use Rattle.station_state.specs.Facts.{valid-ranged}
+use Rattle.station_state.specs.Changes.{forCommitB}
+use Rattle.station_pages.specs.Pages.{usedPageB}
+use Rattle.message.specs.Stores.{length-up}
+use Rattle.station_commit.specs.Commit.{Filled, filled, commitFilled}
+use Rattle.station_callbacks.specs.Callbacks.{sends, flat, Posted, posted, post, closeB, closePosted, undoB}
+use Rattle.station_callbacks.specs.Posting.{Whole, close-post}
+use Rattle.station_answer.specs.declared.Answer.the-variants.{Refused, Waits, Aborted}
+use Rattle.station_answer.specs.declared.Said.{Said}
+use Rattle.station_answer.specs.Did.{Did, doesAll, refuses, said, outcome, delivered, handed, Delivered}
+use Rattle.station_answer.specs.Handed.{hand-all}
+use Rattle.station_answer.specs.Ask.{lockingB, openB}
+use Rattle.station_owner.specs.Owner.{ready, called, unlessB, checkBeginB, checkOpenB, checkAddressB, checkPurgeB, commitCalled, abortsB}
+
+-- state and output passed
+pub record Ready (s o c : List ℕ) : Type 0 where
+  pub size : length s ≡ 6713
+  pub own : station s ≤ 7
+  pub messages-fit : 896 ≤ length o
+  pub commit-fits : 4864 ≤ length c
+
+pub ready-is : (s o c : List ℕ) → ready s o c ≡ true → Ready s o c
+unfolding ready
+ready-is s o c h =
+    let two = valid s && leb 896 (length o) in
+    let t : two ≡ true = and-l two (leb 4864 (length c)) h in
+    let v = valid-ranged s (and-l (valid s) (leb 896 (length o)) t) in
+    record {
+      size = v .size;
+      own = v .station-fits;
+      messages-fit = leb-true _ _ (and-r (valid s) (leb 896 (length o)) t);
+      commit-fits = leb-true _ _ (and-r two (leb 4864 (length c)) h);
+    }
+
+-- a number that is 0 was not turned back
+passed : (b : Bool) (n k : ℕ) → n ≢ 0 → turned b n k ≡ 0 → (b ≡ false) × (k ≡ 0)
+passed true n k h e = absurd (h e)
+passed false n k h e = (refl, e)
+
+pub begin-passed : (s : List ℕ) → checkBeginB s ≡ 0 → number s ≢ 4294967295
+unfolding checkBeginB
+begin-passed s e =
+    let a = passed (not (eqb (wait s) 0)) 7 _ (λ q. absurd (omega arith)) e in
+    let b = passed (openB s) 9 _ (λ q. absurd (omega arith)) (a .1) in
+    let c = passed (eqb (number s) 4294967295) 11 0 (λ q. absurd (omega arith)) (b .1) in
+    eqb-no _ _ (c .0)
+
+pub address-passed : (a : ℕ) (s : List ℕ) → checkAddressB a s ≡ 0 → a < 256
+unfolding checkAddressB
+address-passed a s e = ltb-yes _ _ (not-no (ltb a 256) ((passed (not (ltb a 256)) 4 _ (λ q. absurd (omega arith)) e) .0))
+
+pub purge-passed : (p : ℕ) (s : List ℕ) → checkPurgeB p s ≡ 0 → p < 32
+unfolding checkPurgeB
+purge-passed p s e = ltb-yes _ _ (not-no (ltb p 32) ((passed (not (ltb p 32)) 4 _ (λ q. absurd (omega arith)) e) .0))
+
+-- number 1
+pub call-1 : (s o c : List ℕ) (d : Did) {x : Said} → ready s o c ≡ false → x ≡ said (Refused 1) 0 0 → outcome s o c x ≡ called s o c d
+unfolding flat
+call-1 s o c d h e = rw (h, e)
+
+-- another number
+pub call-n : (s o c : List ℕ) (d : Did) (n : ℕ) {k : ℕ} {x : Said} → ready s o c ≡ true → k ≡ n → k ≢ 0 → x ≡ said (Refused k) 0 0
+    → outcome s o c x ≡ called s o c (unlessB n d s)
+unfolding flat
+call-n s o c d n {k} h e z q = let w : eqb n 0 ≡ false = rw (← e) (ne-eqb k 0 z) in rw (h, w, q, e)
+
+-- none
+pub call-ok : (s o c : List ℕ) (d : Did) (n : ℕ) {k : ℕ} {s′ o′ : List ℕ} {x : Said} → ready s o c ≡ true → k ≡ n → k ≡ 0 → delivered s′ o′ x ≡ handed o d
+    → outcome s′ o′ c x ≡ called s o c (unlessB n d s)
+call-ok s o c d n {k} h e z q =
+    let w : eqb n 0 ≡ true = rw (← e) (eq-eqb k 0 z) in
+    rw (h, w) (ap (λ (y : Delivered). outcome (y .state) (y .messages) c (y .said)) q)
+
+-- an abort: its 4, if there is one, and the transaction's end
+pub post-one : (s o m : List ℕ) {u : List ℕ} → u ≡ sets o 0 m → posted s u 1 ≡ post o (sends s (m ∷ []))
+unfolding flat
+post-one s o m e = rw (e, append-nil m)
+
+whole-aborts : (s : List ℕ) → Whole (abortsB s)
+unfolding abortsB flat
+whole-aborts s = byB (lockingB s) (λ e. rw (e, append-nil) (length-up 4 (station s) 0 0 (number s) 0 0)) (λ e. rw e refl)
+
+pub abort-handed : (s o : List ℕ) {s₁ o₁ s₂ o₂ : List ℕ} {k n : ℕ} {x : Said} → posted s o₁ k ≡ post o (sends s (abortsB s)) → s₁ ≡ undoB s
+    → posted s₂ o₂ n ≡ closePosted (station s) s₁ o₁ k → x ≡ said (Aborted 0) n 0
+    → delivered s₂ o₂ x ≡ handed o (doesAll (Aborted 0) (closeB (station s) (sends (undoB s) (abortsB s))))
+abort-handed s o {s₁} {o₁} {s₂} {o₂} {k} {n} e f g h =
+    let d = sends (undoB s) (abortsB s) in
+    let out : o₁ ≡ sets o 0 (flat (abortsB s)) = ap (λ (p : Posted). p .out) e in
+    let count : k ≡ length (abortsB s) = ap (λ (p : Posted). p .count) e in
+    let z : posted s₂ o₂ n ≡ post o (closeB (station s) d) = rw (g, f, out, count) (close-post (station s) o d (whole-aborts s)) in
+    hand-all o (Aborted 0) (closeB (station s) d) z h
+
+-- .. at most one message before it
+pub abort-count : (s o : List ℕ) {o₁ : List ℕ} {k : ℕ} → posted s o₁ k ≡ post o (sends s (abortsB s)) → k ≤ 1
+unfolding abortsB
+abort-count s o {o₁} {k} e =
+    let count : k ≡ length (abortsB s) = ap (λ (p : Posted). p .count) e in
+    rw count (byB (lockingB s) (λ q. rw q (omega arith)) (λ q. rw q (omega arith)))
+
+-- a commit: number 1, another number, none
+module _ (s o c : List ℕ) where
+  pub commit-1 : {x : Said} → ready s o c ≡ false → x ≡ said (Refused 1) 0 0 → outcome s o c x ≡ commitCalled s o c
+  unfolding commitCalled flat
+  commit-1 h e = rw (h, e)
+
+  pub commit-n : {k : ℕ} {x : Said} → ready s o c ≡ true → k ≡ checkOpenB s → k ≢ 0 → x ≡ said (Refused k) 0 0 → outcome s o c x ≡ commitCalled s o c
+  unfolding commitCalled flat
+  commit-n {k} h e z q = let w : eqb (checkOpenB s) 0 ≡ false = rw (← e) (ne-eqb k 0 z) in rw (h, w, q, e)
+
+  pub commit-ok : {k n : ℕ} {s′ c′ : List ℕ} → ready s o c ≡ true → k ≡ checkOpenB s → k ≡ 0 → filled c′ n ≡ commitFilled s c → s′ ≡ forCommitB s
+      → outcome s′ o c′ (said Waits 0 n) ≡ commitCalled s o c
+  unfolding commitCalled
+  commit-ok {k} {n} {s′} {c′} h e z q f =
+      let w : eqb (checkOpenB s) 0 ≡ true = rw (← e) (eq-eqb k 0 z) in
+      rw (h, w, f) (ap (λ (y : Filled). outcome (forCommitB s) o (y .out) (said Waits 0 (y .count))) q)

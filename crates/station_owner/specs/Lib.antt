@@ -1,0 +1,3 @@
+-- The operations of a station's owner.
+pub mod Owner
+pub mod Facts

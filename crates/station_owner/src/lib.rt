@@ -1,0 +1,280 @@
+// The operations of a station's owner, on a lent state and lent output.
+ghost use mathlib.Core.Path.{_≡_};
+ghost use Prim.Native.Nat.{_+_, _*_, _≤_, _<_};
+ghost use lib.ListN.{length};
+ghost use lib.Seq.{sets};
+ghost use Rattle.station_answer.specs.Did.{said, outcome, delivered, handed};
+ghost use Rattle.station_callbacks.specs.Callbacks.{sends, posted, post};
+ghost use Rattle.station_owner.specs.Owner.{ready as Owner·ready, called, commitCalled, checkBeginB, checkOpenB, checkAddressB, checkPurgeB, requestB, shownB, readHereB, mayWriteB, asksB, abortsB, ownBeginB, readAsB, ownReadB, writeAsB, ownWriteB, ownAbortB, ownPurgeB};
+use station_answer::Answer;
+use station_answer::Said;
+
+// Whether the state is one, and the output is long enough: number 1 otherwise.
+pub fn ready(s: &[u8], o: &[u8], c: &[u8]) -> bool
+    ensures { λ r. ⌜ r ≡ Owner·ready (now (s .entry)) (now (o .entry)) (now (c .entry)) ⌝ }
+{
+    station_state::valid(s) & (896 <= o.len()) & (4864 <= c.len())
+}
+
+// A refusal.
+pub fn refuse(number: u32) -> Said
+    ensures { λ r. ⌜ r ≡ said (Answer.Refused number) 0 0 ⌝ }
+{
+    station_answer::say(Answer::Refused(number), 0)
+}
+
+fn check_begin(s: &[u8]) -> u32
+    requires { ⌜ length (now s) ≡ 6713 ⌝ }
+    ensures { λ r. ⌜ r ≡ checkBeginB (now (s .entry)) ⌝ }
+{
+    if s[6711] != 0 {
+        return 7;
+    }
+    if s[6710] != 0 {
+        return 9;
+    }
+    if le::get_u32(s, 6312) == 4294967295 {
+        return 11;
+    }
+    0
+}
+
+fn check_open(s: &[u8]) -> u32
+    requires { ⌜ length (now s) ≡ 6713 ⌝ }
+    ensures { λ r. ⌜ r ≡ checkOpenB (now (s .entry)) ⌝ }
+{
+    if s[6711] != 0 {
+        return 7;
+    }
+    if s[6710] == 0 {
+        return 8;
+    }
+    0
+}
+
+fn check_address(a: u32, s: &[u8]) -> u32
+    requires { ⌜ length (now s) ≡ 6713 ⌝ }
+    ensures { λ r. ⌜ r ≡ checkAddressB a (now (s .entry)) ⌝ }
+{
+    if a >= 256 {
+        return 4;
+    }
+    check_open(s)
+}
+
+fn check_purge(p: u32, s: &[u8]) -> u32
+    requires { ⌜ length (now s) ≡ 6713 ⌝ }
+    ensures { λ r. ⌜ r ≡ checkPurgeB p (now (s .entry)) ⌝ }
+{
+    if p >= 32 {
+        return 4;
+    }
+    if station_state::requested(s, p as usize) {
+        return 7;
+    }
+    if station_pages::used_page(s, p as usize)
+        | !station_state::has_bit32(le::get_u32(s, 6316), p as usize)
+    {
+        return 10;
+    }
+    0
+}
+
+// Begins a transaction.
+pub fn begin(s: &mut [u8], o: &mut [u8], c: &mut [u8]) -> Said
+    ensures { λ r. ⌜ outcome (now (s .exit)) (now (o .exit)) (now (c .exit)) r ≡ called (now (s .entry)) (now (o .entry)) (now (c .entry)) (ownBeginB (now (s .entry))) ⌝ }
+{
+    if !ready(s, o, c) {
+        return refuse(1);
+    }
+    let n = check_begin(s);
+    if n != 0 {
+        return refuse(n);
+    }
+    let t = le::get_u32(s, 6312) + 1;
+    station_state::begin(s);
+    station_answer::say(Answer::Begun(t), 0)
+}
+
+fn shown(a: usize, s: &[u8]) -> bool
+    requires { ⌜ (length (now s) ≡ 6713) × (a < 256) ⌝ }
+    ensures { λ r. ⌜ r ≡ shownB a (now (s .entry)) ⌝ }
+{
+    station_state::has_bit32(le::get_u32(s, 6316), a / 8) & !station_state::member(s, 6324, a)
+}
+
+// Asks for an address by a message of kind k.
+fn request(k: u8, a: usize, s: &[u8], o: &mut [u8])
+    requires { ⌜ (length (now s) ≡ 6713) × (896 ≤ length (now o)) × (a < 256) ⌝ }
+    ensures { λ _. ⌜ now (o .exit) ≡ sets (now (o .entry)) 0 (requestB k a (now (s .entry))) ⌝ }
+{
+    message::put_up(
+        o,
+        0,
+        k,
+        s[6708],
+        (a / 8) as u8,
+        (a % 8) as u8,
+        le::get_u32(s, 6312),
+        0,
+        0,
+    );
+}
+
+// What is asked for where it is not at hand.
+fn read_here(a: usize, s: &mut [u8], o: &mut [u8]) -> Said
+    requires { ⌜ (length (now s) ≡ 6713) × (896 ≤ length (now o)) × (a < 256) ⌝ }
+    ensures { λ r. ⌜ delivered (now (s .exit)) (now (o .exit)) r ≡ handed (now (o .entry)) (readHereB a (now (s .entry))) ⌝ }
+{
+    if shown(a, s) {
+        let x = le::get_u64(s, a * 8);
+        station_state::record_read(s, a);
+        return station_answer::say(Answer::Value(x), 0);
+    }
+    request(1, a, s, o);
+    station_state::for_read(s, a as u8);
+    station_answer::say(Answer::Waits, 1)
+}
+
+// The own last write, then the recorded read, come before the copy.
+fn read_as(a: usize, s: &mut [u8], o: &mut [u8]) -> Said
+    requires { ⌜ (length (now s) ≡ 6713) × (896 ≤ length (now o)) × (a < 256) ⌝ }
+    ensures { λ r. ⌜ delivered (now (s .exit)) (now (o .exit)) r ≡ handed (now (o .entry)) (readAsB a (now (s .entry))) ⌝ }
+{
+    if station_state::member(s, 6388, a) {
+        return station_answer::say(Answer::Value(le::get_u64(s, 4096 + a * 8)), 0);
+    }
+    if station_state::member(s, 6356, a) {
+        return station_answer::say(Answer::Value(le::get_u64(s, 2048 + a * 8)), 0);
+    }
+    read_here(a, s, o)
+}
+
+// Reads an address.
+pub fn read(address: u32, s: &mut [u8], o: &mut [u8], c: &mut [u8]) -> Said
+    ensures { λ r. ⌜ outcome (now (s .exit)) (now (o .exit)) (now (c .exit)) r ≡ called (now (s .entry)) (now (o .entry)) (now (c .entry)) (ownReadB address (now (s .entry))) ⌝ }
+{
+    if !ready(s, o, c) {
+        return refuse(1);
+    }
+    let n = check_address(address, s);
+    if n != 0 {
+        return refuse(n);
+    }
+    read_as(address as usize, s, o)
+}
+
+fn may_write(a: usize, s: &[u8]) -> bool
+    requires { ⌜ (length (now s) ≡ 6713) × (a < 256) ⌝ }
+    ensures { λ r. ⌜ r ≡ mayWriteB a (now (s .entry)) ⌝ }
+{
+    if s[6709] == 0 {
+        return station_state::member(s, 6420, a)
+            | station_state::has_bit32(le::get_u32(s, 6320), a / 8);
+    }
+    station_state::has_bit32(le::get_u32(s, 6316), a / 8)
+}
+
+// The kind of message that asks for a write: 2 by a locking station, 1 by a validating one.
+fn asks(s: &[u8]) -> u8
+    requires { ⌜ length (now s) ≡ 6713 ⌝ }
+    ensures { λ r. ⌜ r ≡ asksB (now (s .entry)) ⌝ }
+{
+    if s[6709] == 0 {
+        return 2;
+    }
+    1
+}
+
+fn write_as(a: usize, v: u64, s: &mut [u8], o: &mut [u8]) -> Said
+    requires { ⌜ (length (now s) ≡ 6713) × (896 ≤ length (now o)) × (a < 256) ⌝ }
+    ensures { λ r. ⌜ delivered (now (s .exit)) (now (o .exit)) r ≡ handed (now (o .entry)) (writeAsB a v (now (s .entry))) ⌝ }
+{
+    if may_write(a, s) {
+        station_state::write_local(s, a, v);
+        return station_answer::say(Answer::Written, 0);
+    }
+    request(asks(s), a, s, o);
+    station_state::for_write(s, a as u8, v);
+    station_answer::say(Answer::Waits, 1)
+}
+
+// Writes a value to an address.
+pub fn write(address: u32, value: u64, s: &mut [u8], o: &mut [u8], c: &mut [u8]) -> Said
+    ensures { λ r. ⌜ outcome (now (s .exit)) (now (o .exit)) (now (c .exit)) r ≡ called (now (s .entry)) (now (o .entry)) (now (c .entry)) (ownWriteB address value (now (s .entry))) ⌝ }
+{
+    if !ready(s, o, c) {
+        return refuse(1);
+    }
+    let n = check_address(address, s);
+    if n != 0 {
+        return refuse(n);
+    }
+    write_as(address as usize, value, s, o)
+}
+
+// Commits the open transaction: the commit's bytes go to `c`.
+pub fn commit(s: &mut [u8], o: &mut [u8], c: &mut [u8]) -> Said
+    ensures { λ r. ⌜ outcome (now (s .exit)) (now (o .exit)) (now (c .exit)) r ≡ commitCalled (now (s .entry)) (now (o .entry)) (now (c .entry)) ⌝ }
+{
+    if !ready(s, o, c) {
+        return refuse(1);
+    }
+    let n = check_open(s);
+    if n != 0 {
+        return refuse(n);
+    }
+    let k = station_commit::put_commit(s, c);
+    station_state::for_commit(s);
+    Said {
+        answer: Answer::Waits,
+        messages: 0,
+        commit: k,
+    }
+}
+
+// A locking station tells the server of an abort: how many messages that is.
+fn tell_abort(s: &[u8], o: &mut [u8]) -> usize
+    requires { ⌜ (length (now s) ≡ 6713) × (896 ≤ length (now o)) ⌝ }
+    ensures { λ k. ⌜ posted (now (s .entry)) (now (o .exit)) k ≡ post (now (o .entry)) (sends (now (s .entry)) (abortsB (now (s .entry)))) ⌝ }
+{
+    if s[6709] == 0 {
+        message::put_up(o, 0, 4, s[6708], 0, 0, le::get_u32(s, 6312), 0, 0);
+        return 1;
+    }
+    0
+}
+
+// Ends the open transaction.
+pub fn abort(s: &mut [u8], o: &mut [u8], c: &mut [u8]) -> Said
+    ensures { λ r. ⌜ outcome (now (s .exit)) (now (o .exit)) (now (c .exit)) r ≡ called (now (s .entry)) (now (o .entry)) (now (c .entry)) (ownAbortB (now (s .entry))) ⌝ }
+{
+    if !ready(s, o, c) {
+        return refuse(1);
+    }
+    let n = check_open(s);
+    if n != 0 {
+        return refuse(n);
+    }
+    let i = s[6708];
+    let k = tell_abort(s, o);
+    station_callbacks::undo(s);
+    let sent = station_callbacks::close(s, o, k, i);
+    station_answer::say(Answer::Aborted(0), sent)
+}
+
+// Gives a page back.
+pub fn purge(page: u32, s: &mut [u8], o: &mut [u8], c: &mut [u8]) -> Said
+    ensures { λ r. ⌜ outcome (now (s .exit)) (now (o .exit)) (now (c .exit)) r ≡ called (now (s .entry)) (now (o .entry)) (now (c .entry)) (ownPurgeB page (now (s .entry))) ⌝ }
+{
+    if !ready(s, o, c) {
+        return refuse(1);
+    }
+    let n = check_purge(page, s);
+    if n != 0 {
+        return refuse(n);
+    }
+    message::put_up(o, 0, 5, s[6708], page as u8, 0, 0, 0, 0);
+    station_pages::drop_pages(s, station_state::bit32(page as usize));
+    station_answer::say(Answer::Purged, 1)
+}

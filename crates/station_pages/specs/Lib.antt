@@ -1,0 +1,2 @@
+-- Changes of a station's state page by page: dropped pages, marks, arriving pages, versions.
+pub mod Pages

@@ -1,0 +1,248 @@
+// Changes of a station's state page by page: dropped pages, marks, arriving pages, versions.
+ghost use mathlib.Core.Path.{_≡_};
+ghost use mathlib.Core.Bool.{cond};
+ghost use Prim.Native.Nat.{_+_, _*_, _≤_, _<_, _^_};
+ghost use lib.ListN.{length};
+ghost use Rattle.station_pages.specs.Pages.{usedPageB, wrotePageB, usedPagesB, writtenPagesB, usesB, inUseB, touchesB, touchedB, dropsB, droppedB, blankTo, dropPageB, dropOneB, dropPagesB, markOneB, markB, arrivesB, arriveTo, arriveB, versionOneB, versionsB};
+
+// The bit of page p, if so.
+fn bit_if(yes: bool, p: usize) -> u32
+    requires { ⌜ p < 32 ⌝ }
+    ensures { λ r. ⌜ r ≡ cond yes (2 ^ p) 0 ⌝ }
+{
+    if yes {
+        return station_state::bit32(p);
+    }
+    0
+}
+
+pub fn used_page(s: &[u8], p: usize) -> bool
+    requires { ⌜ (length (now s) ≡ 6713) × (p < 32) ⌝ }
+    ensures { λ r. ⌜ r ≡ usedPageB (now (s .entry)) p ⌝ }
+{
+    (s[6356 + p] | s[6388 + p]) != 0
+}
+
+fn wrote_page(s: &[u8], p: usize) -> bool
+    requires { ⌜ (length (now s) ≡ 6713) × (p < 32) ⌝ }
+    ensures { λ r. ⌜ r ≡ wrotePageB (now (s .entry)) p ⌝ }
+{
+    s[6388 + p] != 0
+}
+
+// The pages on which the transaction has read or written.
+pub fn used_pages(s: &[u8]) -> u32
+    requires { ⌜ length (now s) ≡ 6713 ⌝ }
+    ensures { λ r. ⌜ r ≡ usedPagesB (now (s .entry)) ⌝ }
+{
+    let mut d: u32 = 0;
+    let mut p = 0;
+    while p < 32 {
+        d |= bit_if(used_page(s, p), p);
+        p += 1;
+    }
+    d
+}
+
+pub fn written_pages(s: &[u8]) -> u32
+    requires { ⌜ length (now s) ≡ 6713 ⌝ }
+    ensures { λ r. ⌜ r ≡ writtenPagesB (now (s .entry)) ⌝ }
+{
+    let mut d: u32 = 0;
+    let mut p = 0;
+    while p < 32 {
+        d |= bit_if(wrote_page(s, p), p);
+        p += 1;
+    }
+    d
+}
+
+fn uses(sets: &[u8], s: &[u8], p: usize) -> bool
+    requires { ⌜ (length (now s) ≡ 6713) × (32 ≤ length (now sets)) × (p < 32) ⌝ }
+    ensures { λ r. ⌜ r ≡ usesB (now (sets .entry)) (now (s .entry)) p ⌝ }
+{
+    sets[p] & (s[6356 + p] | s[6388 + p]) != 0
+}
+
+// Whether the transaction has read or written an object of these sets.
+pub fn in_use(sets: &[u8], s: &[u8]) -> bool
+    requires { ⌜ (length (now s) ≡ 6713) × (32 ≤ length (now sets)) ⌝ }
+    ensures { λ r. ⌜ r ≡ inUseB (now (sets .entry)) (now (s .entry)) ⌝ }
+{
+    let mut r = false;
+    let mut p = 0;
+    while p < 32 {
+        r |= uses(sets, s, p);
+        p += 1;
+    }
+    r
+}
+
+fn touches(d: u32, s: &[u8], p: usize) -> bool
+    requires { ⌜ (length (now s) ≡ 6713) × (p < 32) ⌝ }
+    ensures { λ r. ⌜ r ≡ touchesB d (now (s .entry)) p ⌝ }
+{
+    station_state::has_bit32(d, p) & used_page(s, p)
+}
+
+// Whether the transaction has used one of these pages.
+pub fn touched(d: u32, s: &[u8]) -> bool
+    requires { ⌜ length (now s) ≡ 6713 ⌝ }
+    ensures { λ r. ⌜ r ≡ touchedB d (now (s .entry)) ⌝ }
+{
+    let mut r = false;
+    let mut p = 0;
+    while p < 32 {
+        r |= touches(d, s, p);
+        p += 1;
+    }
+    r
+}
+
+fn drops(sets: &[u8], s: &[u8], p: usize) -> bool
+    requires { ⌜ (length (now s) ≡ 6713) × (32 ≤ length (now sets)) × (p < 32) ⌝ }
+    ensures { λ r. ⌜ r ≡ dropsB (now (sets .entry)) (now (s .entry)) p ⌝ }
+{
+    station_state::has_bit32(le::get_u32(s, 6316), p)
+        & (sets[p] != 0)
+        & !used_page(s, p)
+        & !station_state::requested(s, p)
+}
+
+// The pages that a callback of these sets drops.
+pub fn dropped(sets: &[u8], s: &[u8]) -> u32
+    requires { ⌜ (length (now s) ≡ 6713) × (32 ≤ length (now sets)) ⌝ }
+    ensures { λ r. ⌜ r ≡ droppedB (now (sets .entry)) (now (s .entry)) ⌝ }
+{
+    let mut d: u32 = 0;
+    let mut p = 0;
+    while p < 32 {
+        d |= bit_if(drops(sets, s, p), p);
+        p += 1;
+    }
+    d
+}
+
+// The eight values of a page become 0.
+fn blank(s: &mut [u8], p: usize)
+    requires { ⌜ (length (now s) ≡ 6713) × (p < 32) ⌝ }
+    ensures { λ _. ⌜ now (s .exit) ≡ blankTo (now (s .entry)) p 8 ⌝ }
+{
+    let mut o = 0;
+    while o < 8 {
+        le::put_u64(s, (p * 8 + o) * 8, 0);
+        o += 1;
+    }
+}
+
+fn drop_page(s: &mut [u8], p: usize)
+    requires { ⌜ (length (now s) ≡ 6713) × (p < 32) ⌝ }
+    ensures { λ _. ⌜ now (s .exit) ≡ dropPageB (now (s .entry)) p ⌝ }
+{
+    blank(s, p);
+    le::put_u32(s, 6184 + p * 4, 0);
+    le::put_u8(s, 6324 + p, 0);
+}
+
+fn drop_one(s: &mut [u8], d: u32, p: usize)
+    requires { ⌜ (length (now s) ≡ 6713) × (p < 32) ⌝ }
+    ensures { λ _. ⌜ now (s .exit) ≡ dropOneB (now (s .entry)) d p ⌝ }
+{
+    if station_state::has_bit32(d, p) {
+        drop_page(s, p);
+        return;
+    }
+}
+
+// Drops the pages of a set: nothing of them is left.
+pub fn drop_pages(s: &mut [u8], d: u32)
+    requires { ⌜ length (now s) ≡ 6713 ⌝ }
+    ensures { λ _. ⌜ now (s .exit) ≡ dropPagesB d (now (s .entry)) ⌝ }
+{
+    let mut p = 0;
+    while p < 32 {
+        drop_one(s, d, p);
+        p += 1;
+    }
+    let x = le::get_u32(s, 6316);
+    le::put_u32(s, 6316, x & !d);
+}
+
+fn mark_one(s: &mut [u8], sets: &[u8], p: usize)
+    requires { ⌜ (length (now s) ≡ 6713) × (32 ≤ length (now sets)) × (p < 32) ⌝ }
+    ensures { λ _. ⌜ now (s .exit) ≡ markOneB (now (sets .entry)) (now (s .entry)) p ⌝ }
+{
+    if station_state::has_bit32(le::get_u32(s, 6316), p) {
+        let x = s[6324 + p] | sets[p];
+        le::put_u8(s, 6324 + p, x);
+        return;
+    }
+}
+
+// Marks the objects of these sets unavailable on the cached pages.
+pub fn mark(s: &mut [u8], sets: &[u8])
+    requires { ⌜ (length (now s) ≡ 6713) × (32 ≤ length (now sets)) ⌝ }
+    ensures { λ _. ⌜ now (s .exit) ≡ markB (now (sets .entry)) (now (s .entry)) ⌝ }
+{
+    let mut p = 0;
+    while p < 32 {
+        mark_one(s, sets, p);
+        p += 1;
+    }
+}
+
+// The value of object o of page p when message m brings the page: the own one, if the transaction wrote it.
+fn arrives(m: &[u8], s: &[u8], p: usize, o: usize) -> u64
+    requires { ⌜ (length (now s) ≡ 6713) × (112 ≤ length (now m)) × (p < 32) × (o < 8) ⌝ }
+    ensures { λ r. ⌜ r ≡ arrivesB (now (m .entry)) (now (s .entry)) p o ⌝ }
+{
+    if station_state::has_bit8(s[6388 + p], o) {
+        return le::get_u64(s, 4096 + (p * 8 + o) * 8);
+    }
+    le::get_u64(m, 48 + o * 8)
+}
+
+fn arrive_values(s: &mut [u8], m: &[u8], p: usize)
+    requires { ⌜ (length (now s) ≡ 6713) × (112 ≤ length (now m)) × (p < 32) ⌝ }
+    ensures { λ _. ⌜ now (s .exit) ≡ arriveTo (now (m .entry)) (now (s .entry)) p 8 ⌝ }
+{
+    let mut o = 0;
+    while o < 8 {
+        let v = arrives(m, s, p, o);
+        le::put_u64(s, (p * 8 + o) * 8, v);
+        o += 1;
+    }
+}
+
+// Page p arrives with message m: values, version, unavailable set.
+pub fn arrive(s: &mut [u8], m: &[u8], p: usize)
+    requires { ⌜ (length (now s) ≡ 6713) × (112 ≤ length (now m)) × (p < 32) ⌝ }
+    ensures { λ _. ⌜ now (s .exit) ≡ arriveB (now (m .entry)) p (now (s .entry)) ⌝ }
+{
+    arrive_values(s, m, p);
+    le::put_u32(s, 6184 + p * 4, le::get_u32(m, 12));
+    le::put_u8(s, 6324 + p, m[16]);
+    station_state::page_on(s, 6316, p);
+}
+
+fn version_one(s: &mut [u8], n: u32, p: usize)
+    requires { ⌜ (length (now s) ≡ 6713) × (p < 32) ⌝ }
+    ensures { λ _. ⌜ now (s .exit) ≡ versionOneB n (now (s .entry)) p ⌝ }
+{
+    if station_state::has_bit32(le::get_u32(s, 6316), p) & wrote_page(s, p) {
+        le::put_u32(s, 6184 + p * 4, n);
+        return;
+    }
+}
+
+// Written cached pages take version n.
+pub fn versions(s: &mut [u8], n: u32)
+    requires { ⌜ length (now s) ≡ 6713 ⌝ }
+    ensures { λ _. ⌜ now (s .exit) ≡ versionsB n (now (s .entry)) ⌝ }
+{
+    let mut p = 0;
+    while p < 32 {
+        version_one(s, n, p);
+        p += 1;
+    }
+}

@@ -1,0 +1,47 @@
+-- `station_state::loosen` meets its contract.
+use Rattle.station_state.specs.Changes.{loosenB}
+use borrow.Author.Needs.{needs}
+use Rattle.station_state.proofs.loosen.Statement.{statement}
+use Rattle.station_state.proofs.loosen.Tie as tie
+
+add-x : tie.Need-add-x
+add-x c = search needs
+
+slice-read-x : tie.Need-slice-read-x
+slice-read-x c = search needs
+
+add-x-2 : tie.Need-add-x-2
+add-x-2 c = search needs
+
+slice-read-x-2 : tie.Need-slice-read-x-2
+slice-read-x-2 c = search needs
+
+add-put-u8 : tie.Need-add-put-u8
+add-put-u8 c = search needs
+
+put-u8-requires : tie.Need-put-u8-requires
+put-u8-requires c κs = search needs
+
+page-off-requires : tie.Need-page-off-requires
+page-off-requires c κs = search needs
+
+same-length : tie.Need-same-length
+same-length c = search needs
+
+returns : tie.Need-returns
+unfolding loosenB
+returns c = cc
+
+pub loosen-spec : {M : Type 1} → statement M
+loosen-spec =
+    tie.close
+    (tie.spec
+    add-x
+    slice-read-x
+    add-x-2
+    slice-read-x-2
+    add-put-u8
+    put-u8-requires
+    page-off-requires
+    same-length
+    returns)

@@ -1,0 +1,25 @@
+-- `station_state::page_on` meets its contract.
+use Rattle.station_state.specs.Changes.{pageOn}
+use borrow.Author.Needs.{needs}
+use Rattle.station_state.proofs.page_on.Statement.{statement}
+use Rattle.station_state.proofs.page_on.Tie as tie
+
+get-u32-requires : tie.Need-get-u32-requires
+get-u32-requires c κs = search needs
+
+bit32-requires : tie.Need-bit32-requires
+bit32-requires c κs = search needs
+
+put-u32-requires : tie.Need-put-u32-requires
+put-u32-requires c κs = search needs
+
+same-length : tie.Need-same-length
+same-length c = search needs
+
+returns : tie.Need-returns
+unfolding pageOn
+returns c = cc
+
+pub page-on-spec : {M : Type 1} → statement M
+page-on-spec =
+    tie.close (tie.spec get-u32-requires bit32-requires put-u32-requires same-length returns)

@@ -1,0 +1,271 @@
+// The bytes of a station's state: number 1, a fresh state, and the changes that touch one place or one set.
+// Where each field stands is in specs/Layout.antt and docs/STATE.md.
+ghost use mathlib.Core.Path.{_≡_};
+ghost use Prim.Native.Nat.{_+_, _^_, _≤_, _<_};
+ghost use lib.ListN.{length, replicate};
+ghost use Rattle.station_state.specs.Layout.{stateLength, station as Layout·station, number, hasBit, member as Layout·member, requestedB};
+ghost use Rattle.station_state.specs.Valid.{fieldsOk, ownKept, valid as Valid·valid, freshened, freshOf};
+ghost use Rattle.station_state.specs.Changes.{addTo, pageOn, pageOff, clearTo, copyTo, beginB, recordReadB, writeLocalB, idleB, forReadB, forWriteB, forCommitB, loosenB, keepB, unkeepB, closedB};
+
+pub fn bit8(k: usize) -> u8
+    requires { ⌜ k < 8 ⌝ }
+    ensures { λ r. ⌜ r ≡ 2 ^ k ⌝ }
+{
+    1u8 << k
+}
+
+pub fn bit32(k: usize) -> u32
+    requires { ⌜ k < 32 ⌝ }
+    ensures { λ r. ⌜ r ≡ 2 ^ k ⌝ }
+{
+    1u32 << k
+}
+
+pub fn has_bit8(x: u8, k: usize) -> bool
+    requires { ⌜ k < 8 ⌝ }
+    ensures { λ r. ⌜ r ≡ hasBit x k ⌝ }
+{
+    x & bit8(k) != 0
+}
+
+pub fn has_bit32(x: u32, k: usize) -> bool
+    requires { ⌜ k < 32 ⌝ }
+    ensures { λ r. ⌜ r ≡ hasBit x k ⌝ }
+{
+    x & bit32(k) != 0
+}
+
+// Whether the object sets from `at` have the address a.
+pub fn member(s: &[u8], at: usize, a: usize) -> bool
+    requires { ⌜ (at + 32 ≤ length (now s)) × (a < 256) ⌝ }
+    ensures { λ r. ⌜ r ≡ Layout·member (now (s .entry)) at a ⌝ }
+{
+    has_bit8(s[at + a / 8], a % 8)
+}
+
+// Whether a read or a write of an object of page p is out.
+pub fn requested(s: &[u8], p: usize) -> bool
+    requires { ⌜ length (now s) ≡ stateLength ⌝ }
+    ensures { λ r. ⌜ r ≡ requestedB (now (s .entry)) p ⌝ }
+{
+    ((s[6711] == 1) | (s[6711] == 2)) & (p == (s[6712] / 8) as usize)
+}
+
+// Whether the fields other than the station's number are in range.
+pub fn fields_ok(s: &[u8]) -> bool
+    requires { ⌜ length (now s) ≡ stateLength ⌝ }
+    ensures { λ r. ⌜ r ≡ fieldsOk (now (s .entry)) ⌝ }
+{
+    (s[6709] <= 1)
+        & (s[6710] <= 1)
+        & (s[6711] <= 3)
+        & ((s[6710] == 0) | (le::get_u32(s, 6312) != 0))
+}
+
+// Whether a callback from the station itself is kept.
+pub fn own_kept(s: &[u8]) -> bool
+    requires { ⌜ (length (now s) ≡ stateLength) × (Layout·station (now s) ≤ 7) ⌝ }
+    ensures { λ r. ⌜ r ≡ ownKept (now (s .entry)) ⌝ }
+{
+    let st = s[6708] as usize;
+    le::get_u32(s, 6152 + st * 4) != 0
+}
+
+// False is number 1.
+pub fn valid(s: &[u8]) -> bool
+    ensures { λ r. ⌜ r ≡ Valid·valid (now (s .entry)) ⌝ }
+{
+    if s.len() != 6713 {
+        return false;
+    }
+    if s[6708] > 7 {
+        return false;
+    }
+    fields_ok(s) & !own_kept(s)
+}
+
+fn zero(s: &mut [u8])
+    ensures { λ _. ⌜ now (s .exit) ≡ replicate (length (now (s .entry))) 0 ⌝ }
+{
+    let mut i = 0;
+    while i < s.len() {
+        s[i] = 0;
+        i += 1;
+    }
+}
+
+// Makes a station's first state: 1 where the length is wrong, then 4 where station or kind is out of range, else 0.
+// A refusal changes nothing.
+pub fn fresh(station: u32, kind: u32, s: &mut [u8]) -> u32
+    ensures { λ r. ⌜ freshened (now (s .exit)) r ≡ freshOf station kind (now (s .entry)) ⌝ }
+{
+    if s.len() != 6713 {
+        return 1;
+    }
+    if station > 7 {
+        return 4;
+    }
+    if kind > 1 {
+        return 4;
+    }
+    zero(s);
+    le::put_u8(s, 6708, station as u8);
+    le::put_u8(s, 6709, kind as u8);
+    0
+}
+
+// The address a joins the object sets from `at`.
+pub fn add_to(s: &mut [u8], at: usize, a: usize)
+    requires { ⌜ (at + 32 ≤ length (now s)) × (a < 256) ⌝ }
+    ensures { λ _. ⌜ now (s .exit) ≡ addTo (now (s .entry)) at a ⌝ }
+{
+    let x = s[at + a / 8] | bit8(a % 8);
+    le::put_u8(s, at + a / 8, x);
+}
+
+// Page p joins the page set at `at`.
+pub fn page_on(s: &mut [u8], at: usize, p: usize)
+    requires { ⌜ (at + 4 ≤ length (now s)) × (p < 32) ⌝ }
+    ensures { λ _. ⌜ now (s .exit) ≡ pageOn (now (s .entry)) at p ⌝ }
+{
+    let x = le::get_u32(s, at);
+    le::put_u32(s, at, x | bit32(p));
+}
+
+// Page p leaves the page set at `at`.
+pub fn page_off(s: &mut [u8], at: usize, p: usize)
+    requires { ⌜ (at + 4 ≤ length (now s)) × (p < 32) ⌝ }
+    ensures { λ _. ⌜ now (s .exit) ≡ pageOff (now (s .entry)) at p ⌝ }
+{
+    let x = le::get_u32(s, at);
+    le::put_u32(s, at, x & !bit32(p));
+}
+
+// The object sets from `at` are empty.
+pub fn clear(s: &mut [u8], at: usize)
+    requires { ⌜ at + 32 ≤ length (now s) ⌝ }
+    ensures { λ _. ⌜ now (s .exit) ≡ clearTo (now (s .entry)) at 32 ⌝ }
+{
+    let mut i = 0;
+    while i < 32 {
+        s[at + i] = 0;
+        i += 1;
+    }
+}
+
+// The object sets from `at` are those of `sets`.
+pub fn copy_sets(s: &mut [u8], at: usize, sets: &[u8])
+    requires { ⌜ (at + 32 ≤ length (now s)) × (32 ≤ length (now sets)) ⌝ }
+    ensures { λ _. ⌜ now (s .exit) ≡ copyTo (now (s .entry)) at (now (sets .entry)) 32 ⌝ }
+{
+    let mut i = 0;
+    while i < 32 {
+        s[at + i] = sets[i];
+        i += 1;
+    }
+}
+
+// The next transaction is open.
+pub fn begin(s: &mut [u8])
+    requires { ⌜ (length (now s) ≡ stateLength) × (number (now s) < 4294967295) ⌝ }
+    ensures { λ _. ⌜ now (s .exit) ≡ beginB (now (s .entry)) ⌝ }
+{
+    let n = le::get_u32(s, 6312);
+    le::put_u32(s, 6312, n + 1);
+    le::put_u8(s, 6710, 1);
+}
+
+// The copy's value of a is recorded as read.
+pub fn record_read(s: &mut [u8], a: usize)
+    requires { ⌜ (length (now s) ≡ stateLength) × (a < 256) ⌝ }
+    ensures { λ _. ⌜ now (s .exit) ≡ recordReadB a (now (s .entry)) ⌝ }
+{
+    let v = le::get_u64(s, a * 8);
+    add_to(s, 6356, a);
+    le::put_u64(s, 2048 + a * 8, v);
+}
+
+// v is written to a, in the transaction and in the copy.
+pub fn write_local(s: &mut [u8], a: usize, v: u64)
+    requires { ⌜ (length (now s) ≡ stateLength) × (a < 256) ⌝ }
+    ensures { λ _. ⌜ now (s .exit) ≡ writeLocalB a v (now (s .entry)) ⌝ }
+{
+    add_to(s, 6388, a);
+    le::put_u64(s, 4096 + a * 8, v);
+    le::put_u64(s, a * 8, v);
+}
+
+// Nothing is out.
+pub fn idle(s: &mut [u8])
+    requires { ⌜ length (now s) ≡ stateLength ⌝ }
+    ensures { λ _. ⌜ now (s .exit) ≡ idleB (now (s .entry)) ⌝ }
+{
+    le::put_u8(s, 6711, 0);
+}
+
+// A read of a is out.
+pub fn for_read(s: &mut [u8], a: u8)
+    requires { ⌜ length (now s) ≡ stateLength ⌝ }
+    ensures { λ _. ⌜ now (s .exit) ≡ forReadB a (now (s .entry)) ⌝ }
+{
+    le::put_u8(s, 6711, 1);
+    le::put_u8(s, 6712, a);
+}
+
+// A write of v to a is out.
+pub fn for_write(s: &mut [u8], a: u8, v: u64)
+    requires { ⌜ length (now s) ≡ stateLength ⌝ }
+    ensures { λ _. ⌜ now (s .exit) ≡ forWriteB a v (now (s .entry)) ⌝ }
+{
+    le::put_u8(s, 6711, 2);
+    le::put_u8(s, 6712, a);
+    le::put_u64(s, 6144, v);
+}
+
+// A commit is out.
+pub fn for_commit(s: &mut [u8])
+    requires { ⌜ length (now s) ≡ stateLength ⌝ }
+    ensures { λ _. ⌜ now (s .exit) ≡ forCommitB (now (s .entry)) ⌝ }
+{
+    le::put_u8(s, 6711, 3);
+}
+
+// The whole lock on page p becomes locks on the objects written there.
+pub fn loosen(s: &mut [u8], p: usize)
+    requires { ⌜ (length (now s) ≡ stateLength) × (p < 32) ⌝ }
+    ensures { λ _. ⌜ now (s .exit) ≡ loosenB p (now (s .entry)) ⌝ }
+{
+    let x = s[6420 + p] | s[6388 + p];
+    le::put_u8(s, 6420 + p, x);
+    page_off(s, 6320, p);
+}
+
+// The callback of r's transaction t, which names `sets`, is kept in the place of an older one.
+pub fn keep(s: &mut [u8], r: usize, t: u32, sets: &[u8])
+    requires { ⌜ (length (now s) ≡ stateLength) × (r < 8) × (32 ≤ length (now sets)) ⌝ }
+    ensures { λ _. ⌜ now (s .exit) ≡ keepB r t (now (sets .entry)) (now (s .entry)) ⌝ }
+{
+    copy_sets(s, 6452 + r * 32, sets);
+    le::put_u32(s, 6152 + r * 4, t);
+}
+
+// No callback of r is kept.
+pub fn unkeep(s: &mut [u8], r: usize)
+    requires { ⌜ (length (now s) ≡ stateLength) × (r < 8) ⌝ }
+    ensures { λ _. ⌜ now (s .exit) ≡ unkeepB r (now (s .entry)) ⌝ }
+{
+    le::put_u32(s, 6152 + r * 4, 0);
+}
+
+// The transaction is over: no lock, no read, no write, nothing out, nothing open.
+pub fn closed(s: &mut [u8])
+    requires { ⌜ length (now s) ≡ stateLength ⌝ }
+    ensures { λ _. ⌜ now (s .exit) ≡ closedB (now (s .entry)) ⌝ }
+{
+    le::put_u32(s, 6320, 0);
+    clear(s, 6420);
+    clear(s, 6388);
+    clear(s, 6356);
+    idle(s);
+    le::put_u8(s, 6710, 0);
+}
