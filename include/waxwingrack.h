@@ -22,7 +22,8 @@
  * Rules for every pointer:
  *  - it points to as many elements as the length beside it says; with length 0 it may be NULL;
  *  - bytes need no alignment, the others the alignment of their type;
- *  - what is written (out, fields, entry, values, last, playback) overlaps nothing else of the call;
+ *  - what is written (out, fields, entry, values, last, playback, state, messages, commit, told) overlaps nothing
+ *    else of the call;
  *  - what is only read is not changed, and nothing is kept after the call.
  *
  * Every function answers one of the numbers below. Any answer but WAX_OK leaves every lent byte

@@ -5,3 +5,5 @@ pub mod Valid
 pub mod Owner
 pub mod Delivery
 pub mod Commit
+pub mod Buffers
+pub mod Calls

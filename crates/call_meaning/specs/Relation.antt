@@ -1,12 +1,10 @@
 -- What it is that a call over bytes means a call of the model: the same answer, a state that means the station afterwards, and messages
 -- that the server reads as those sent.
-use Prim.Native.Nat.{ℕ, zero, suc, _≤_, _<_, _^_}
-use mathlib.Core.Path.{_≡_, refl, sym, ap, _∙_}
-use mathlib.Core.Bool.{Bool, true, false, not, _&&_, _||_}
+use Prim.Native.Nat.{ℕ, _≤_, _<_}
+use mathlib.Core.Path.{_≡_}
+use mathlib.Core.Bool.{true}
 use mathlib.Core.Logic.{_≢_}
 use mathlib.Core.List.{List, [], _∷_}
-use native.Mathlib.Omega.{arith}
-use lib.ListN.{length}
 use Rattle.sets.specs.Base.{snoc}
 use Rattle.line.specs.Messages.{Up}
 use Rattle.line.specs.Messages as Line
