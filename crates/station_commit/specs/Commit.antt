@@ -7,24 +7,24 @@ use lib.ListN.{length}
 use lib.Seq.{sets}
 use lib.Dec.{eqb}
 use Rattle.le.specs.Width.{bytes}
-use Rattle.sets.specs.Base.{Val, none, some}
+use Rattle.sets.specs.Base.{Val}
 use Rattle.layout.specs.Record.{Record, bytesOf}
-use Rattle.entries.specs.Entries.{entriesOf}
 use Rattle.message.specs.Layout.{upMessage}
-use Rattle.station_state.specs.Layout.{readValue, writtenValue, versionOf, number, station, kind, readSetFrom, writtenSetFrom, member}
+use Rattle.station_state.specs.Layout.{versionOf, number, station, kind, readSetFrom, writtenSetFrom}
 use Rattle.station_pages.specs.Pages.{usedPageB, usedPagesB}
+use Rattle.set_record.specs.Record.{valuesAt, recordFrom}
+pub use Rattle.set_record.specs.Record.{Filled, filled}
 
 -- the recorded reads and the own last writes, by address
 abbrev pub readsOf : List ℕ → ℕ → Val
-readsOf s a = cond (member s readSetFrom a) (some (readValue s a)) none
+readsOf s = valuesAt s readSetFrom 2048
 
 abbrev pub writesOf : List ℕ → ℕ → Val
-writesOf s a = cond (member s writtenSetFrom a) (some (writtenValue s a)) none
+writesOf s = valuesAt s writtenSetFrom 4096
 
 -- "commit number (4; 0 on the way up)"
 abbrev pub recordSent : List ℕ → Record
-recordSent s =
-    record { reads = entriesOf (readsOf s); writes = entriesOf (writesOf s); commit = 0; transaction = number s; station = station s; kind = kind s }
+recordSent s = recordFrom s readSetFrom 2048 writtenSetFrom 4096 0 (number s) (station s) (kind s)
 
 -- "0 for an unused page; all 0 from a locking station"
 unfoldable pub versionSent : List ℕ → ℕ → ℕ
@@ -40,12 +40,5 @@ commitBytes s =
     upMessage 3 (station s) 0 0 (number s) (usedPagesB s) 0 ++ (versionsSent s 32 0 ++ bytesOf (recordSent s))
 
 -- the output afterwards, and how many of its bytes are the commit
-pub record Filled : Type 0 where
-  pub out : List ℕ
-  pub count : ℕ
-
-abbrev pub filled : List ℕ → ℕ → Filled
-filled o n = record { out = o; count = n }
-
 abbrev pub commitFilled : List ℕ → List ℕ → Filled
 commitFilled s c = filled (sets c 0 (commitBytes s)) (length (commitBytes s))

@@ -63,16 +63,9 @@ impl Call {
 }
 
 fn kinds_of(digits: &str) -> Option<[Kind; STATIONS]> {
-    let kinds: Option<Vec<Kind>> = digits.chars().map(kind_of).collect();
+    let kind = |digit: char| Kind::of(digit.to_digit(10)?);
+    let kinds: Option<Vec<Kind>> = digits.chars().map(kind).collect();
     kinds?.try_into().ok()
-}
-
-fn kind_of(digit: char) -> Option<Kind> {
-    match digit {
-        '0' => Some(Kind::Locking),
-        '1' => Some(Kind::Validating),
-        _ => None,
-    }
 }
 
 /// A number in decimal digits, within its type.
@@ -210,6 +203,14 @@ impl Driver {
             _ => Reply::Misplaced,
         };
         reply.to_string()
+    }
+}
+
+/// The kinds that the first of these calls says; all locking if it says none.
+pub fn kinds(calls: &[Call]) -> [Kind; STATIONS] {
+    match calls.first() {
+        Some(Call::Fresh(kinds)) => *kinds,
+        _ => [Kind::Locking; STATIONS],
     }
 }
 

@@ -2,6 +2,7 @@
 
 use super::call::Call;
 use super::counts::Counts;
+use super::little::word;
 use super::message::{Down, Up};
 use super::server::{Server, Step, Victim, WaitsFor};
 use super::sets::{page_of, rising, StationSet, STATIONS};
@@ -65,7 +66,7 @@ impl FirstMessages {
     fn note(&mut self, message: &[u8]) {
         if (1..=4).contains(&message[0]) {
             let station = message[1] as usize;
-            let transaction = u32::from_le_bytes(message[4..8].try_into().unwrap());
+            let transaction = word(message, 4);
             if self.by_station[station].0 != transaction {
                 self.seen += 1;
                 self.by_station[station] = (transaction, self.seen);

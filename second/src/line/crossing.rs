@@ -79,7 +79,7 @@ impl Crossing {
     /// What was sent may be sent again later; a line whose first message is refused is left alone for a while.
     pub fn saw(&mut self, call: &Call, reply: &Reply) {
         match (reply, call) {
-            (Reply::Accepted(outcome), _) if self.damages() => {
+            (Reply::Accepted(outcome), _) => {
                 for message in &outcome.sent {
                     self.history.note(message);
                 }
@@ -124,7 +124,8 @@ impl Crossing {
         }
     }
 
-    fn raw(&mut self, world: &World) -> Call {
+    /// A raw message to one of the ends.
+    pub fn raw(&mut self, world: &World) -> Call {
         let field = Field {
             stations: &self.stations,
             addresses: &self.addresses,

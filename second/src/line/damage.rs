@@ -2,7 +2,7 @@
 
 use super::call::Call;
 use super::message::{Commit, Down, Grant, PageMessage, Up, BEFORE_RECORD, LENGTH};
-use super::sets::{page_bit, page_of, Addresses, PAGES, STATIONS};
+use super::sets::{page_bit, page_of, Addresses, STATIONS};
 use super::world::World;
 use super::{Cause, Kind};
 use crate::random::Random;
@@ -64,7 +64,7 @@ pub fn call(random: &mut Random, history: &History, field: &Field, world: &World
 }
 
 /// One field, byte or bit is another.
-fn changed(random: &mut Random, mut bytes: Vec<u8>) -> Vec<u8> {
+pub fn changed(random: &mut Random, mut bytes: Vec<u8>) -> Vec<u8> {
     if bytes.is_empty() {
         return bytes;
     }
@@ -194,19 +194,14 @@ fn up(
 }
 
 fn commit(random: &mut Random, field: &Field, station: u8, kind: Kind, transaction: u32) -> Commit {
-    let mut commit = Commit {
-        used: 0,
-        versions: [0; PAGES],
-        record: Record {
-            reads: entries(random, field),
-            writes: entries(random, field),
-            commit: 0,
-            transaction,
-            station,
-            kind: kind as u8,
-        },
-    };
-    commit.used = commit.wanted().pages();
+    let mut commit = Commit::of(Record {
+        reads: entries(random, field),
+        writes: entries(random, field),
+        commit: 0,
+        transaction,
+        station,
+        kind: kind as u8,
+    });
     if kind == Kind::Validating && random.one_in(3) {
         let page = page_of(random.pick(field.addresses));
         commit.versions[page as usize] = random.below(4) as u32;

@@ -1,5 +1,6 @@
 //! Messages up and down: their bytes, and numbers 2 to 5.
 
+use super::little::{long, word};
 use super::sets::{address, object_of, page_bit, page_of, Addresses, PageSet};
 use super::sets::{ObjectSet, OBJECTS, PAGES, STATIONS};
 use super::{Cause, Kind, Number};
@@ -272,18 +273,16 @@ impl Names {
 
 impl Fields {
     fn read(bytes: &[u8; LENGTH]) -> Fields {
-        let word = |at: usize| u32::from_le_bytes(bytes[at..at + 4].try_into().unwrap());
-        let long = |at: usize| u64::from_le_bytes(bytes[at..at + 8].try_into().unwrap());
         Fields {
             kind: bytes[0],
             station: bytes[1],
             byte_2: bytes[2],
             byte_3: bytes[3],
-            transaction: word(4),
-            pages: word(8),
-            number: word(12),
+            transaction: word(bytes, 4),
+            pages: word(bytes, 8),
+            number: word(bytes, 12),
             sets: bytes[16..48].try_into().unwrap(),
-            values: std::array::from_fn(|i| long(48 + 8 * i)),
+            values: std::array::from_fn(|i| long(bytes, 48 + 8 * i)),
         }
     }
 
@@ -464,6 +463,17 @@ impl Up {
 }
 
 impl Commit {
+    /// All versions 0.
+    pub fn of(record: Record) -> Commit {
+        let mut commit = Commit {
+            used: 0,
+            versions: [0; PAGES],
+            record,
+        };
+        commit.used = commit.wanted().pages();
+        commit
+    }
+
     /// Number 5: "the layout is broken ..., a version that must be 0 isn't, or a commit's record disagrees with
     /// message or server on station, kind, transaction or pages used".
     fn decode(fields: &Fields, bytes: &[u8], kind: Kind) -> Result<Commit, Number> {
@@ -524,8 +534,7 @@ impl Commit {
 }
 
 fn versions_of(bytes: &[u8]) -> [u32; PAGES] {
-    let word = |at: usize| u32::from_le_bytes(bytes[at..at + 4].try_into().unwrap());
-    std::array::from_fn(|page| word(4 * page))
+    std::array::from_fn(|page| word(bytes, 4 * page))
 }
 
 impl Down {

@@ -7,9 +7,12 @@ pub mod checks;
 pub mod counts;
 pub mod crossing;
 pub mod damage;
+pub mod lent;
+pub mod little;
 pub mod message;
 pub mod owner;
 pub mod runs;
+pub mod scripts;
 pub mod server;
 pub mod sets;
 pub mod shorten;
@@ -39,6 +42,16 @@ pub enum Number {
 pub enum Kind {
     Locking = 0,
     Validating = 1,
+}
+
+impl Kind {
+    pub fn of(number: u32) -> Option<Kind> {
+        match number {
+            0 => Some(Kind::Locking),
+            1 => Some(Kind::Validating),
+            _ => None,
+        }
+    }
 }
 
 /// Why a transaction gets 22.

@@ -1,13 +1,12 @@
 //! Runs: a crossing to its end, the draining, the checks; and a failing run made short.
 
-use super::call::{script, Call};
+use super::call::{kinds, script, Call};
 use super::checks::{Failure, Watch, Watched};
 use super::counts::Counts;
 use super::crossing::Crossing;
 use super::damage::ALL;
 use super::shorten;
 use super::world::Reply;
-use super::Kind;
 use crate::random::Random;
 use std::panic::{self, AssertUnwindSafe};
 
@@ -148,10 +147,7 @@ fn end_an_idle_one(watched: &Watched, random: &mut Random) -> Option<Call> {
 
 /// Calls made again without their draining, which is drawn anew; all calls made are put into `made`.
 fn replay(calls: &[Call], seed: u64, made: &mut Vec<Call>) -> Result<(), Failure> {
-    let kinds = match calls.first() {
-        Some(Call::Fresh(kinds)) => *kinds,
-        _ => [Kind::Locking; 8],
-    };
+    let kinds = kinds(calls);
     made.push(Call::Fresh(kinds));
     let mut counts = Counts::default();
     caught(|| {

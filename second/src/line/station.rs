@@ -1,5 +1,7 @@
 //! A station: its owner's operations and its step on a down message.
 
+pub mod state;
+
 use super::message::{pages_of, Commit, Down, Grant, PageMessage, Up};
 use super::sets::{object_bit, object_of, page_bit, page_of, rising, Addresses};
 use super::sets::{ObjectSet, PageSet, OBJECTS, PAGES};
@@ -20,7 +22,7 @@ pub struct Station {
 }
 
 /// A cached page.
-#[derive(Clone, Debug, PartialEq, Eq)]
+#[derive(Clone, Debug, Default, PartialEq, Eq)]
 struct Page {
     version: u32,
     unavailable: ObjectSet,
@@ -390,13 +392,15 @@ impl Station {
     }
 
     /// "send 8 with the objects written on that page, empty if that transaction is over; if it is open, the whole
-    /// lock becomes locks on those objects"; reading 15.
+    /// lock becomes locks on those objects": without one nothing becomes a lock; reading 15.
     fn de_escalate(&mut self, page: u8, transaction: u32) -> Answered {
         let mut written = 0;
         if let Some(open) = self.open_as(transaction) {
             written = open.written_on(page);
-            open.locked_whole &= !page_bit(page);
-            open.locked.join(page, written);
+            if open.locked_whole & page_bit(page) != 0 {
+                open.locked_whole &= !page_bit(page);
+                open.locked.join(page, written);
+            }
         }
         let message = Up::WrittenSet {
             page,
@@ -575,6 +579,23 @@ impl Station {
     pub fn locks(&self) -> (Addresses, PageSet) {
         let open = self.open.as_ref();
         open.map_or_else(Default::default, |open| (open.locked, open.locked_whole))
+    }
+
+    /// What the rules leave behind every call, beside what `state::decode` asks; else no run reaches the state.
+    pub fn keeps_rules(&self) -> bool {
+        let Some(open) = &self.open else {
+            return self.kept.is_empty();
+        };
+        let used_are_cached = open.used() & !self.cached() == 0;
+        match self.kind {
+            Kind::Locking => used_are_cached && open.writes.keys().all(|a| open.may_write(*a)),
+            // reading 21: a 23 drops pages also with a commit out
+            Kind::Validating => {
+                let locks = open.locked != Addresses::default() || open.locked_whole != 0;
+                let pages_stay = used_are_cached || open.out == Some(Out::Commit);
+                pages_stay && !locks && self.kept.is_empty()
+            }
+        }
     }
 
     /// Pages that the open transaction has read or written on.

@@ -1,32 +1,25 @@
+-- `host::put_told` meets its contract.
 use native.Mathlib.Omega.{arith}
 use lib.ListN.{length-set}
 use borrow.Author.Needs.{needs}
 use Rattle.host.proofs.put_told.Statement.{statement}
 use Rattle.host.proofs.put_told.Tie as tie
-use Rattle.host.proofs.put_told.Reads as reads
-use Rattle.host.proofs.put_told.Lts as lts
 
--- src/lib.rt:19:5
 slice-write-told : tie.Need-slice-write-told
 slice-write-told c = search needs
 
--- src/lib.rt:20:5
 slice-write-told-2 : tie.Need-slice-write-told-2
 slice-write-told-2 c = simp length-set (omega arith)
 
--- src/lib.rt:21:5
 slice-write-told-3 : tie.Need-slice-write-told-3
 slice-write-told-3 c = simp length-set (omega arith)
 
--- src/lib.rt:22:5
 slice-write-told-4 : tie.Need-slice-write-told-4
 slice-write-told-4 c = search needs
 
--- src/lib.rt:15:1
 same-length : tie.Need-same-length
 same-length c = search needs
 
--- src/lib.rt:15:1
 returns : tie.Need-returns
 returns c = search needs
 

@@ -1,159 +1,119 @@
+-- `host::tell_other` meets its contract.
 use Prim.Native.Nat.{ℕ}
 use mathlib.Core.Path.{ap, _∙_}
 use Rattle.host.specs.Host.{accepted}
 use borrow.Author.Needs.{needs}
 use Rattle.host.proofs.tell_other.Statement.{statement}
 use Rattle.host.proofs.tell_other.Tie as tie
-use Rattle.host.proofs.tell_other.Reads as reads
-use Rattle.host.proofs.tell_other.Lts as lts
-use Rattle.host.proofs.put_told.Reads as put-told-reads
-use Rattle.le.proofs.long.Reads as long-reads
 
--- src/lib.rt:32:25
 enum-known-a : tie.Need-enum-known-a
 enum-known-a c = search needs
 
--- src/lib.rt:33:23
 enum-known-a-2 : tie.Need-enum-known-a-2
 enum-known-a-2 c = search needs
 
--- src/lib.rt:33:47
 long-requires : tie.Need-long-requires
 long-requires c κs = search needs
 
--- src/lib.rt:33:29
 put-told-requires : tie.Need-put-told-requires
 put-told-requires c κs = search needs
 
--- src/lib.rt:34:23
 enum-known-a-3 : tie.Need-enum-known-a-3
 enum-known-a-3 c = search needs
 
--- src/lib.rt:34:29
 put-told-requires-2 : tie.Need-put-told-requires-2
 put-told-requires-2 c κs = search needs
 
--- src/lib.rt:35:35
 enum-told : tie.Need-enum-told
 enum-told c = search needs
 
--- src/lib.rt:35:26
 put-told-requires-3 : tie.Need-put-told-requires-3
 put-told-requires-3 c κs = search needs
 
--- src/lib.rt:36:37
 enum-told-2 : tie.Need-enum-told-2
 enum-told-2 c = search needs
 
--- src/lib.rt:36:28
 put-told-requires-4 : tie.Need-put-told-requires-4
 put-told-requires-4 c κs = search needs
 
--- src/lib.rt:37:27
 enum-known-a-4 : tie.Need-enum-known-a-4
 enum-known-a-4 c = search needs
 
--- src/lib.rt:37:51
 long-requires-2 : tie.Need-long-requires-2
 long-requires-2 c κs = search needs
 
--- src/lib.rt:37:33
 put-told-requires-5 : tie.Need-put-told-requires-5
 put-told-requires-5 c κs = search needs
 
--- src/lib.rt:38:25
 enum-known-a-5 : tie.Need-enum-known-a-5
 enum-known-a-5 c = search needs
 
--- src/lib.rt:38:53
 long-requires-3 : tie.Need-long-requires-3
 long-requires-3 c κs = search needs
 
--- src/lib.rt:38:35
 put-told-requires-6 : tie.Need-put-told-requires-6
 put-told-requires-6 c κs = search needs
 
--- src/lib.rt:39:36
 enum-told-3 : tie.Need-enum-told-3
 enum-told-3 c = search needs
 
--- src/lib.rt:39:27
 put-told-requires-7 : tie.Need-put-told-requires-7
 put-told-requires-7 c κs = search needs
 
--- src/lib.rt:40:37
 enum-told-4 : tie.Need-enum-told-4
 enum-told-4 c = search needs
 
--- src/lib.rt:40:28
 put-told-requires-8 : tie.Need-put-told-requires-8
 put-told-requires-8 c κs = search needs
 
--- src/lib.rt:27:1
 returns : tie.Need-returns
 returns c = rw (c .before .a .given .1)
 
--- src/lib.rt:27:1
 same-length : tie.Need-same-length
 same-length c = search needs
 
--- src/lib.rt:27:1
 returns-2 : tie.Need-returns-2
 returns-2 c = rw (c .before .before .before .before .before .before .a2 .given .1) (c .before .before .put-told .ensures ∙ ap (λ (v : ℕ). accepted (c .before .before .before .before .before .before .before .before .before .args .told .now) 1 v (c .before .before .before .before .before .before .before .before .before .args .messages) (c .before .before .before .before .before .before .before .before .before .args .commit)) (c .before .before .before .long .ensures))
 
--- src/lib.rt:27:1
 same-length-2 : tie.Need-same-length-2
 same-length-2 c = search needs
 
--- src/lib.rt:27:1
 returns-3 : tie.Need-returns-3
 returns-3 c = rw (c .before .before .before .before .before .a3 .given .1) (c .before .before .put-told2 .ensures)
 
--- src/lib.rt:27:1
 same-length-3 : tie.Need-same-length-3
 same-length-3 c = search needs
 
--- src/lib.rt:27:1
 returns-4 : tie.Need-returns-4
 returns-4 c = rw (c .before .before .before .before .enum-told .given .1) (c .before .before .put-told3 .ensures)
 
--- src/lib.rt:27:1
 same-length-4 : tie.Need-same-length-4
 same-length-4 c = search needs
 
--- src/lib.rt:27:1
 returns-5 : tie.Need-returns-5
 returns-5 c = rw (c .before .before .before .before .enum-told2 .given .1) (c .before .before .put-told4 .ensures)
 
--- src/lib.rt:27:1
 same-length-5 : tie.Need-same-length-5
 same-length-5 c = search needs
 
--- src/lib.rt:27:1
 returns-6 : tie.Need-returns-6
 returns-6 c = rw (c .before .before .before .before .before .before .a4 .given .1) (c .before .before .put-told5 .ensures ∙ ap (λ (v : ℕ). accepted (c .before .before .before .before .before .before .before .before .before .args .told .now) 5 v (c .before .before .before .before .before .before .before .before .before .args .messages) (c .before .before .before .before .before .before .before .before .before .args .commit)) (c .before .before .before .long2 .ensures))
 
--- src/lib.rt:27:1
 same-length-6 : tie.Need-same-length-6
 same-length-6 c = search needs
 
--- src/lib.rt:27:1
 returns-7 : tie.Need-returns-7
 returns-7 c = rw (c .before .before .before .before .before .before .a5 .given .1) (c .before .before .put-told6 .ensures ∙ ap (λ (v : ℕ). accepted (c .before .before .before .before .before .before .before .before .before .args .told .now) 6 v (c .before .before .before .before .before .before .before .before .before .args .messages) (c .before .before .before .before .before .before .before .before .before .args .commit)) (c .before .before .before .long3 .ensures))
 
--- src/lib.rt:27:1
 same-length-7 : tie.Need-same-length-7
 same-length-7 c = search needs
 
--- src/lib.rt:27:1
 returns-8 : tie.Need-returns-8
 returns-8 c = rw (c .before .before .before .before .enum-told3 .given .1) (c .before .before .put-told7 .ensures)
 
--- src/lib.rt:27:1
 same-length-8 : tie.Need-same-length-8
 same-length-8 c = search needs
 
--- src/lib.rt:27:1
 returns-9 : tie.Need-returns-9
 returns-9 c = rw (c .before .before .before .before .enum-told4 .given .1) (c .before .before .put-told8 .ensures)
 

@@ -1,43 +1,32 @@
+-- `host::wax_station_read` meets its contract.
 use borrow.Author.Tests.{lt-ltb, le-ltb}
 use Rattle.host.specs.Host.{hostOf, host-made}
 use borrow.Author.Needs.{needs}
 use Rattle.host.proofs.wax_station_read.Statement.{statement}
 use Rattle.host.proofs.wax_station_read.Tie as tie
-use Rattle.host.proofs.wax_station_read.Reads as reads
-use Rattle.host.proofs.wax_station_read.Lts as lts
-use Rattle.host.proofs.tell.Reads as tell-reads
-use Rattle.station_owner.proofs.read.Reads as read-reads
 
--- src/lib.rt:79:9
 returns : tie.Need-returns
 unfolding hostOf
 returns c = simp (lt-ltb _ _ (c .if1 .taken))
 
--- src/lib.rt:81:9
 read-requires : tie.Need-read-requires
 read-requires c κs = search needs
 
--- src/lib.rt:82:5
 tell-requires : tie.Need-tell-requires
 tell-requires c κs = search needs
 
--- src/lib.rt:74:1
 same-length : tie.Need-same-length
 same-length c = search needs
 
--- src/lib.rt:74:1
 same-length-2 : tie.Need-same-length-2
 same-length-2 c = search needs
 
--- src/lib.rt:74:1
 same-length-3 : tie.Need-same-length-3
 same-length-3 c = search needs
 
--- src/lib.rt:74:1
 same-length-4 : tie.Need-same-length-4
 same-length-4 c = search needs
 
--- src/lib.rt:74:1
 returns-2 : tie.Need-returns-2
 returns-2 c = host-made _ _ _ _ (le-ltb _ _ (c .before .before .before .before .before .before .before .before .before .before .before .before .before .before .if1 .left)) (c .before .before .before .before .before .before .before .before .before .before .read .ensures) (c .before .before .tell .ensures)
 

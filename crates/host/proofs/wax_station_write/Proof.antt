@@ -1,43 +1,32 @@
+-- `host::wax_station_write` meets its contract.
 use borrow.Author.Tests.{lt-ltb, le-ltb}
 use Rattle.host.specs.Host.{hostOf, host-made}
 use borrow.Author.Needs.{needs}
 use Rattle.host.proofs.wax_station_write.Statement.{statement}
 use Rattle.host.proofs.wax_station_write.Tie as tie
-use Rattle.host.proofs.wax_station_write.Reads as reads
-use Rattle.host.proofs.wax_station_write.Lts as lts
-use Rattle.host.proofs.tell.Reads as tell-reads
-use Rattle.station_owner.proofs.write.Reads as write-reads
 
--- src/lib.rt:90:9
 returns : tie.Need-returns
 unfolding hostOf
 returns c = simp (lt-ltb _ _ (c .if1 .taken))
 
--- src/lib.rt:92:9
 write-requires : tie.Need-write-requires
 write-requires c κs = search needs
 
--- src/lib.rt:93:5
 tell-requires : tie.Need-tell-requires
 tell-requires c κs = search needs
 
--- src/lib.rt:85:1
 same-length : tie.Need-same-length
 same-length c = search needs
 
--- src/lib.rt:85:1
 same-length-2 : tie.Need-same-length-2
 same-length-2 c = search needs
 
--- src/lib.rt:85:1
 same-length-3 : tie.Need-same-length-3
 same-length-3 c = search needs
 
--- src/lib.rt:85:1
 same-length-4 : tie.Need-same-length-4
 same-length-4 c = search needs
 
--- src/lib.rt:85:1
 returns-2 : tie.Need-returns-2
 returns-2 c = host-made _ _ _ _ (le-ltb _ _ (c .before .before .before .before .before .before .before .before .before .before .before .before .before .before .if1 .left)) (c .before .before .before .before .before .before .before .before .before .before .write .ensures) (c .before .before .tell .ensures)
 

@@ -1,3 +1,4 @@
+-- `station::check_step` meets its contract.
 use native.Mathlib.Omega.{arith}
 use mathlib.Core.Path.{sym, _∙_}
 use borrow.Author.Tests.{not-true, not-false}
@@ -5,49 +6,34 @@ use Rattle.station.specs.Facts.{long-enough, step-number, step-elsewhere
 use borrow.Author.Needs.{needs}
 use Rattle.station.proofs.check_step.Statement.{statement}
 use Rattle.station.proofs.check_step.Tie as tie
-use Rattle.station.proofs.check_step.Reads as reads
-use Rattle.station.proofs.check_step.Lts as lts
-use Rattle.le.proofs.wide.Reads as wide-reads
-use Rattle.message.proofs.down_check.Reads as down-check-reads
-use Rattle.station_delivery.proofs.fits.Reads as fits-reads
 
--- src/lib.rt:14:42
 shared-slice-read-wide : tie.Need-shared-slice-read-wide
 shared-slice-read-wide c = search needs
 
--- src/lib.rt:14:33
 wide-requires : tie.Need-wide-requires
 wide-requires c κs = search needs
 
--- src/lib.rt:14:9
 down-check-requires : tie.Need-down-check-requires
 down-check-requires c κs = search needs
 
--- src/lib.rt:16:9
 returns : tie.Need-returns
 returns c = step-number (c .before .before .before .before .before .before .args .m .now) (c .before .before .before .before .before .before .args .s .now) (c .before .before .wide .ensures .0) (c .before .down-check .ensures) (c .if1 .taken)
 
--- src/lib.rt:18:8
 shared-slice-read-if2 : tie.Need-shared-slice-read-if2
 shared-slice-read-if2 c = omega (arith, long-enough _ _ (sym (c .before .before .down-check .ensures) ∙ c .before .if1 .left))
 
--- src/lib.rt:18:16
 shared-slice-read-if2-2 : tie.Need-shared-slice-read-if2-2
 shared-slice-read-if2-2 c = search needs
 
--- src/lib.rt:19:9
 returns-2 : tie.Need-returns-2
 returns-2 c = step-elsewhere (c .before .before .before .before .before .before .before .before .before .args .m .now) (c .before .before .before .before .before .before .before .before .before .args .s .now) (c .before .before .before .before .before .wide .ensures .0) (c .before .before .before .before .down-check .ensures) (c .before .before .before .if1 .left) (c .if2 .taken)
 
--- src/lib.rt:21:9
 fits-requires : tie.Need-fits-requires
 fits-requires c κs = (search needs, long-enough _ _ (sym (c .before .before .before .before .down-check .ensures) ∙ c .before .before .before .if1 .left))
 
--- src/lib.rt:22:9
 returns-3 : tie.Need-returns-3
 returns-3 c = step-unfit (c .before .before .before .before .before .before .before .before .before .before .before .args .m .now) (c .before .before .before .before .before .before .before .before .before .before .before .args .s .now) (c .before .before .before .before .before .before .before .wide .ensures .0) (c .before .before .before .before .before .before .down-check .ensures) (c .before .before .before .before .before .if1 .left) (c .before .before .if2 .left) (c .before .fits2 .ensures) (not-true (c .before .fits2 .result) (c .if3 .taken))
 
--- src/lib.rt:10:1
 returns-4 : tie.Need-returns-4
 returns-4 c = step-fits (c .before .before .before .before .before .before .before .before .before .before .before .args .m .now) (c .before .before .before .before .before .before .before .before .before .before .before .args .s .now) (c .before .before .before .before .before .before .before .wide .ensures .0) (c .before .before .before .before .before .before .down-check .ensures) (c .before .before .before .before .before .if1 .left) (c .before .before .if2 .left) (c .before .fits2 .ensures) (not-false (c .before .fits2 .result) (c .if3 .left))
 

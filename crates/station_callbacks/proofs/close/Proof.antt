@@ -1,30 +1,22 @@
+-- `station_callbacks::close` meets its contract.
 use mathlib.Core.Path.{sym}
 use Rattle.station_callbacks.specs.Callbacks.{closePosted}
 use borrow.Author.Needs.{needs}
 use Rattle.station_callbacks.proofs.close.Statement.{statement}
 use Rattle.station_callbacks.proofs.close.Tie as tie
-use Rattle.station_callbacks.proofs.close.Reads as reads
-use Rattle.station_callbacks.proofs.close.Lts as lts
-use Rattle.station_callbacks.proofs.do_all_kept.Reads as do-all-kept-reads
-use Rattle.station_state.proofs.closed.Reads as closed-reads
 
--- src/lib.rt:73:5
 closed-requires : tie.Need-closed-requires
 closed-requires c κs = search needs
 
--- src/lib.rt:74:5
 do-all-kept-requires : tie.Need-do-all-kept-requires
 do-all-kept-requires c κs = search needs
 
--- src/lib.rt:69:1
 same-length : tie.Need-same-length
 same-length c = search needs
 
--- src/lib.rt:69:1
 same-length-2 : tie.Need-same-length-2
 same-length-2 c = search needs
 
--- src/lib.rt:69:1
 returns : tie.Need-returns
 unfolding closePosted
 returns c = simp (sym (c .before .before .before .before .before .before .before .before .before .closed .ensures)) (c .before .before .before .before .do-all-kept .ensures)

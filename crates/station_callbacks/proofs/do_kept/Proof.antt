@@ -1,75 +1,54 @@
+-- `station_callbacks::do_kept` meets its contract.
 use mathlib.Core.Path.{sym, _∙_}
 use Rattle.station_callbacks.specs.Callbacks.{keptPosted}
 use Rattle.station_callbacks.specs.Posting.{kept-other}
 use borrow.Author.Needs.{needs}
 use Rattle.station_callbacks.proofs.do_kept.Statement.{statement}
 use Rattle.station_callbacks.proofs.do_kept.Tie as tie
-use Rattle.station_callbacks.proofs.do_kept.Reads as reads
-use Rattle.station_callbacks.proofs.do_kept.Lts as lts
-use Rattle.le.proofs.get_u32.Reads as get-u32-reads
-use Rattle.station_callbacks.proofs.do_callback.Reads as do-callback-reads
-use Rattle.station_callbacks.proofs.not_kept.Reads as not-kept-reads
-use Rattle.station_callbacks.proofs.sets_at.Reads as sets-at-reads
-use Rattle.station_state.proofs.unkeep.Reads as unkeep-reads
 
--- src/lib.rt:44:8
 not-kept-requires : tie.Need-not-kept-requires
 not-kept-requires c κs = search needs
 
--- src/lib.rt:45:9
 same-length : tie.Need-same-length
 same-length c = search needs
 
--- src/lib.rt:45:9
 returns : tie.Need-returns
 unfolding keptPosted
 returns c = simp (sym (c .before .not-kept .ensures), c .if1 .taken)
 
--- src/lib.rt:47:35
 mul-get-u32 : tie.Need-mul-get-u32
 mul-get-u32 c = search needs
 
--- src/lib.rt:47:28
 add-get-u32 : tie.Need-add-get-u32
 add-get-u32 c = search needs
 
--- src/lib.rt:47:9
 get-u32-requires : tie.Need-get-u32-requires
 get-u32-requires c κs = search needs
 
--- src/lib.rt:48:31
 mul-sets-at : tie.Need-mul-sets-at
 mul-sets-at c = search needs
 
--- src/lib.rt:48:24
 add-sets-at : tie.Need-add-sets-at
 add-sets-at c = search needs
 
--- src/lib.rt:48:13
 sets-at-requires : tie.Need-sets-at-requires
 sets-at-requires c κs = search needs
 
--- src/lib.rt:49:5
 unkeep-requires : tie.Need-unkeep-requires
 unkeep-requires c κs = search needs
 
--- src/lib.rt:50:35
 slice-aggregate-do-callback : tie.Need-slice-aggregate-do-callback
 slice-aggregate-do-callback c = search needs
 
--- src/lib.rt:50:5
 do-callback-requires : tie.Need-do-callback-requires
 do-callback-requires c κs = (search needs, c .before .before .before .before .before .before .before .before .before .before .before .before .before .before .before .before .pre .1 (kept-other _ _ _ (sym (c .before .before .before .before .before .before .before .before .before .before .before .before .not-kept .ensures) ∙ c .before .before .before .before .before .before .before .before .before .before .before .if1 .left)), search needs)
 
--- src/lib.rt:40:1
 same-length-2 : tie.Need-same-length-2
 same-length-2 c = search needs
 
--- src/lib.rt:40:1
 same-length-3 : tie.Need-same-length-3
 same-length-3 c = search needs
 
--- src/lib.rt:40:1
 returns-2 : tie.Need-returns-2
 unfolding keptPosted
 returns-2 c = simp (sym (c .before .before .before .before .before .before .before .before .before .before .before .before .before .before .before .before .before .not-kept .ensures), c .before .before .before .before .before .before .before .before .before .before .before .before .before .before .before .before .if1 .left, sym (c .before .before .before .before .before .before .before .before .before .before .before .before .before .before .get-u32 .ensures), sym (c .before .before .before .before .before .before .before .before .before .before .before .before .sets-at .ensures), sym (c .before .before .before .before .before .before .before .before .before .before .unkeep .ensures)) (c .before .before .before .before .do-callback .ensures)

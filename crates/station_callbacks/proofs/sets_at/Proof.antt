@@ -1,3 +1,4 @@
+-- `station_callbacks::sets_at` meets its contract.
 use native.Mathlib.Omega.{arith}
 use mathlib.Core.Path.{_∙_, refl}
 use lib.ListN.{replicate}
@@ -6,35 +7,25 @@ use Prim.Native.Nat.{_+_, _-_}
 use borrow.Author.Needs.{needs}
 use Rattle.station_callbacks.proofs.sets_at.Statement.{statement}
 use Rattle.station_callbacks.proofs.sets_at.Tie as tie
-use Rattle.station_callbacks.proofs.sets_at.Reads as reads
-use Rattle.station_callbacks.proofs.sets_at.Lts as lts
-use Rattle.bytes.proofs.copy.Reads as copy-reads
 
--- src/lib.rt:14:13
 add-e : tie.Need-add-e
 add-e c = search needs
 
--- src/lib.rt:15:17
 sub-copy : tie.Need-sub-copy
 sub-copy c = search needs
 
--- src/lib.rt:15:17
 part-copy-start : tie.Need-part-copy-start
 part-copy-start c = search needs
 
--- src/lib.rt:15:17
 part-copy-end : tie.Need-part-copy-end
 part-copy-end c = search needs
 
--- src/lib.rt:15:28
 slice-aggregate-copy : tie.Need-slice-aggregate-copy
 slice-aggregate-copy c = search needs
 
--- src/lib.rt:15:5
 copy-requires : tie.Need-copy-requires
 copy-requires c κs = search needs
 
--- src/lib.rt:9:1
 returns : tie.Need-returns
 returns c = let a = c .before .before .before .before .before .args .at in c .before .copy .ensures .1 ∙ copied (c .before .before .before .before .before .args .s .now) (replicate 32 0) a (a + 32 - a) (omega arith) (c .before .before .before .before .before .pre) refl
 

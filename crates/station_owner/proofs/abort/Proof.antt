@@ -1,103 +1,74 @@
+-- `station_owner::abort` meets its contract. The calls are the definition by one law (`abort-handed`).
 use native.Mathlib.Omega.{arith}
 use borrow.Author.Tests.{not-true, not-false}
-use mathlib.Core.Path.{sym, ap, _∙_}
+use mathlib.Core.Path.{sym, _∙_}
 use Rattle.station_owner.specs.Owner.{ownAbortB}
 use Rattle.station_owner.specs.Facts.{ready-is, call-1, call-n, call-ok, abort-handed, abort-count}
 use borrow.Author.Needs.{needs}
 use Rattle.station_owner.proofs.abort.Statement.{statement}
 use Rattle.station_owner.proofs.abort.Tie as tie
-use Rattle.station_owner.proofs.abort.Reads as reads
-use Rattle.station_owner.proofs.abort.Lts as lts
-use Rattle.station_answer.proofs.say.Reads as say-reads
-use Rattle.station_callbacks.proofs.close.Reads as close-reads
-use Rattle.station_callbacks.proofs.undo.Reads as undo-reads
-use Rattle.station_owner.proofs.check_open.Reads as check-open-reads
-use Rattle.station_owner.proofs.ready.Reads as ready-reads
-use Rattle.station_owner.proofs.refuse.Reads as refuse-reads
-use Rattle.station_owner.proofs.tell_abort.Reads as tell-abort-reads
 
--- src/lib.rt:219:9
 ready-requires : tie.Need-ready-requires
 ready-requires c κs = search needs
 
--- src/lib.rt:220:9
 refuse-requires : tie.Need-refuse-requires
 refuse-requires c κs = search needs
 
--- src/lib.rt:220:9
 same-length : tie.Need-same-length
 same-length c = search needs
 
--- src/lib.rt:220:9
 same-length-2 : tie.Need-same-length-2
 same-length-2 c = search needs
 
--- src/lib.rt:220:9
 same-length-3 : tie.Need-same-length-3
 same-length-3 c = search needs
 
--- src/lib.rt:220:9
 returns : tie.Need-returns
 returns c = call-1 _ _ _ _ (sym (c .before .before .ready .ensures) ∙ not-true (c .before .before .ready .result) (c .before .if1 .taken)) (c .refuse .ensures)
 
--- src/lib.rt:222:9
 check-open-requires : tie.Need-check-open-requires
 check-open-requires c κs = (ready-is _ _ _ (sym (c .before .before .ready .ensures) ∙ not-false (c .before .before .ready .result) (c .before .if1 .left))) .size
 
--- src/lib.rt:224:9
 refuse-requires-2 : tie.Need-refuse-requires-2
 refuse-requires-2 c κs = search needs
 
--- src/lib.rt:224:9
 same-length-4 : tie.Need-same-length-4
 same-length-4 c = search needs
 
--- src/lib.rt:224:9
 same-length-5 : tie.Need-same-length-5
 same-length-5 c = search needs
 
--- src/lib.rt:224:9
 same-length-6 : tie.Need-same-length-6
 same-length-6 c = search needs
 
--- src/lib.rt:224:9
 returns-2 : tie.Need-returns-2
 unfolding ownAbortB
 returns-2 c = call-n _ _ _ _ _ (sym (c .before .before .before .before .before .ready .ensures) ∙ not-false (c .before .before .before .before .before .ready .result) (c .before .before .before .before .if1 .left)) (c .before .before .check-open .ensures) (c .before .if2 .taken) (c .refuse2 .ensures)
 
--- src/lib.rt:226:13
 slice-read-i : tie.Need-slice-read-i
 slice-read-i c = omega (arith, (ready-is _ _ _ (sym (c .before .before .before .before .before .ready .ensures) ∙ not-false (c .before .before .before .before .before .ready .result) (c .before .before .before .before .if1 .left))) .size)
 
--- src/lib.rt:227:9
 tell-abort-requires : tie.Need-tell-abort-requires
 tell-abort-requires c κs = ((ready-is _ _ _ (sym (c .before .before .before .before .before .before .before .ready .ensures) ∙ not-false (c .before .before .before .before .before .before .before .ready .result) (c .before .before .before .before .before .before .if1 .left))) .size, (ready-is _ _ _ (sym (c .before .before .before .before .before .before .before .ready .ensures) ∙ not-false (c .before .before .before .before .before .before .before .ready .result) (c .before .before .before .before .before .before .if1 .left))) .messages-fit)
 
--- src/lib.rt:228:5
 undo-requires : tie.Need-undo-requires
 undo-requires c κs = (ready-is _ _ _ (sym (c .before .before .before .before .before .before .before .before .before .before .before .ready .ensures) ∙ not-false (c .before .before .before .before .before .before .before .before .before .before .before .ready .result) (c .before .before .before .before .before .before .before .before .before .before .if1 .left))) .size
 
--- src/lib.rt:229:9
 close-requires : tie.Need-close-requires
 close-requires c κs = (omega (arith, (ready-is _ _ _ (sym (c .before .before .before .before .before .before .before .before .before .before .before .before .before .before .before .before .ready .ensures) ∙ not-false (c .before .before .before .before .before .before .before .before .before .before .before .before .before .before .before .before .ready .result) (c .before .before .before .before .before .before .before .before .before .before .before .before .before .before .before .if1 .left))) .size), omega (arith, (ready-is _ _ _ (sym (c .before .before .before .before .before .before .before .before .before .before .before .before .before .before .before .before .ready .ensures) ∙ not-false (c .before .before .before .before .before .before .before .before .before .before .before .before .before .before .before .before .ready .result) (c .before .before .before .before .before .before .before .before .before .before .before .before .before .before .before .if1 .left))) .messages-fit), abort-count _ _ (c .before .before .before .before .before .before .before .before .tell-abort .ensures), (ready-is _ _ _ (sym (c .before .before .before .before .before .before .before .before .before .before .before .before .before .before .before .before .ready .ensures) ∙ not-false (c .before .before .before .before .before .before .before .before .before .before .before .before .before .before .before .before .ready .result) (c .before .before .before .before .before .before .before .before .before .before .before .before .before .before .before .if1 .left))) .own)
 
--- src/lib.rt:230:5
 say-requires : tie.Need-say-requires
 say-requires c κs = search needs
 
--- src/lib.rt:216:1
 same-length-7 : tie.Need-same-length-7
 same-length-7 c = search needs
 
--- src/lib.rt:216:1
 same-length-8 : tie.Need-same-length-8
 same-length-8 c = search needs
 
--- src/lib.rt:216:1
 same-length-9 : tie.Need-same-length-9
 same-length-9 c = search needs
 
--- src/lib.rt:216:1
 returns-3 : tie.Need-returns-3
 unfolding ownAbortB
 returns-3 c = call-ok _ _ _ _ _ (sym (c .before .before .before .before .before .before .before .before .before .before .before .before .before .before .before .before .before .before .before .before .before .before .ready .ensures) ∙ not-false (c .before .before .before .before .before .before .before .before .before .before .before .before .before .before .before .before .before .before .before .before .before .before .ready .result) (c .before .before .before .before .before .before .before .before .before .before .before .before .before .before .before .before .before .before .before .before .before .if1 .left)) (c .before .before .before .before .before .before .before .before .before .before .before .before .before .before .before .before .before .before .before .check-open .ensures) (c .before .before .before .before .before .before .before .before .before .before .before .before .before .before .before .before .before .before .if2 .left) (abort-handed _ _ (c .before .before .before .before .before .before .before .before .before .before .before .before .before .before .tell-abort .ensures) (c .before .before .before .before .before .before .before .before .before .before .undo .ensures) (c .before .before .before .before .before .close .ensures) (c .say .ensures))

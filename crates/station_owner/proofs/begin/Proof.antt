@@ -1,3 +1,4 @@
+-- `station_owner::begin` meets its contract.
 use Prim.Native.Nat.{ℕ, _+_}
 use native.Mathlib.Omega.{arith}
 use borrow.Author.Tests.{not-true, not-false}
@@ -10,93 +11,65 @@ use Rattle.station_owner.specs.Facts.{ready-is, begin-passed, call-1, ca
 use borrow.Author.Needs.{needs}
 use Rattle.station_owner.proofs.begin.Statement.{statement}
 use Rattle.station_owner.proofs.begin.Tie as tie
-use Rattle.station_owner.proofs.begin.Reads as reads
-use Rattle.station_owner.proofs.begin.Lts as lts
-use Rattle.le.proofs.get_u32.Reads as get-u32-reads
-use Rattle.station_answer.proofs.say.Reads as say-reads
-use Rattle.station_owner.proofs.check_begin.Reads as check-begin-reads
-use Rattle.station_owner.proofs.ready.Reads as ready-reads
-use Rattle.station_owner.proofs.refuse.Reads as refuse-reads
-use Rattle.station_state.proofs.begin.Reads as begin-reads
 
--- src/lib.rt:85:9
 ready-requires : tie.Need-ready-requires
 ready-requires c κs = search needs
 
--- src/lib.rt:86:9
 refuse-requires : tie.Need-refuse-requires
 refuse-requires c κs = search needs
 
--- src/lib.rt:86:9
 same-length : tie.Need-same-length
 same-length c = search needs
 
--- src/lib.rt:86:9
 same-length-2 : tie.Need-same-length-2
 same-length-2 c = search needs
 
--- src/lib.rt:86:9
 same-length-3 : tie.Need-same-length-3
 same-length-3 c = search needs
 
--- src/lib.rt:86:9
 returns : tie.Need-returns
 returns c = call-1 _ _ _ _ (sym (c .before .before .ready .ensures) ∙ not-true (c .before .before .ready .result) (c .before .if1 .taken)) (c .refuse .ensures)
 
--- src/lib.rt:88:9
 check-begin-requires : tie.Need-check-begin-requires
 check-begin-requires c κs = (ready-is _ _ _ (sym (c .before .before .ready .ensures) ∙ not-false (c .before .before .ready .result) (c .before .if1 .left))) .size
 
--- src/lib.rt:90:9
 refuse-requires-2 : tie.Need-refuse-requires-2
 refuse-requires-2 c κs = search needs
 
--- src/lib.rt:90:9
 same-length-4 : tie.Need-same-length-4
 same-length-4 c = search needs
 
--- src/lib.rt:90:9
 same-length-5 : tie.Need-same-length-5
 same-length-5 c = search needs
 
--- src/lib.rt:90:9
 same-length-6 : tie.Need-same-length-6
 same-length-6 c = search needs
 
--- src/lib.rt:90:9
 returns-2 : tie.Need-returns-2
 unfolding ownBeginB
 returns-2 c = call-n _ _ _ _ _ (sym (c .before .before .before .before .before .ready .ensures) ∙ not-false (c .before .before .before .before .before .ready .result) (c .before .before .before .before .if1 .left)) (c .before .before .check-begin .ensures) (c .before .if2 .taken) (c .refuse2 .ensures)
 
--- src/lib.rt:92:13
 get-u32-requires : tie.Need-get-u32-requires
 get-u32-requires c κs = omega (arith, (ready-is _ _ _ (sym (c .before .before .before .before .before .ready .ensures) ∙ not-false (c .before .before .before .before .before .ready .result) (c .before .before .before .before .if1 .left))) .size)
 
--- src/lib.rt:92:13
 add-t : tie.Need-add-t
 add-t c = omega (arith, begin-passed _ (sym (c .before .before .before .check-begin .ensures) ∙ c .before .before .if2 .left), c .get-u32 .ensures)
 
--- src/lib.rt:93:5
 begin-requires : tie.Need-begin-requires
 begin-requires c κs = ((ready-is _ _ _ (sym (c .before .before .before .before .before .before .before .ready .ensures) ∙ not-false (c .before .before .before .before .before .before .before .ready .result) (c .before .before .before .before .before .before .if1 .left))) .size, omega (arith, begin-passed _ (sym (c .before .before .before .before .check-begin .ensures) ∙ c .before .before .before .if2 .left), c .before .get-u32 .ensures))
 
--- src/lib.rt:94:5
 say-requires : tie.Need-say-requires
 say-requires c κs = search needs
 
--- src/lib.rt:82:1
 same-length-7 : tie.Need-same-length-7
 same-length-7 c = search needs
 
--- src/lib.rt:82:1
 same-length-8 : tie.Need-same-length-8
 same-length-8 c = search needs
 
--- src/lib.rt:82:1
 same-length-9 : tie.Need-same-length-9
 same-length-9 c = search needs
 
--- src/lib.rt:82:1
 returns-3 : tie.Need-returns-3
 unfolding ownBeginB
 returns-3 c = call-ok _ _ _ _ _ (sym (c .before .before .before .before .before .before .before .before .before .before .before .ready .ensures) ∙ not-false (c .before .before .before .before .before .before .before .before .before .before .before .ready .result) (c .before .before .before .before .before .before .before .before .before .before .if1 .left)) (c .before .before .before .before .before .before .before .before .check-begin .ensures) (c .before .before .before .before .before .before .before .if2 .left) (hand-none _ _ _ (c .before .before .before .begin .ensures) (c .say .ensures ∙ ap (λ (t : ℕ). said (Begun (t + 1)) 0 0) (c .before .before .before .before .before .get-u32 .ensures)))

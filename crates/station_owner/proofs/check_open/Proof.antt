@@ -1,30 +1,24 @@
-use borrow.Author.Tests.{eq-eqb, ne-eqb, le-ltb, lt-ltb}
+-- `station_owner::check_open` meets its contract.
+use borrow.Author.Tests.{eq-eqb, ne-eqb}
 use Rattle.station_owner.specs.Owner.{checkOpenB}
 use borrow.Author.Needs.{needs}
 use Rattle.station_owner.proofs.check_open.Statement.{statement}
 use Rattle.station_owner.proofs.check_open.Tie as tie
-use Rattle.station_owner.proofs.check_open.Reads as reads
-use Rattle.station_owner.proofs.check_open.Lts as lts
 
--- src/lib.rt:46:8
 shared-slice-read-if1 : tie.Need-shared-slice-read-if1
 shared-slice-read-if1 c = search needs
 
--- src/lib.rt:47:9
 returns : tie.Need-returns
 unfolding checkOpenB
 returns c = simp (ne-eqb _ _ (c .if1 .taken))
 
--- src/lib.rt:49:8
 shared-slice-read-if2 : tie.Need-shared-slice-read-if2
 shared-slice-read-if2 c = search needs
 
--- src/lib.rt:50:9
 returns-2 : tie.Need-returns-2
 unfolding checkOpenB
 returns-2 c = simp (eq-eqb _ _ (c .before .before .if1 .left), eq-eqb _ _ (c .if2 .taken))
 
--- src/lib.rt:42:1
 returns-3 : tie.Need-returns-3
 unfolding checkOpenB
 returns-3 c = simp (eq-eqb _ _ (c .before .before .if1 .left), ne-eqb _ _ (c .if2 .left))

@@ -1,45 +1,33 @@
-use borrow.Author.Tests.{eq-eqb, ne-eqb, le-ltb, lt-ltb}
+-- `station_owner::may_write` meets its contract.
+use borrow.Author.Tests.{eq-eqb, ne-eqb}
 use mathlib.Core.Path.{sym}
 use Rattle.station_owner.specs.Owner.{mayWriteB}
 use borrow.Author.Needs.{needs}
 use Rattle.station_owner.proofs.may_write.Statement.{statement}
 use Rattle.station_owner.proofs.may_write.Tie as tie
-use Rattle.station_owner.proofs.may_write.Reads as reads
-use Rattle.station_owner.proofs.may_write.Lts as lts
-use Rattle.le.proofs.get_u32.Reads as get-u32-reads
-use Rattle.station_state.proofs.has_bit32.Reads as has-bit32-reads
-use Rattle.station_state.proofs.member.Reads as member-reads
 
--- src/lib.rt:159:8
 shared-slice-read-if1 : tie.Need-shared-slice-read-if1
 shared-slice-read-if1 c = search needs
 
--- src/lib.rt:160:16
 member-requires : tie.Need-member-requires
 member-requires c κs = search needs
 
--- src/lib.rt:160:77
 get-u32-requires : tie.Need-get-u32-requires
 get-u32-requires c κs = search needs
 
--- src/lib.rt:160:52
 has-bit32-requires : tie.Need-has-bit32-requires
 has-bit32-requires c κs = search needs
 
--- src/lib.rt:160:9
 returns : tie.Need-returns
 unfolding mayWriteB
 returns c = simp (eq-eqb _ _ (c .before .before .before .if1 .taken), sym (c .before .before .member .ensures), sym (c .before .get-u32 .ensures), sym (c .has-bit32 .ensures))
 
--- src/lib.rt:162:30
 get-u32-requires-2 : tie.Need-get-u32-requires-2
 get-u32-requires-2 c κs = search needs
 
--- src/lib.rt:162:5
 has-bit32-requires-2 : tie.Need-has-bit32-requires-2
 has-bit32-requires-2 c κs = search needs
 
--- src/lib.rt:155:1
 returns-2 : tie.Need-returns-2
 unfolding mayWriteB
 returns-2 c = simp (ne-eqb _ _ (c .before .before .if1 .left), sym (c .before .get-u322 .ensures), sym (c .has-bit322 .ensures))

@@ -1,3 +1,4 @@
+-- `station_owner::read` meets its contract.
 use borrow.Author.Tests.{not-true, not-false}
 use mathlib.Core.Path.{sym, _∙_}
 use Rattle.station_owner.specs.Owner.{ownReadB}
@@ -5,79 +6,56 @@ use Rattle.station_owner.specs.Facts.{ready-is, address-passed, call-1, 
 use borrow.Author.Needs.{needs}
 use Rattle.station_owner.proofs.read.Statement.{statement}
 use Rattle.station_owner.proofs.read.Tie as tie
-use Rattle.station_owner.proofs.read.Reads as reads
-use Rattle.station_owner.proofs.read.Lts as lts
-use Rattle.station_owner.proofs.check_address.Reads as check-address-reads
-use Rattle.station_owner.proofs.read_as.Reads as read-as-reads
-use Rattle.station_owner.proofs.ready.Reads as ready-reads
-use Rattle.station_owner.proofs.refuse.Reads as refuse-reads
 
--- src/lib.rt:145:9
 ready-requires : tie.Need-ready-requires
 ready-requires c κs = search needs
 
--- src/lib.rt:146:9
 refuse-requires : tie.Need-refuse-requires
 refuse-requires c κs = search needs
 
--- src/lib.rt:146:9
 same-length : tie.Need-same-length
 same-length c = search needs
 
--- src/lib.rt:146:9
 same-length-2 : tie.Need-same-length-2
 same-length-2 c = search needs
 
--- src/lib.rt:146:9
 same-length-3 : tie.Need-same-length-3
 same-length-3 c = search needs
 
--- src/lib.rt:146:9
 returns : tie.Need-returns
 returns c = call-1 _ _ _ _ (sym (c .before .before .ready .ensures) ∙ not-true (c .before .before .ready .result) (c .before .if1 .taken)) (c .refuse .ensures)
 
--- src/lib.rt:148:9
 check-address-requires : tie.Need-check-address-requires
 check-address-requires c κs = (ready-is _ _ _ (sym (c .before .before .ready .ensures) ∙ not-false (c .before .before .ready .result) (c .before .if1 .left))) .size
 
--- src/lib.rt:150:9
 refuse-requires-2 : tie.Need-refuse-requires-2
 refuse-requires-2 c κs = search needs
 
--- src/lib.rt:150:9
 same-length-4 : tie.Need-same-length-4
 same-length-4 c = search needs
 
--- src/lib.rt:150:9
 same-length-5 : tie.Need-same-length-5
 same-length-5 c = search needs
 
--- src/lib.rt:150:9
 same-length-6 : tie.Need-same-length-6
 same-length-6 c = search needs
 
--- src/lib.rt:150:9
 returns-2 : tie.Need-returns-2
 unfolding ownReadB
 returns-2 c = call-n _ _ _ _ _ (sym (c .before .before .before .before .before .ready .ensures) ∙ not-false (c .before .before .before .before .before .ready .result) (c .before .before .before .before .if1 .left)) (c .before .before .check-address .ensures) (c .before .if2 .taken) (c .refuse2 .ensures)
 
--- src/lib.rt:152:5
 read-as-requires : tie.Need-read-as-requires
 read-as-requires c κs = ((ready-is _ _ _ (sym (c .before .before .before .before .before .before .ready .ensures) ∙ not-false (c .before .before .before .before .before .before .ready .result) (c .before .before .before .before .before .if1 .left))) .size, (ready-is _ _ _ (sym (c .before .before .before .before .before .before .ready .ensures) ∙ not-false (c .before .before .before .before .before .before .ready .result) (c .before .before .before .before .before .if1 .left))) .messages-fit, address-passed _ _ (sym (c .before .before .before .check-address .ensures) ∙ c .before .before .if2 .left))
 
--- src/lib.rt:142:1
 same-length-7 : tie.Need-same-length-7
 same-length-7 c = search needs
 
--- src/lib.rt:142:1
 same-length-8 : tie.Need-same-length-8
 same-length-8 c = search needs
 
--- src/lib.rt:142:1
 same-length-9 : tie.Need-same-length-9
 same-length-9 c = search needs
 
--- src/lib.rt:142:1
 returns-3 : tie.Need-returns-3
 unfolding ownReadB
 returns-3 c = call-ok _ _ _ _ _ (sym (c .before .before .before .before .before .before .before .before .before .before .before .ready .ensures) ∙ not-false (c .before .before .before .before .before .before .before .before .before .before .before .ready .result) (c .before .before .before .before .before .before .before .before .before .before .if1 .left)) (c .before .before .before .before .before .before .before .before .check-address .ensures) (c .before .before .before .before .before .before .before .if2 .left) (c .before .before .before .before .read-as .ensures)

@@ -1,3 +1,4 @@
+-- `station_owner::read_here` meets its contract.
 use Prim.Native.Nat.{ℕ}
 use mathlib.Core.Path.{sym, ap, _∙_}
 use Rattle.station_answer.specs.Handed.{hand-none, hand-one}
@@ -7,69 +8,47 @@ use Rattle.station_owner.specs.Owner.{readHereB, readLocalB, readAskB}
 use borrow.Author.Needs.{needs}
 use Rattle.station_owner.proofs.read_here.Statement.{statement}
 use Rattle.station_owner.proofs.read_here.Tie as tie
-use Rattle.station_owner.proofs.read_here.Reads as reads
-use Rattle.station_owner.proofs.read_here.Lts as lts
-use Rattle.le.proofs.get_u64.Reads as get-u64-reads
-use Rattle.station_answer.proofs.say.Reads as say-reads
-use Rattle.station_owner.proofs.request.Reads as request-reads
-use Rattle.station_owner.proofs.shown.Reads as shown-reads
-use Rattle.station_state.proofs.for_read.Reads as for-read-reads
-use Rattle.station_state.proofs.record_read.Reads as record-read-reads
 
--- src/lib.rt:117:8
 shown-requires : tie.Need-shown-requires
 shown-requires c κs = search needs
 
--- src/lib.rt:118:32
 mul-get-u64 : tie.Need-mul-get-u64
 mul-get-u64 c = search needs
 
--- src/lib.rt:118:13
 get-u64-requires : tie.Need-get-u64-requires
 get-u64-requires c κs = search needs
 
--- src/lib.rt:119:9
 record-read-requires : tie.Need-record-read-requires
 record-read-requires c κs = search needs
 
--- src/lib.rt:120:9
 say-requires : tie.Need-say-requires
 say-requires c κs = search needs
 
--- src/lib.rt:120:9
 same-length : tie.Need-same-length
 same-length c = search needs
 
--- src/lib.rt:120:9
 returns : tie.Need-returns
 unfolding readHereB readLocalB
 returns c = simp (sym (c .before .before .before .before .before .before .before .before .shown .ensures), c .before .before .before .before .before .before .before .if1 .taken) (hand-none _ _ _ (c .before .before .before .record-read .ensures) (c .say .ensures ∙ ap (λ (v : ℕ). said (Value v) 0 0) (c .before .before .before .before .before .get-u64 .ensures)))
 
--- src/lib.rt:122:5
 request-requires : tie.Need-request-requires
 request-requires c κs = search needs
 
--- src/lib.rt:123:32
 cast-for-read : tie.Need-cast-for-read
 cast-for-read c = search needs
 
--- src/lib.rt:123:5
 for-read-requires : tie.Need-for-read-requires
 for-read-requires c κs = search needs
 
--- src/lib.rt:124:5
 say-requires-2 : tie.Need-say-requires-2
 say-requires-2 c κs = search needs
 
--- src/lib.rt:113:1
 same-length-2 : tie.Need-same-length-2
 same-length-2 c = search needs
 
--- src/lib.rt:113:1
 same-length-3 : tie.Need-same-length-3
 same-length-3 c = search needs
 
--- src/lib.rt:113:1
 returns-2 : tie.Need-returns-2
 unfolding readHereB readAskB
 returns-2 c = simp (sym (c .before .before .before .before .before .before .before .before .before .before .before .shown .ensures), c .before .before .before .before .before .before .before .before .before .before .if1 .left) (hand-one _ _ _ _ (c .before .before .before .for-read .ensures) (c .before .before .before .before .before .before .before .request .ensures) (c .say2 .ensures))

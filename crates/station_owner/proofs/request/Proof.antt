@@ -1,37 +1,27 @@
+-- `station_owner::request` meets its contract.
 use mathlib.Core.Path.{sym}
 use borrow.Author.Needs.{needs}
 use Rattle.station_owner.proofs.request.Statement.{statement}
 use Rattle.station_owner.proofs.request.Tie as tie
-use Rattle.station_owner.proofs.request.Reads as reads
-use Rattle.station_owner.proofs.request.Lts as lts
-use Rattle.le.proofs.get_u32.Reads as get-u32-reads
-use Rattle.message.proofs.put_up.Reads as put-up-reads
 
--- src/lib.rt:109:30
 shared-slice-read-put-up : tie.Need-shared-slice-read-put-up
 shared-slice-read-put-up c = search needs
 
--- src/lib.rt:109:39
 cast-put-up : tie.Need-cast-put-up
 cast-put-up c = search needs
 
--- src/lib.rt:109:54
 cast-put-up-2 : tie.Need-cast-put-up-2
 cast-put-up-2 c = search needs
 
--- src/lib.rt:109:69
 get-u32-requires : tie.Need-get-u32-requires
 get-u32-requires c κs = search needs
 
--- src/lib.rt:109:5
 put-up-requires : tie.Need-put-up-requires
 put-up-requires c κs = search needs
 
--- src/lib.rt:105:1
 same-length : tie.Need-same-length
 same-length c = search needs
 
--- src/lib.rt:105:1
 returns : tie.Need-returns
 returns c = simp (sym (c .before .before .before .get-u32 .ensures)) (c .before .before .put-up .ensures)
 

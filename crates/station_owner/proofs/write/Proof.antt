@@ -1,3 +1,4 @@
+-- `station_owner::write` meets its contract.
 use borrow.Author.Tests.{not-true, not-false}
 use mathlib.Core.Path.{sym, _∙_}
 use Rattle.station_owner.specs.Owner.{ownWriteB}
@@ -5,79 +6,56 @@ use Rattle.station_owner.specs.Facts.{ready-is, address-passed, call-1, 
 use borrow.Author.Needs.{needs}
 use Rattle.station_owner.proofs.write.Statement.{statement}
 use Rattle.station_owner.proofs.write.Tie as tie
-use Rattle.station_owner.proofs.write.Reads as reads
-use Rattle.station_owner.proofs.write.Lts as lts
-use Rattle.station_owner.proofs.check_address.Reads as check-address-reads
-use Rattle.station_owner.proofs.ready.Reads as ready-reads
-use Rattle.station_owner.proofs.refuse.Reads as refuse-reads
-use Rattle.station_owner.proofs.write_as.Reads as write-as-reads
 
--- src/lib.rt:193:9
 ready-requires : tie.Need-ready-requires
 ready-requires c κs = search needs
 
--- src/lib.rt:194:9
 refuse-requires : tie.Need-refuse-requires
 refuse-requires c κs = search needs
 
--- src/lib.rt:194:9
 same-length : tie.Need-same-length
 same-length c = search needs
 
--- src/lib.rt:194:9
 same-length-2 : tie.Need-same-length-2
 same-length-2 c = search needs
 
--- src/lib.rt:194:9
 same-length-3 : tie.Need-same-length-3
 same-length-3 c = search needs
 
--- src/lib.rt:194:9
 returns : tie.Need-returns
 returns c = call-1 _ _ _ _ (sym (c .before .before .ready .ensures) ∙ not-true (c .before .before .ready .result) (c .before .if1 .taken)) (c .refuse .ensures)
 
--- src/lib.rt:196:9
 check-address-requires : tie.Need-check-address-requires
 check-address-requires c κs = (ready-is _ _ _ (sym (c .before .before .ready .ensures) ∙ not-false (c .before .before .ready .result) (c .before .if1 .left))) .size
 
--- src/lib.rt:198:9
 refuse-requires-2 : tie.Need-refuse-requires-2
 refuse-requires-2 c κs = search needs
 
--- src/lib.rt:198:9
 same-length-4 : tie.Need-same-length-4
 same-length-4 c = search needs
 
--- src/lib.rt:198:9
 same-length-5 : tie.Need-same-length-5
 same-length-5 c = search needs
 
--- src/lib.rt:198:9
 same-length-6 : tie.Need-same-length-6
 same-length-6 c = search needs
 
--- src/lib.rt:198:9
 returns-2 : tie.Need-returns-2
 unfolding ownWriteB
 returns-2 c = call-n _ _ _ _ _ (sym (c .before .before .before .before .before .ready .ensures) ∙ not-false (c .before .before .before .before .before .ready .result) (c .before .before .before .before .if1 .left)) (c .before .before .check-address .ensures) (c .before .if2 .taken) (c .refuse2 .ensures)
 
--- src/lib.rt:200:5
 write-as-requires : tie.Need-write-as-requires
 write-as-requires c κs = ((ready-is _ _ _ (sym (c .before .before .before .before .before .before .ready .ensures) ∙ not-false (c .before .before .before .before .before .before .ready .result) (c .before .before .before .before .before .if1 .left))) .size, (ready-is _ _ _ (sym (c .before .before .before .before .before .before .ready .ensures) ∙ not-false (c .before .before .before .before .before .before .ready .result) (c .before .before .before .before .before .if1 .left))) .messages-fit, address-passed _ _ (sym (c .before .before .before .check-address .ensures) ∙ c .before .before .if2 .left))
 
--- src/lib.rt:190:1
 same-length-7 : tie.Need-same-length-7
 same-length-7 c = search needs
 
--- src/lib.rt:190:1
 same-length-8 : tie.Need-same-length-8
 same-length-8 c = search needs
 
--- src/lib.rt:190:1
 same-length-9 : tie.Need-same-length-9
 same-length-9 c = search needs
 
--- src/lib.rt:190:1
 returns-3 : tie.Need-returns-3
 unfolding ownWriteB
 returns-3 c = call-ok _ _ _ _ _ (sym (c .before .before .before .before .before .before .before .before .before .before .before .ready .ensures) ∙ not-false (c .before .before .before .before .before .before .before .before .before .before .before .ready .result) (c .before .before .before .before .before .before .before .before .before .before .if1 .left)) (c .before .before .before .before .before .before .before .before .check-address .ensures) (c .before .before .before .before .before .before .before .if2 .left) (c .before .before .before .before .write-as .ensures)

@@ -1,68 +1,48 @@
+-- `station_owner::write_as` meets its contract.
 use mathlib.Core.Path.{sym}
 use Rattle.station_answer.specs.Handed.{hand-none, hand-one}
 use Rattle.station_owner.specs.Owner.{writeAsB, writeAskB}
 use borrow.Author.Needs.{needs}
 use Rattle.station_owner.proofs.write_as.Statement.{statement}
 use Rattle.station_owner.proofs.write_as.Tie as tie
-use Rattle.station_owner.proofs.write_as.Reads as reads
-use Rattle.station_owner.proofs.write_as.Lts as lts
-use Rattle.station_answer.proofs.say.Reads as say-reads
-use Rattle.station_owner.proofs.asks.Reads as asks-reads
-use Rattle.station_owner.proofs.may_write.Reads as may-write-reads
-use Rattle.station_owner.proofs.request.Reads as request-reads
-use Rattle.station_state.proofs.for_write.Reads as for-write-reads
-use Rattle.station_state.proofs.write_local.Reads as write-local-reads
 
--- src/lib.rt:180:8
 may-write-requires : tie.Need-may-write-requires
 may-write-requires c κs = search needs
 
--- src/lib.rt:181:9
 write-local-requires : tie.Need-write-local-requires
 write-local-requires c κs = search needs
 
--- src/lib.rt:182:9
 say-requires : tie.Need-say-requires
 say-requires c κs = search needs
 
--- src/lib.rt:182:9
 same-length : tie.Need-same-length
 same-length c = search needs
 
--- src/lib.rt:182:9
 returns : tie.Need-returns
 unfolding writeAsB
 returns c = simp (sym (c .before .before .before .before .before .before .may-write .ensures), c .before .before .before .before .before .if1 .taken) (hand-none _ _ _ (c .before .before .before .write-local .ensures) (c .say .ensures))
 
--- src/lib.rt:184:13
 asks-requires : tie.Need-asks-requires
 asks-requires c κs = search needs
 
--- src/lib.rt:184:5
 request-requires : tie.Need-request-requires
 request-requires c κs = search needs
 
--- src/lib.rt:185:33
 cast-for-write : tie.Need-cast-for-write
 cast-for-write c = search needs
 
--- src/lib.rt:185:5
 for-write-requires : tie.Need-for-write-requires
 for-write-requires c κs = search needs
 
--- src/lib.rt:186:5
 say-requires-2 : tie.Need-say-requires-2
 say-requires-2 c κs = search needs
 
--- src/lib.rt:176:1
 same-length-2 : tie.Need-same-length-2
 same-length-2 c = search needs
 
--- src/lib.rt:176:1
 same-length-3 : tie.Need-same-length-3
 same-length-3 c = search needs
 
--- src/lib.rt:176:1
 returns-2 : tie.Need-returns-2
 unfolding writeAsB writeAskB
 returns-2 c = simp (sym (c .before .before .before .before .before .before .before .before .before .before .before .before .before .may-write .ensures), c .before .before .before .before .before .before .before .before .before .before .before .before .if1 .left, sym (c .before .before .before .before .before .before .before .before .before .before .asks .ensures)) (hand-one _ _ _ _ (c .before .before .before .for-write .ensures) (c .before .before .before .before .before .before .before .request .ensures) (c .say2 .ensures))

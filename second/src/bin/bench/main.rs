@@ -3,27 +3,36 @@
 mod library;
 mod measure;
 mod program;
+mod stations;
+mod works;
 
-use measure::{proved_over, rates, Job, Times};
+use measure::{nanoseconds, proved_over, rates, Job, Times};
 use second::generate::{self, Size};
+use second::line::station::state::LENGTH;
 use second::options::Options;
 use second::random::Random;
+use stations::CALLS;
 use std::process;
+use works::Work;
 
 const USAGE: &str =
     "bench [--megabytes N] [--rounds N] [--seed N] [--gate] [--playback PROGRAM --file FILE]
+       bench --stations [--rounds N] [--gate]
   --gate      exit 1 if the proved library takes more than 1.3 times as long
-  --playback  time the program too, on FILE, which is written anew and then removed";
+  --playback  time the program too, on FILE, which is written anew and then removed
+  --stations  time the calls of a station, not the archive";
 const MEGABYTE: usize = 1_000_000;
 const PLAYBACK_MEGABYTES: usize = 200;
 /// Where the linker puts a loop is worth up to 30 %: only more than that is a fault.
 const GATE: f64 = 1.3;
+/// A turn of a station's calls is so short that a round has many.
+const TURNS: usize = 40;
 
 fn main() {
     let options = Options::read(
         USAGE,
         &["--megabytes", "--rounds", "--seed", "--playback", "--file"],
-        &["--gate"],
+        &["--gate", "--stations"],
     )
     .without_words();
     let bench = Bench {
@@ -31,8 +40,10 @@ fn main() {
         rounds: options.number("--rounds", 15).max(1) as usize,
         seed: options.seed("--seed", 1),
     };
-    let rows = bench.library();
-    bench.print(&rows);
+    let rows = match options.has("--stations") {
+        true => bench.stations(),
+        false => bench.library(),
+    };
     if let Some(program) = options.text("--playback") {
         let file = options.text("--file").unwrap_or_else(|| options.misused());
         bench.playback(program, file);
@@ -56,11 +67,19 @@ struct Row {
     times: Times,
 }
 
+/// What the gate looks at.
+struct Timed {
+    name: String,
+    times: Times,
+}
+
 impl Bench {
-    fn library(&self) -> Vec<Row> {
+    fn library(&self) -> Vec<Timed> {
         let small = self.rows("small, 1 to 3 each", Size::Small);
         let large = self.rows("large, 256 each", Size::Large);
-        small.into_iter().chain(large).collect()
+        let rows: Vec<Row> = small.into_iter().chain(large).collect();
+        self.print(&rows);
+        rows.into_iter().map(Row::timed).collect()
     }
 
     fn rows(&self, records: &'static str, size: Size) -> [Row; 3] {
@@ -99,6 +118,28 @@ impl Bench {
         }
     }
 
+    fn stations(&self) -> Vec<Timed> {
+        let turns = TURNS * self.rounds;
+        println!(
+            "Medians of {turns} turns of {CALLS} calls in one process, the three taking turns, in nanoseconds a call.\n\
+             Ratios are of times in the same round, below 1 where proved is faster; in brackets the middle half of them.\n\
+             Each call has a state of its own, set up anew before the turn and not timed; copy is that of the {LENGTH} bytes.\n\
+             Both sides check the state's bytes first: a refused begin does nothing else. The second implementation then works\n\
+             on a struct with maps, and allocates each message: it is no measure of how fast Rust could be.\n",
+        );
+        println!("| call | second ns | proved ns | copy ns | proved / second |");
+        println!("|---|---|---|---|---|");
+        let row = |work: &Work| {
+            let times = stations::Bench::new(work).time(turns);
+            print_call(work.name, &times);
+            Timed {
+                name: String::from(work.name),
+                times,
+            }
+        };
+        works::works().iter().map(row).collect()
+    }
+
     fn playback(&self, program: &str, file: &str) {
         let archive = self.archive(Size::Small, PLAYBACK_MEGABYTES * MEGABYTE);
         match program::playback(self.rounds, &archive, program, file) {
@@ -124,9 +165,24 @@ impl Row {
         );
     }
 
+    fn timed(self) -> Timed {
+        Timed {
+            name: format!("{} of {}", self.work, self.records),
+            times: self.times,
+        }
+    }
+}
+
+impl Timed {
     fn too_slow(&self) -> bool {
         proved_over(&self.times, Job::Second).median > GATE
     }
+}
+
+fn print_call(name: &str, times: &Times) {
+    let [second, proved, copy] = nanoseconds(CALLS, times);
+    let ratio = proved_over(times, Job::Second);
+    println!("| {name} | {second:.0} | {proved:.0} | {copy:.0} | {ratio} |");
 }
 
 fn print_playback(times: &Times) {
@@ -143,13 +199,13 @@ fn print_playback(times: &Times) {
 }
 
 /// Ends the program with 1 if the proved library is too slow somewhere.
-fn gate(rows: &[Row]) {
+fn gate(rows: &[Timed]) {
     let mut slow = rows.iter().filter(|row| row.too_slow()).peekable();
     if slow.peek().is_none() {
         return;
     }
     for row in slow {
-        eprintln!("bench: {} of {}: above {GATE}", row.work, row.records);
+        eprintln!("bench: {}: above {GATE}", row.name);
     }
     process::exit(1)
 }

@@ -32,6 +32,13 @@ pub fn rates(megabytes: f64, times: &Times) -> [f64; 3] {
         .map(|times| megabytes / Spread::of(times).median)
 }
 
+/// Nanoseconds a call, by the median time of each job.
+pub fn nanoseconds(calls: usize, times: &Times) -> [f64; 3] {
+    times
+        .each_ref()
+        .map(|times| Spread::of(times).median / calls as f64 * 1e9)
+}
+
 /// The proved library's time over another job's, in the same round.
 pub fn proved_over(times: &Times, job: Job) -> Spread {
     let other = match job {

@@ -2,6 +2,7 @@
 
 use second::archive::Playback;
 use second::record::{self, Header, ENTRY, HEADER};
+use second::show::hex;
 use second::{ffi, numbers};
 use std::collections::BTreeMap;
 use std::fmt::Debug;
@@ -13,8 +14,6 @@ const GUARD: usize = 16;
 pub const MOST_ROOM: usize = HEADER + ENTRY * 2 * 65_536;
 /// Whose answers are compared.
 pub const SIDES: [&str; 2] = ["second", "proved"];
-/// Longest input that a report shows whole.
-const SHOWN: usize = 200;
 
 pub struct Judge {
     seed: u64,
@@ -301,19 +300,4 @@ fn show(start: &Playback) -> String {
     let fresh = values.iter().all(|value| *value == 0);
     let values = if fresh { "zero" } else { "not zero" };
     format!("from last {}, values {values}", start.last)
-}
-
-/// Bytes in hexadecimal; of a long part both ends.
-pub fn hex(bytes: &[u8]) -> String {
-    let text = |bytes: &[u8]| {
-        let bytes: Vec<String> = bytes.iter().map(|byte| format!("{byte:02x}")).collect();
-        bytes.join(" ")
-    };
-    let length = bytes.len();
-    if length <= SHOWN {
-        format!("({length}) {}", text(bytes))
-    } else {
-        let (front, back) = (&bytes[..SHOWN / 2], &bytes[length - SHOWN / 2..]);
-        format!("({length}) {} .. {}", text(front), text(back))
-    }
 }

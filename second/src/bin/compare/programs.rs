@@ -1,10 +1,11 @@
 //! The playback program on archives, given through a pipe in pieces of odd sizes.
 
-use crate::judge::{hex, Judge, SIDES};
+use crate::judge::{Judge, SIDES};
 use second::archive::Playback;
 use second::generate::{self, Size};
 use second::random::Random;
 use second::record::{ENTRY, HEADER};
+use second::show::hex;
 use second::text;
 use std::io::{self, ErrorKind, Read, Write};
 use std::process::{Command, Stdio};

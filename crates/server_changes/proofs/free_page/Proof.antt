@@ -1,0 +1,50 @@
+-- `server_changes::free_page` meets its contract.
+use Rattle.server_changes.specs.Changes.{freePageB}
+use borrow.Author.Tests.{eq-eqb, ne-eqb}
+use mathlib.Core.Path.{sym}
+use borrow.Author.Needs.{needs}
+use Rattle.server_changes.proofs.free_page.Statement.{statement}
+use Rattle.server_changes.proofs.free_page.Tie as tie
+
+add-if1 : tie.Need-add-if1
+add-if1 c = search needs
+
+slice-read-if1 : tie.Need-slice-read-if1
+slice-read-if1 c = search needs
+
+holder-requires : tie.Need-holder-requires
+holder-requires c κs = search needs
+
+add-put-u8 : tie.Need-add-put-u8
+add-put-u8 c = search needs
+
+put-u8-requires : tie.Need-put-u8-requires
+put-u8-requires c κs = search needs
+
+page-off-requires : tie.Need-page-off-requires
+page-off-requires c κs = search needs
+
+same-length : tie.Need-same-length
+same-length c = search needs
+
+returns : tie.Need-returns
+unfolding freePageB
+returns c = simp (sym (c .before .before .before .before .before .before .before .before .before .holder .ensures), eq-eqb _ _ (c .before .before .before .before .before .before .before .before .if1 .taken), sym (c .before .before .before .before .before .before .put-u8 .ensures)) (c .before .before .page-off .ensures)
+
+returns-2 : tie.Need-returns-2
+unfolding freePageB
+returns-2 c = simp (sym (c .before .holder .ensures), ne-eqb _ _ (c .if1 .left))
+
+pub free-page-spec : {M : Type 1} → statement M
+free-page-spec =
+    tie.close
+    (tie.spec
+    add-if1
+    slice-read-if1
+    holder-requires
+    add-put-u8
+    put-u8-requires
+    page-off-requires
+    same-length
+    returns
+    returns-2)

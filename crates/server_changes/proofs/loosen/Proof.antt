@@ -1,0 +1,29 @@
+-- `server_changes::loosen` meets its contract.
+use Rattle.server_changes.specs.Changes.{loosenB}
+use borrow.Author.Needs.{needs}
+use Rattle.server_changes.proofs.loosen.Statement.{statement}
+use Rattle.server_changes.proofs.loosen.Tie as tie
+
+page-off-requires : tie.Need-page-off-requires
+page-off-requires c κs = search needs
+
+add-put-u8 : tie.Need-add-put-u8
+add-put-u8 c = search needs
+
+put-u8-requires : tie.Need-put-u8-requires
+put-u8-requires c κs = search needs
+
+lock-set-requires : tie.Need-lock-set-requires
+lock-set-requires c κs = search needs
+
+same-length : tie.Need-same-length
+same-length c = search needs
+
+returns : tie.Need-returns
+unfolding loosenB
+returns c = cc
+
+pub loosen-spec : {M : Type 1} → statement M
+loosen-spec =
+    tie.close
+    (tie.spec page-off-requires add-put-u8 put-u8-requires lock-set-requires same-length returns)

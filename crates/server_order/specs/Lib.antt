@@ -1,0 +1,2 @@
+-- The waiting list's order, cycles of waits-for edges, and the victim.
+pub mod Order

@@ -1,0 +1,42 @@
+-- `server_state::apart_ok` meets its contract. The loop's invariant: the answer is the definition's at the count of stations passed.
+use Prim.Native.Nat.{_≤_, _-_}
+use mathlib.Core.Path.{_≡_, ap, _∙_}
+use native.Mathlib.Numerals.{add-one}
+use native.Mathlib.Omega.{arith}
+use borrow.Author.Needs.{needs}
+use Rattle.lists.specs.Tests.{allTo}
+use Rattle.server_state.specs.Valid.{apartAt, apartOk}
+use Rattle.server_state.proofs.apart_ok.Statement.{statement}
+use Rattle.server_state.proofs.apart_ok.Tie as tie
+
+abbrev Inv-loop : tie.InvT-loop
+Inv-loop s i ok₀ j₀ ok j = (j ≤ 8) × (ok ≡ allTo (apartAt s i) j)
+
+abbrev μ-loop : tie.MeasureT-loop
+μ-loop s i ok₀ j₀ ok j = 8 - j
+
+loop-holds : tie.Need-loop-holds Inv-loop μ-loop
+unfolding allTo
+loop-holds c = search needs
+
+apart-at-requires : tie.Need-apart-at-requires Inv-loop μ-loop
+apart-at-requires c κs = search needs
+
+add-j : tie.Need-add-j Inv-loop μ-loop
+add-j c = search needs
+
+loop-less : tie.Need-loop-less Inv-loop μ-loop
+loop-less c = search needs
+
+loop-again : tie.Need-loop-again Inv-loop μ-loop
+unfolding allTo
+loop-again c = (search needs, rw add-one (cc))
+
+returns : tie.Need-returns Inv-loop μ-loop
+unfolding apartOk
+returns c = c .before .loop .inv .1 ∙ ap (allTo _) (omega arith)
+
+pub apart-ok-spec : {M : Type 1} → statement M
+apart-ok-spec =
+    tie.close
+    (tie.spec Inv-loop μ-loop loop-holds apart-at-requires add-j loop-less loop-again returns)

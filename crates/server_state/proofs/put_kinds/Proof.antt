@@ -1,0 +1,61 @@
+-- `server_state::put_kinds` meets its contract. The loop's invariant: the state is the definition's at the count of kinds passed.
+use Prim.Native.Nat.{_≤_, _-_}
+use mathlib.Core.Path.{_≡_, ap, _∙_}
+use native.Mathlib.Numerals.{add-one}
+use native.Mathlib.Omega.{arith}
+use borrow.Author.Needs.{needs}
+use Rattle.server_state.specs.Valid.{kindsTo}
+use lib.ListN.{length, length-set}
+use Rattle.server_state.proofs.put_kinds.Statement.{statement}
+use Rattle.server_state.proofs.put_kinds.Tie as tie
+
+abbrev Inv-loop : tie.InvT-loop
+Inv-loop kinds s₀ i₀ s i = (i ≤ 8) × (length s ≡ length s₀) × (s ≡ kindsTo kinds s₀ i)
+
+abbrev μ-loop : tie.MeasureT-loop
+μ-loop kinds s₀ i₀ s i = 8 - i
+
+loop-holds : tie.Need-loop-holds Inv-loop μ-loop
+unfolding kindsTo
+loop-holds c = search needs
+
+shared-slice-read-s : tie.Need-shared-slice-read-s Inv-loop μ-loop
+shared-slice-read-s c = search needs
+
+add-s : tie.Need-add-s Inv-loop μ-loop
+add-s c = search needs
+
+slice-write-s : tie.Need-slice-write-s Inv-loop μ-loop
+slice-write-s c = search needs
+
+add-i : tie.Need-add-i Inv-loop μ-loop
+add-i c = search needs
+
+loop-less : tie.Need-loop-less Inv-loop μ-loop
+loop-less c = search needs
+
+loop-again : tie.Need-loop-again Inv-loop μ-loop
+unfolding kindsTo
+loop-again c = (search needs, simp length-set (search needs), rw add-one (cc))
+
+same-length : tie.Need-same-length Inv-loop μ-loop
+same-length c = search needs
+
+returns : tie.Need-returns Inv-loop μ-loop
+returns c = c .before .loop .inv .2 ∙ ap (kindsTo _ _) (omega arith)
+
+pub put-kinds-spec : {M : Type 1} → statement M
+put-kinds-spec =
+    tie.close
+    (tie.spec
+    Inv-loop
+    μ-loop
+    loop-holds
+    shared-slice-read-s
+    add-s
+    slice-write-s
+    add-i
+    loop-less
+    loop-again
+    same-length
+    returns)

@@ -1,0 +1,55 @@
+-- `server_tests::open_ask` meets its contract.
+use Rattle.server_tests.specs.Tests.{openAskB}
+use borrow.Author.Needs.{needs}
+use Rattle.server_tests.proofs.open_ask.Statement.{statement}
+use Rattle.server_tests.proofs.open_ask.Tie as tie
+
+add-byte : tie.Need-add-byte
+add-byte c = search needs
+
+byte-requires : tie.Need-byte-requires
+byte-requires c κs = search needs
+
+add-result : tie.Need-add-result
+add-result c = search needs
+
+get-u32-requires : tie.Need-get-u32-requires
+get-u32-requires c κs = search needs
+
+has-bit32-requires : tie.Need-has-bit32-requires
+has-bit32-requires c κs = search needs
+
+add-result-2 : tie.Need-add-result-2
+add-result-2 c = search needs
+
+shared-slice-read-result : tie.Need-shared-slice-read-result
+shared-slice-read-result c = search needs
+
+mul-get-u32 : tie.Need-mul-get-u32
+mul-get-u32 c = search needs
+
+add-get-u32 : tie.Need-add-get-u32
+add-get-u32 c = search needs
+
+get-u32-requires-2 : tie.Need-get-u32-requires-2
+get-u32-requires-2 c κs = search needs
+
+returns : tie.Need-returns
+unfolding openAskB
+returns c = cc
+
+pub open-ask-spec : {M : Type 1} → statement M
+open-ask-spec =
+    tie.close
+    (tie.spec
+    add-byte
+    byte-requires
+    add-result
+    get-u32-requires
+    has-bit32-requires
+    add-result-2
+    shared-slice-read-result
+    mul-get-u32
+    add-get-u32
+    get-u32-requires-2
+    returns)

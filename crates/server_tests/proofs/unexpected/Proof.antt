@@ -1,0 +1,104 @@
+-- `server_tests::unexpected` meets its contract.
+use Rattle.server_tests.specs.Tests.{unexpectedB}
+use Rattle.message.specs.Layout.{kindOf}
+use borrow.Author.Tests.{ne-eqb}
+use native.Mathlib.Omega.{arith}
+use borrow.Author.Needs.{needs}
+use Rattle.server_tests.proofs.unexpected.Statement.{statement}
+use Rattle.server_tests.proofs.unexpected.Tie as tie
+
+byte-requires : tie.Need-byte-requires
+byte-requires c κs = search needs
+
+get-u32-requires : tie.Need-get-u32-requires
+get-u32-requires c κs = search needs
+
+add-validates : tie.Need-add-validates
+add-validates c = search needs
+
+shared-slice-read-validates : tie.Need-shared-slice-read-validates
+shared-slice-read-validates c = search needs
+
+shared-slice-read-match : tie.Need-shared-slice-read-match
+shared-slice-read-match c = search needs
+
+bad-number-requires : tie.Need-bad-number-requires
+bad-number-requires c κs = search needs
+
+bad-number-requires-2 : tie.Need-bad-number-requires-2
+bad-number-requires-2 c κs = search needs
+
+bad-number-requires-3 : tie.Need-bad-number-requires-3
+bad-number-requires-3 c κs = search needs
+
+unlocked-requires : tie.Need-unlocked-requires
+unlocked-requires c κs = (search needs, search needs, c .before .before .before .before .before .before .before .before .pre .3 (c .before .match .keys3))
+
+bad-number-requires-4 : tie.Need-bad-number-requires-4
+bad-number-requires-4 c κs = search needs
+
+byte-requires-2 : tie.Need-byte-requires-2
+byte-requires-2 c κs = search needs
+
+lock-on-requires : tie.Need-lock-on-requires
+lock-on-requires c κs = (search needs, search needs, omega (arith, c .before .before .before .before .before .before .before .before .pre .4 (c .before .match .keys5), c .byte2 .ensures .0))
+
+get-u32-requires-2 : tie.Need-get-u32-requires-2
+get-u32-requires-2 c κs = search needs
+
+drops-own-requires : tie.Need-drops-own-requires
+drops-own-requires c κs = search needs
+
+returns : tie.Need-returns
+unfolding unexpectedB
+returns c = rw (c .before .match .keys1) (cc)
+
+returns-2 : tie.Need-returns-2
+unfolding unexpectedB
+returns-2 c = rw (c .before .match .keys2) (cc)
+
+returns-3 : tie.Need-returns-3
+unfolding unexpectedB
+returns-3 c = rw (c .before .before .match .keys3) (cc)
+
+returns-4 : tie.Need-returns-4
+unfolding unexpectedB
+returns-4 c = rw (c .before .match .keys4) (cc)
+
+returns-5 : tie.Need-returns-5
+unfolding unexpectedB
+returns-5 c = rw (c .before .before .match .keys5) (cc)
+
+returns-6 : tie.Need-returns-6
+unfolding unexpectedB
+returns-6 c = rw (c .before .before .match .keys6) (cc)
+
+returns-7 : tie.Need-returns-7
+unfolding unexpectedB
+returns-7 c = let k = kindOf (c .before .before .before .before .before .before .before .args .m .now) in let r = c .match .rest in simp (ne-eqb k 1 (r .0 .0 .0 .0 .0 .1), ne-eqb k 2 (r .0 .0 .0 .0 .1), ne-eqb k 3 (r .0 .0 .0 .1), ne-eqb k 4 (r .0 .0 .1), ne-eqb k 5 (r .0 .1), ne-eqb k 7 (r .1)) (cc)
+
+pub unexpected-spec : {M : Type 1} → statement M
+unexpected-spec =
+    tie.close
+    (tie.spec
+    byte-requires
+    get-u32-requires
+    add-validates
+    shared-slice-read-validates
+    shared-slice-read-match
+    bad-number-requires
+    bad-number-requires-2
+    bad-number-requires-3
+    unlocked-requires
+    bad-number-requires-4
+    byte-requires-2
+    lock-on-requires
+    get-u32-requires-2
+    drops-own-requires
+    returns
+    returns-2
+    returns-3
+    returns-4
+    returns-5
+    returns-6
+    returns-7)

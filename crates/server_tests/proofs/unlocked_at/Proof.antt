@@ -1,0 +1,60 @@
+-- `server_tests::unlocked_at` meets its contract.
+use native.Mathlib.Omega.{arith}
+use Rattle.server_tests.specs.Tests.{unlockedAt}
+use borrow.Author.Needs.{needs}
+use Rattle.server_tests.proofs.unlocked_at.Statement.{statement}
+use Rattle.server_tests.proofs.unlocked_at.Tie as tie
+
+get-u16-requires : tie.Need-get-u16-requires
+get-u16-requires c κs = search needs
+
+index-requires : tie.Need-index-requires
+index-requires c κs = search needs
+
+add-byte : tie.Need-add-byte
+add-byte c = search needs
+
+add-byte-2 : tie.Need-add-byte-2
+add-byte-2 c = search needs
+
+byte-requires : tie.Need-byte-requires
+byte-requires c κs = search needs
+
+add-byte-3 : tie.Need-add-byte-3
+add-byte-3 c = omega (arith, c .byte .ensures .1)
+
+byte-requires-2 : tie.Need-byte-requires-2
+byte-requires-2 c κs = omega (arith, c .byte .ensures .1)
+
+add-result : tie.Need-add-result
+add-result c = search needs
+
+add-byte-4 : tie.Need-add-byte-4
+add-byte-4 c = search needs
+
+byte-requires-3 : tie.Need-byte-requires-3
+byte-requires-3 c κs = omega (arith, c .before .byte .ensures .1)
+
+add-result-2 : tie.Need-add-result-2
+add-result-2 c = search needs
+
+returns : tie.Need-returns
+unfolding unlockedAt
+returns c = cc
+
+pub unlocked-at-spec : {M : Type 1} → statement M
+unlocked-at-spec =
+    tie.close
+    (tie.spec
+    get-u16-requires
+    index-requires
+    add-byte
+    add-byte-2
+    byte-requires
+    add-byte-3
+    byte-requires-2
+    add-result
+    add-byte-4
+    byte-requires-3
+    add-result-2
+    returns)

@@ -1,0 +1,2 @@
+-- What the server asks of its state: number 6, the gates of the pass, the waits-for edges.
+pub mod Tests

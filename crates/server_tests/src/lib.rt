@@ -1,0 +1,474 @@
+// What the server asks of its state: number 6, the gates of the pass, the waits-for edges.
+// Where each field stands is in server_state's specs/Layout.antt and docs/STATE.md.
+ghost use mathlib.Core.Path.{_≡_};
+ghost use mathlib.Core.Bool.{cond};
+ghost use Prim.Native.Nat.{_+_, _^_, _≤_, _<_};
+ghost use lib.ListN.{length, getD};
+ghost use Rattle.le.specs.Le.{u16At};
+ghost use Rattle.message.specs.Layout.{kindOf, stationOf, pageOf};
+ghost use Rattle.message.specs.Commit.{entriesOf};
+ghost use Rattle.server_state.specs.Layout.{wantedOn};
+ghost use Rattle.server_tests.specs.Tests.{lockAtB, lockOnB, badNumberB, unlockedAt, unlockedB, dropsLockedB, dropsOwnB, unexpectedB, openCallB, openAskB, staleAt, staleB, lockedAtB, lockedOnB, lockedB, faultB, earlierB, blocksB, blockedAtB, blockedOnB, blockedB, shutB, shutOutB, concernsAt, concernedB, concernedSet, hindersB, hinderedB, waitsToWriteB, unavailableAt, unavailableB, informedB, edgeAtB, edgeOnB, edgeB, edgeSet};
+
+// A byte as a number that compares with a station and finds a place.
+fn byte(s: &[u8], k: usize) -> usize
+    requires { ⌜ k < length (now s) ⌝ }
+    ensures { λ r. ⌜ (r ≡ getD (now (s .entry)) k 0) × (r < 256) ⌝ }
+{
+    s[k] as usize
+}
+
+// The bit of station or object k, if so.
+fn bit_if(yes: bool, k: usize) -> u8
+    requires { ⌜ k < 8 ⌝ }
+    ensures { λ r. ⌜ r ≡ cond yes (2 ^ k) 0 ⌝ }
+{
+    if yes {
+        return station_state::bit8(k);
+    }
+    0
+}
+
+// The objects of page p that station i's waiting entry reads or writes.
+fn wanted(s: &[u8], i: usize, p: usize) -> u8
+    requires { ⌜ (length (now s) ≡ 37072) × (i < 8) × (p < 32) ⌝ }
+    ensures { λ r. ⌜ r ≡ wantedOn (now (s .entry)) i p ⌝ }
+{
+    s[36504 + i * 32 + p] | s[36760 + i * 32 + p]
+}
+
+fn lock_at(s: &[u8], i: usize, p: usize, o: usize) -> bool
+    requires { ⌜ (length (now s) ≡ 37072) × (i < 8) × (p < 32) × (o < 8) ⌝ }
+    ensures { λ r. ⌜ r ≡ lockAtB (now (s .entry)) i p o ⌝ }
+{
+    byte(s, 36216 + (p * 8 + o)) == i + 1
+}
+
+// Whether station i has a lock on page p, whole or on an object.
+pub fn lock_on(s: &[u8], i: usize, p: usize) -> bool
+    requires { ⌜ (length (now s) ≡ 37072) × (i < 8) × (p < 32) ⌝ }
+    ensures { λ r. ⌜ r ≡ lockOnB (now (s .entry)) i p ⌝ }
+{
+    let mut r = false;
+    let mut o = 0;
+    while o < 8 {
+        r |= lock_at(s, i, p, o);
+        o += 1;
+    }
+    (byte(s, 36472 + p) == i + 1) | r
+}
+
+// Whether 1 to 4 of transaction t come out of turn.
+fn bad_number(s: &[u8], i: usize, t: u32) -> bool
+    requires { ⌜ (length (now s) ≡ 37072) × (i < 8) ⌝ }
+    ensures { λ r. ⌜ r ≡ badNumberB (now (s .entry)) i t ⌝ }
+{
+    let n = le::get_u32(s, 36144 + i * 4);
+    let over = s[37064 + i] == 0;
+    (t < n) | ((t == n) & over) | ((n < t) & !over & (s[37016 + i] == 0)) | (s[37024 + i] != 0)
+}
+
+// Whether write k of the record is to an object that i has not locked.
+fn unlocked_at(s: &[u8], i: usize, m: &[u8], k: usize) -> bool
+    requires { ⌜ (length (now s) ≡ 37072) × (i < 8) × (256 + u16At (now m) 240 + k < length (now m)) ⌝ }
+    ensures { λ r. ⌜ r ≡ unlockedAt (now (s .entry)) i (now (m .entry)) k ⌝ }
+{
+    let a = byte(m, 256 + le::index(le::get_u16(m, 240)) + k);
+    (byte(s, 36216 + a) != i + 1) & (byte(s, 36472 + a / 8) != i + 1)
+}
+
+// Whether i is locking and writes an object that it has not locked.
+fn unlocked(s: &[u8], i: usize, m: &[u8]) -> bool
+    requires { ⌜ (length (now s) ≡ 37072) × (i < 8) × (256 + entriesOf (now m) ≤ length (now m)) ⌝ }
+    ensures { λ r. ⌜ r ≡ unlockedB (now (s .entry)) i (now (m .entry)) ⌝ }
+{
+    let n = le::index(le::get_u16(m, 242));
+    let mut r = false;
+    let mut k: usize = 0;
+    while k < n {
+        r |= unlocked_at(s, i, m, k);
+        k += 1;
+    }
+    (s[37016 + i] == 0) & r
+}
+
+fn drops_locked(s: &[u8], i: usize, d: u32, p: usize) -> bool
+    requires { ⌜ (length (now s) ≡ 37072) × (i < 8) × (p < 32) ⌝ }
+    ensures { λ r. ⌜ r ≡ dropsLockedB (now (s .entry)) i d p ⌝ }
+{
+    station_state::has_bit32(d, p) & lock_on(s, i, p)
+}
+
+// Whether i has a lock on one of the pages d.
+fn drops_own(s: &[u8], i: usize, d: u32) -> bool
+    requires { ⌜ (length (now s) ≡ 37072) × (i < 8) ⌝ }
+    ensures { λ r. ⌜ r ≡ dropsOwnB (now (s .entry)) i d ⌝ }
+{
+    let mut r = false;
+    let mut p = 0;
+    while p < 32 {
+        r |= drops_locked(s, i, d, p);
+        p += 1;
+    }
+    r
+}
+
+// Number 6 of a message that numbers 2 to 5 let pass.
+pub fn unexpected(s: &[u8], m: &[u8]) -> bool
+    requires { ⌜ (length (now s) ≡ 37072) × (112 ≤ length (now m)) × (stationOf (now m) < 8) × (kindOf (now m) ≡ 3 → 256 + entriesOf (now m) ≤ length (now m)) × (kindOf (now m) ≡ 5 → pageOf (now m) < 32) ⌝ }
+    ensures { λ r. ⌜ r ≡ unexpectedB (now (s .entry)) (now (m .entry)) ⌝ }
+{
+    let i = byte(m, 1);
+    let t = le::get_u32(m, 4);
+    let validates = s[37016 + i] != 0;
+    match m[0] {
+        1 => bad_number(s, i, t),
+        2 => bad_number(s, i, t) | validates,
+        3 => bad_number(s, i, t) | unlocked(s, i, m),
+        4 => bad_number(s, i, t) | validates,
+        5 => lock_on(s, i, byte(m, 2)),
+        7 => validates | drops_own(s, i, le::get_u32(m, 8)),
+        _ => validates,
+    }
+}
+
+// Whether i owes a 7 to transaction t of station r.
+pub fn open_call(s: &[u8], i: usize, r: usize, t: u32) -> bool
+    requires { ⌜ (length (now s) ≡ 37072) × (i < 8) × (r < 8) ⌝ }
+    ensures { λ x. ⌜ x ≡ openCallB (now (s .entry)) i r t ⌝ }
+{
+    (s[37024 + r] != 0)
+        & (t == le::get_u32(s, 36144 + r * 4))
+        & station_state::has_bit8(s[37048 + r], i)
+}
+
+// Whether i owes an 8 for page p and transaction t.
+pub fn open_ask(s: &[u8], i: usize, p: usize, t: u32) -> bool
+    requires { ⌜ (length (now s) ≡ 37072) × (i < 8) × (p < 32) ⌝ }
+    ensures { λ r. ⌜ r ≡ openAskB (now (s .entry)) i p t ⌝ }
+{
+    (byte(s, 36472 + p) == i + 1)
+        & station_state::has_bit32(le::get_u32(s, 36212), p)
+        & (s[37064 + i] != 0)
+        & (t == le::get_u32(s, 36144 + i * 4))
+}
+
+fn stale_at(s: &[u8], i: usize, p: usize) -> bool
+    requires { ⌜ (length (now s) ≡ 37072) × (i < 8) × (p < 32) ⌝ }
+    ensures { λ r. ⌜ r ≡ staleAt (now (s .entry)) i p ⌝ }
+{
+    (wanted(s, i, p) != 0)
+        & (le::get_u32(s, 35088 + i * 128 + p * 4) != le::get_u32(s, 34960 + p * 4))
+}
+
+// Whether i's commit used a page at another version.
+fn stale(s: &[u8], i: usize) -> bool
+    requires { ⌜ (length (now s) ≡ 37072) × (i < 8) ⌝ }
+    ensures { λ r. ⌜ r ≡ staleB (now (s .entry)) i ⌝ }
+{
+    let mut r = false;
+    let mut p = 0;
+    while p < 32 {
+        r |= stale_at(s, i, p);
+        p += 1;
+    }
+    r
+}
+
+fn locked_at(s: &[u8], i: usize, p: usize, o: usize) -> bool
+    requires { ⌜ (length (now s) ≡ 37072) × (i < 8) × (p < 32) × (o < 8) ⌝ }
+    ensures { λ r. ⌜ r ≡ lockedAtB (now (s .entry)) i p o ⌝ }
+{
+    station_state::has_bit8(s[36760 + i * 32 + p], o)
+        & (server_state::other(s[36216 + (p * 8 + o)], i) | server_state::other(s[36472 + p], i))
+}
+
+// Most pages are not written, and cost one test.
+fn locked_on(s: &[u8], i: usize, p: usize) -> bool
+    requires { ⌜ (length (now s) ≡ 37072) × (i < 8) × (p < 32) ⌝ }
+    ensures { λ r. ⌜ r ≡ lockedOnB (now (s .entry)) i p ⌝ }
+{
+    if s[36760 + i * 32 + p] == 0 {
+        return false;
+    }
+    let mut r = false;
+    let mut o = 0;
+    while o < 8 {
+        r |= locked_at(s, i, p, o);
+        o += 1;
+    }
+    r
+}
+
+// Whether i's commit writes what another has locked.
+fn locked(s: &[u8], i: usize) -> bool
+    requires { ⌜ (length (now s) ≡ 37072) × (i < 8) ⌝ }
+    ensures { λ r. ⌜ r ≡ lockedB (now (s .entry)) i ⌝ }
+{
+    let mut r = false;
+    let mut p = 0;
+    while p < 32 {
+        r |= locked_on(s, i, p);
+        p += 1;
+    }
+    r
+}
+
+// The cause that ends i's validating commit, 0 for none.
+pub fn fault(s: &[u8], i: usize) -> u8
+    requires { ⌜ (length (now s) ≡ 37072) × (i < 8) ⌝ }
+    ensures { λ r. ⌜ r ≡ faultB (now (s .entry)) i ⌝ }
+{
+    if le::get_u32(s, 36208) == 4294967295 {
+        return 4;
+    }
+    if stale(s, i) {
+        return 2;
+    }
+    if locked(s, i) {
+        return 3;
+    }
+    0
+}
+
+// Whether j waits and arrived before i.
+fn earlier(s: &[u8], j: usize, i: usize) -> bool
+    requires { ⌜ (length (now s) ≡ 37072) × (j < 8) × (i < 8) ⌝ }
+    ensures { λ r. ⌜ r ≡ earlierB (now (s .entry)) j i ⌝ }
+{
+    (s[37024 + j] != 0) & (le::get_u64(s, 34880 + j * 8) < le::get_u64(s, 34880 + i * 8))
+}
+
+// Whether j blocks i at object o of page p: by its lock, or earlier in the list.
+fn blocks(s: &[u8], i: usize, p: usize, o: usize, j: usize) -> bool
+    requires { ⌜ (length (now s) ≡ 37072) × (i < 8) × (p < 32) × (o < 8) × (j < 8) ⌝ }
+    ensures { λ r. ⌜ r ≡ blocksB (now (s .entry)) i p o j ⌝ }
+{
+    let wants = station_state::has_bit8(wanted(s, j, p), o);
+    let writes = station_state::has_bit8(s[36760 + j * 32 + p], o)
+        | station_state::has_bit8(s[36760 + i * 32 + p], o);
+    ((byte(s, 36216 + (p * 8 + o)) == j + 1) & (j != i)) | (earlier(s, j, i) & wants & writes)
+}
+
+fn blocked_at(s: &[u8], i: usize, p: usize, o: usize) -> bool
+    requires { ⌜ (length (now s) ≡ 37072) × (i < 8) × (p < 32) × (o < 8) ⌝ }
+    ensures { λ r. ⌜ r ≡ blockedAtB (now (s .entry)) i p o ⌝ }
+{
+    if !station_state::has_bit8(wanted(s, i, p), o) {
+        return false;
+    }
+    let mut r = false;
+    let mut j = 0;
+    while j < 8 {
+        r |= blocks(s, i, p, o, j);
+        j += 1;
+    }
+    r
+}
+
+// Most pages are not wanted, and cost one test.
+fn blocked_on(s: &[u8], i: usize, p: usize) -> bool
+    requires { ⌜ (length (now s) ≡ 37072) × (i < 8) × (p < 32) ⌝ }
+    ensures { λ r. ⌜ r ≡ blockedOnB (now (s .entry)) i p ⌝ }
+{
+    if wanted(s, i, p) == 0 {
+        return false;
+    }
+    let mut r = false;
+    let mut o = 0;
+    while o < 8 {
+        r |= blocked_at(s, i, p, o);
+        o += 1;
+    }
+    r
+}
+
+// Whether another's lock or an earlier waiter stands before i.
+pub fn blocked(s: &[u8], i: usize) -> bool
+    requires { ⌜ (length (now s) ≡ 37072) × (i < 8) ⌝ }
+    ensures { λ r. ⌜ r ≡ blockedB (now (s .entry)) i ⌝ }
+{
+    let mut r = false;
+    let mut p = 0;
+    while p < 32 {
+        r |= blocked_on(s, i, p);
+        p += 1;
+    }
+    r
+}
+
+// Whether i wants something of page p and another has it whole.
+pub fn shut(s: &[u8], i: usize, p: usize) -> bool
+    requires { ⌜ (length (now s) ≡ 37072) × (i < 8) × (p < 32) ⌝ }
+    ensures { λ r. ⌜ r ≡ shutB (now (s .entry)) i p ⌝ }
+{
+    (wanted(s, i, p) != 0) & server_state::other(s[36472 + p], i)
+}
+
+// Whether a page that i wants is another's whole.
+pub fn shut_out(s: &[u8], i: usize) -> bool
+    requires { ⌜ (length (now s) ≡ 37072) × (i < 8) ⌝ }
+    ensures { λ r. ⌜ r ≡ shutOutB (now (s .entry)) i ⌝ }
+{
+    let mut r = false;
+    let mut p = 0;
+    while p < 32 {
+        r |= shut(s, i, p);
+        p += 1;
+    }
+    r
+}
+
+fn concerns_at(s: &[u8], i: usize, j: usize, p: usize) -> bool
+    requires { ⌜ (length (now s) ≡ 37072) × (i < 8) × (j < 8) × (p < 32) ⌝ }
+    ensures { λ r. ⌜ r ≡ concernsAt (now (s .entry)) i j p ⌝ }
+{
+    station_state::has_bit32(le::get_u32(s, 36176 + j * 4), p) & (s[36760 + i * 32 + p] != 0)
+}
+
+// Whether j is another locking station, listed for a page that i is to write.
+fn concerned(s: &[u8], i: usize, j: usize) -> bool
+    requires { ⌜ (length (now s) ≡ 37072) × (i < 8) × (j < 8) ⌝ }
+    ensures { λ r. ⌜ r ≡ concernedB (now (s .entry)) i j ⌝ }
+{
+    let mut r = false;
+    let mut p = 0;
+    while p < 32 {
+        r |= concerns_at(s, i, j, p);
+        p += 1;
+    }
+    (j != i) & (s[37016 + j] == 0) & r
+}
+
+// The stations that i's 20s go to.
+pub fn concerned_set(s: &[u8], i: usize) -> u8
+    requires { ⌜ (length (now s) ≡ 37072) × (i < 8) ⌝ }
+    ensures { λ r. ⌜ r ≡ concernedSet (now (s .entry)) i ⌝ }
+{
+    let mut d: u8 = 0;
+    let mut j = 0;
+    while j < 8 {
+        d |= bit_if(concerned(s, i, j), j);
+        j += 1;
+    }
+    d
+}
+
+fn hinders(s: &[u8], i: usize, p: usize, j: usize) -> bool
+    requires { ⌜ (length (now s) ≡ 37072) × (i < 8) × (p < 32) × (j < 8) ⌝ }
+    ensures { λ r. ⌜ r ≡ hindersB (now (s .entry)) i p j ⌝ }
+{
+    let listed = station_state::has_bit32(le::get_u32(s, 36176 + j * 4), p);
+    (j != i) & (((s[37016 + j] == 0) & listed) | lock_on(s, j, p) | (s[36760 + j * 32 + p] != 0))
+}
+
+// Whether i cannot have page p whole.
+pub fn hindered(s: &[u8], i: usize, p: usize) -> bool
+    requires { ⌜ (length (now s) ≡ 37072) × (i < 8) × (p < 32) ⌝ }
+    ensures { λ r. ⌜ r ≡ hinderedB (now (s .entry)) i p ⌝ }
+{
+    let mut r = false;
+    let mut j = 0;
+    while j < 8 {
+        r |= hinders(s, i, p, j);
+        j += 1;
+    }
+    r
+}
+
+fn waits_to_write(s: &[u8], i: usize, p: usize, o: usize, j: usize) -> bool
+    requires { ⌜ (length (now s) ≡ 37072) × (i < 8) × (p < 32) × (o < 8) × (j < 8) ⌝ }
+    ensures { λ r. ⌜ r ≡ waitsToWriteB (now (s .entry)) i p o j ⌝ }
+{
+    (j != i) & station_state::has_bit8(s[36760 + j * 32 + p], o)
+}
+
+fn unavailable_at(s: &[u8], i: usize, a: usize, o: usize) -> bool
+    requires { ⌜ (length (now s) ≡ 37072) × (i < 8) × (a < 256) × (o < 8) ⌝ }
+    ensures { λ r. ⌜ r ≡ unavailableAt (now (s .entry)) i a o ⌝ }
+{
+    let mut r = false;
+    let mut j = 0;
+    while j < 8 {
+        r |= waits_to_write(s, i, a / 8, o, j);
+        j += 1;
+    }
+    (o != a % 8) & (server_state::other(s[36216 + (a / 8 * 8 + o)], i) | r)
+}
+
+// The unavailable set that goes to i with the page of a.
+pub fn unavailable(s: &[u8], i: usize, a: usize) -> u8
+    requires { ⌜ (length (now s) ≡ 37072) × (i < 8) × (a < 256) ⌝ }
+    ensures { λ r. ⌜ r ≡ unavailableB (now (s .entry)) i a ⌝ }
+{
+    let mut d: u8 = 0;
+    let mut o = 0;
+    while o < 8 {
+        d |= bit_if(unavailable_at(s, i, a, o), o);
+        o += 1;
+    }
+    d
+}
+
+// Whether 23 goes to j when i has written the pages d.
+pub fn informed(s: &[u8], i: usize, d: u32, j: usize) -> bool
+    requires { ⌜ (length (now s) ≡ 37072) × (i < 8) × (j < 8) ⌝ }
+    ensures { λ r. ⌜ r ≡ informedB (now (s .entry)) i d j ⌝ }
+{
+    (j != i) & (s[37016 + j] != 0) & (le::get_u32(s, 36176 + j * 4) & d != 0)
+}
+
+fn edge_at(s: &[u8], i: usize, j: usize, p: usize, o: usize) -> bool
+    requires { ⌜ (length (now s) ≡ 37072) × (i < 8) × (j < 8) × (p < 32) × (o < 8) ⌝ }
+    ensures { λ r. ⌜ r ≡ edgeAtB (now (s .entry)) i j p o ⌝ }
+{
+    station_state::has_bit8(wanted(s, i, p), o) & blocks(s, i, p, o, j)
+}
+
+// As blocked_on, for one station j.
+fn edge_on(s: &[u8], i: usize, j: usize, p: usize) -> bool
+    requires { ⌜ (length (now s) ≡ 37072) × (i < 8) × (j < 8) × (p < 32) ⌝ }
+    ensures { λ r. ⌜ r ≡ edgeOnB (now (s .entry)) i j p ⌝ }
+{
+    if wanted(s, i, p) == 0 {
+        return false;
+    }
+    let mut r = false;
+    let mut o = 0;
+    while o < 8 {
+        r |= edge_at(s, i, j, p, o);
+        o += 1;
+    }
+    r
+}
+
+// Whether a waits-for edge runs from i to j. A station that does not wait costs one test.
+fn edge(s: &[u8], i: usize, j: usize) -> bool
+    requires { ⌜ (length (now s) ≡ 37072) × (i < 8) × (j < 8) ⌝ }
+    ensures { λ r. ⌜ r ≡ edgeB (now (s .entry)) i j ⌝ }
+{
+    if s[37024 + i] == 0 {
+        return false;
+    }
+    let mut r = false;
+    let mut p = 0;
+    while p < 32 {
+        r |= edge_on(s, i, j, p);
+        p += 1;
+    }
+    station_state::has_bit8(s[37056 + i], j) | r
+}
+
+// The stations that i waits for.
+pub fn edge_set(s: &[u8], i: usize) -> u8
+    requires { ⌜ (length (now s) ≡ 37072) × (i < 8) ⌝ }
+    ensures { λ r. ⌜ r ≡ edgeSet (now (s .entry)) i ⌝ }
+{
+    let mut d: u8 = 0;
+    let mut j = 0;
+    while j < 8 {
+        d |= bit_if(edge(s, i, j), j);
+        j += 1;
+    }
+    d
+}

@@ -1,0 +1,209 @@
+//! Gives each call to a compiled station and compares number and every byte lent with what this implementation says.
+
+use crate::buffers::{show_state, Buffers, Room, Stock};
+use crate::tally::Tallies;
+use second::ffi::stations as proved;
+use second::line::lent::{Lent, Operation};
+use second::line::message::{Down, Up, LENGTH};
+use second::line::sets::STATIONS;
+use second::line::station::state::{self, Field};
+use second::line::Kind;
+use second::numbers::OK;
+use second::random::Random;
+use second::show::hex;
+
+/// Where the two differ, in words.
+pub struct Difference(pub String);
+
+pub type Agreed<T> = Result<T, Difference>;
+
+pub struct Judge {
+    pub tallies: Tallies,
+    show: bool,
+    random: Random,
+    stock: Stock,
+    expected: Buffers,
+    given: Buffers,
+}
+
+impl Judge {
+    pub fn new(show: bool) -> Judge {
+        let mut random = Random::new(0);
+        Judge {
+            tallies: Tallies::default(),
+            show,
+            stock: Stock::new(&mut random),
+            random,
+            expected: Buffers::default(),
+            given: Buffers::default(),
+        }
+    }
+
+    /// Buffers are filled anew from this seed on.
+    pub fn seed(&mut self, seed: u64) {
+        self.random = Random::new(seed);
+    }
+
+    /// A call whose answer this implementation knows: `answer` does it to its own copy of the buffers. An accepted one
+    /// changes the state; what it leaves in the free fields is not compared.
+    pub fn call(
+        &mut self,
+        operation: &Operation,
+        state: &mut [u8],
+        room: Room,
+        free: &[Field],
+        answer: impl FnOnce(&mut Lent) -> u32,
+    ) -> Agreed<u32> {
+        self.lend(operation, state, room);
+        let expected = answer(&mut self.expected.lent());
+        let number = self.proved(operation);
+        if number == OK {
+            self.expected.take_fields(free, &self.given);
+        }
+        if number != expected || self.expected != self.given {
+            return self.differ(operation, state, room, &expected.to_string(), number);
+        }
+        state.copy_from_slice(self.given.state());
+        Ok(number)
+    }
+
+    /// A call on any valid state: it returns, a refusal changes nothing, and an accepted one leaves what it may.
+    pub fn call_on_any(&mut self, operation: &Operation, state: &[u8], room: Room) -> Agreed<u32> {
+        self.lend(operation, state, room);
+        let number = self.proved(operation);
+        if !may_answer(operation, state).contains(&number) {
+            let expected = format!("one of {:?}", may_answer(operation, state));
+            return self.differ(operation, state, room, &expected, number);
+        }
+        if number == OK && self.may_leave(state) {
+            self.expected.take_fields(&Field::ALL, &self.given);
+            self.expected.take_sent(&self.given);
+        }
+        if self.expected != self.given {
+            return self.differ(operation, state, room, "any", number);
+        }
+        Ok(number)
+    }
+
+    /// A call that lends nothing to write, answered by both.
+    pub fn check(
+        &mut self,
+        name: &'static str,
+        expected: u32,
+        given: u32,
+        call: impl FnOnce() -> String,
+    ) -> Agreed<()> {
+        self.tallies.checked(name, given);
+        if expected == given {
+            return Ok(());
+        }
+        let text = format!(
+            "{name}: {}\nsecond: number {expected}\nproved: number {given}",
+            call()
+        );
+        Err(Difference(text))
+    }
+
+    fn lend(&mut self, operation: &Operation, state: &[u8], room: Room) {
+        if self.show {
+            println!("{}", show(operation));
+        }
+        let random = &mut self.random;
+        self.stock.fill(&mut self.given, state, room, random);
+        self.expected.copy(&self.given);
+    }
+
+    fn proved(&mut self, operation: &Operation) -> u32 {
+        let number = proved::call(operation, &mut self.given.lent());
+        self.tallies.called(operation, number);
+        if number == OK {
+            self.tallies.told(self.given.told());
+        }
+        number
+    }
+
+    /// A valid state of the same station, which sends what the server's checks let pass.
+    fn may_leave(&self, before: &[u8]) -> bool {
+        let after = self.given.state();
+        let stays = |field: Field| field.byte(after) == field.byte(before);
+        let sent = self.given.sent();
+        state::valid(after)
+            && [Field::Station, Field::Kind].into_iter().all(stays)
+            && sent.is_some_and(|(messages, commit)| {
+                messages
+                    .chunks(LENGTH)
+                    .all(|message| passes(message, before))
+                    && (commit.is_empty() || passes(commit, before))
+            })
+    }
+
+    fn differ(
+        &self,
+        operation: &Operation,
+        state: &[u8],
+        room: Room,
+        expected: &str,
+        number: u32,
+    ) -> Agreed<u32> {
+        let mut text = format!(
+            "call: {}\nlent: {room:?}\nsecond: number {expected}\nproved: number {number}\n",
+            show(operation)
+        );
+        for line in self.expected.differences(&self.given) {
+            text += &format!("{line}\n");
+        }
+        text += &format!("state before ({}):\n{}", sort(state), show_state(state));
+        Err(Difference(text))
+    }
+}
+
+/// A message from this state's station passes numbers 2 to 5.
+fn passes(message: &[u8], state: &[u8]) -> bool {
+    let Some(kind) = Kind::of(Field::Kind.byte(state).into()) else {
+        return false;
+    };
+    let decoded = Up::decode(message, &[kind; STATIONS]);
+    decoded.is_ok_and(|(station, _)| station == Field::Station.byte(state))
+}
+
+/// What this implementation makes of a state.
+pub const SORTS: [&str; 5] = [
+    "by the rules",
+    "no run reaches it",
+    "decoded but for its copies",
+    "valid but not decoded",
+    "not valid",
+];
+
+pub fn sort(state: &[u8]) -> &'static str {
+    SORTS[match state::decode(state) {
+        Some(station) if station.keeps_rules() => 0,
+        Some(_) => 1,
+        None if state::near(state).is_some() => 2,
+        None if state::valid(state) => 3,
+        None => 4,
+    }]
+}
+
+/// Numbers that do not depend on what a valid state says stand alone; else all that the call may give.
+fn may_answer(operation: &Operation, state: &[u8]) -> &'static [u32] {
+    match operation {
+        Operation::Begin => &[OK, 7, 9, 11],
+        Operation::Read(256..) | Operation::Write(256.., _) | Operation::Purge(32..) => &[4],
+        Operation::Read(_) | Operation::Write(..) | Operation::Commit | Operation::Abort => {
+            &[OK, 7, 8]
+        }
+        Operation::Purge(_) => &[OK, 7, 10],
+        Operation::Step(message) => match Down::decode(message, Field::Station.byte(state)) {
+            Ok(_) => &[OK, 6],
+            Err(number) => [&[2], &[3], &[4]][number as usize - 2],
+        },
+    }
+}
+
+fn show(operation: &Operation) -> String {
+    match operation {
+        Operation::Step(message) => format!("step {}", hex(message)),
+        other => format!("{other:?}"),
+    }
+}

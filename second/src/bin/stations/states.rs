@@ -1,0 +1,220 @@
+//! States for damaged cases: real ones changed, random ones, and some of a wrong length.
+
+use second::line::sets::{object_bit, page_bit, page_of, rising, Addresses};
+use second::line::sets::{OBJECTS, PAGES, STATIONS};
+use second::line::station::state::{Field, LENGTH};
+use second::random::Random;
+use std::array;
+
+/// A state like this real one, or not, and of what sort; its length is right.
+pub fn damaged(random: &mut Random, real: &[u8]) -> (&'static str, Vec<u8>) {
+    match random.below(16) {
+        0..=4 => ("as it is", real.to_vec()),
+        5..=8 => ("a byte changed", byte_changed(random, real)),
+        9 | 10 => ("a field changed", field_changed(random, real)),
+        11 | 12 => ("random by the rules", by_the_rules(random)),
+        13 => ("random that decodes", decoded(random)),
+        14 => ("random in range", in_range(random)),
+        _ => ("random", random.bytes(LENGTH)),
+    }
+}
+
+fn byte_changed(random: &mut Random, real: &[u8]) -> Vec<u8> {
+    let mut state = real.to_vec();
+    let range = random.pick(&Field::ALL).range();
+    let at = range.start + random.below(range.len());
+    state[at] = match random.below(4) {
+        0 => random.byte(),
+        1 => state[at] ^ (1 << random.below(8)),
+        2 => state[at].wrapping_add(random.pick(&[1, 255])),
+        _ => random.pick(&[0, 1, 2, 3, 4, 7, 8, 255]),
+    };
+    state
+}
+
+fn field_changed(random: &mut Random, real: &[u8]) -> Vec<u8> {
+    let mut state = real.to_vec();
+    let range = random.pick(&Field::ALL).range();
+    match random.below(3) {
+        0 => state[range].fill(random.pick(&[0, 1, 255])),
+        1 => state[range.clone()].copy_from_slice(&random.bytes(range.len())),
+        _ => {
+            for byte in &mut state[range] {
+                *byte &= random.byte();
+            }
+        }
+    }
+    state
+}
+
+/// Every field at random within its range, now and then beside it.
+fn in_range(random: &mut Random) -> Vec<u8> {
+    let mut state = random.bytes(LENGTH);
+    for (field, bound) in [
+        (Field::Station, STATIONS as u8),
+        (Field::Kind, 2),
+        (Field::Open, 2),
+        (Field::Wait, 4),
+    ] {
+        let byte = field.byte(&state) % bound;
+        let beside = if random.one_in(60) { bound } else { byte };
+        field.put_byte(&mut state, beside);
+    }
+    let station = Field::Station.byte(&state) as usize % STATIONS;
+    if !random.one_in(60) {
+        Field::Kept.put_word(&mut state, station, 0);
+    }
+    if random.one_in(40) {
+        Field::Number.put_word(&mut state, 0, random.pick(&[0, u32::MAX]));
+    }
+    state
+}
+
+/// Nothing that this implementation cannot hold.
+fn decoded(random: &mut Random) -> Vec<u8> {
+    let mut state = in_range(random);
+    for field in [Field::ReadSet, Field::WrittenSet, Field::Locks] {
+        thin(random, field, 0, &mut state);
+    }
+    for requester in 0..STATIONS {
+        thin(random, Field::Named, requester, &mut state);
+        if random.one_in(2) {
+            Field::Kept.put_word(&mut state, requester, 0);
+        }
+    }
+    if Field::Open.byte(&state) == 0 {
+        clear(&Field::OF_TRANSACTION, &mut state);
+    }
+    ask_once(&mut state);
+    let mut cached = random.number() as u32 | random.pick(&[0, 0x5555_5555, u32::MAX]);
+    if Field::Kind.byte(&state) == 0 {
+        cached |= locked(&state);
+    }
+    cache_only(cached, &mut state);
+    copy_written(&mut state);
+    state
+}
+
+/// Fewer members, more like those of a run.
+fn thin(random: &mut Random, field: Field, i: usize, state: &mut [u8]) {
+    let mut sets = field.sets(state, i);
+    match random.below(4) {
+        0 => (),
+        1 => sets = Addresses::default(),
+        _ => {
+            let kept: [u8; PAGES] = array::from_fn(|_| random.byte() & random.byte());
+            let on = random.number() as u32 & random.number() as u32;
+            for (page, set) in (0..).zip(&mut sets.0) {
+                *set &= kept[page as usize];
+                if on & page_bit(page) == 0 {
+                    *set = 0;
+                }
+            }
+        }
+    }
+    field.put_sets(state, i, &sets);
+}
+
+fn clear(fields: &[Field], state: &mut [u8]) {
+    for field in fields {
+        state[field.range()].fill(0);
+    }
+}
+
+/// Pages with a lock.
+fn locked(state: &[u8]) -> u32 {
+    Field::Locks.sets(state, 0).pages() | Field::Whole.word(state, 0)
+}
+
+/// Own values stand in the copies.
+fn copy_written(state: &mut [u8]) {
+    let written = Field::WrittenSet.sets(state, 0);
+    let cached = Field::Cached.word(state, 0);
+    for address in (0..=u8::MAX).filter(|address| written.has(*address)) {
+        if cached & page_bit(page_of(address)) != 0 {
+            let from = Field::WrittenValue.start() + 8 * usize::from(address);
+            let to = Field::Copy.start() + 8 * usize::from(address);
+            state.copy_within(from..from + 8, to);
+        }
+    }
+}
+
+/// These pages are cached, and others leave nothing.
+fn cache_only(pages: u32, state: &mut [u8]) {
+    Field::Cached.put_word(state, 0, pages);
+    for page in rising(!pages).map(usize::from) {
+        let values = Field::Copy.start() + 8 * OBJECTS * page;
+        state[values..values + 8 * OBJECTS].fill(0);
+        state[Field::Unavailable.start() + page] = 0;
+        Field::Version.put_word(state, page, 0);
+    }
+}
+
+/// What `Station::keeps_rules` asks for.
+fn by_the_rules(random: &mut Random) -> Vec<u8> {
+    let mut state = decoded(random);
+    let locking = Field::Kind.byte(&state) == 0;
+    if Field::Open.byte(&state) == 0 || !locking {
+        clear(&[Field::Kept], &mut state);
+    }
+    if Field::Open.byte(&state) == 1 {
+        match locking {
+            true => lock_written(&mut state),
+            false => clear(&[Field::Locks, Field::Whole], &mut state),
+        }
+        cache_held(&mut state);
+        copy_written(&mut state);
+    }
+    state
+}
+
+/// A read that is out is of an object not yet seen.
+fn ask_once(state: &mut [u8]) {
+    let requested = Field::Address.byte(state);
+    let asked = Field::Wait.byte(state) == 1;
+    for field in [Field::ReadSet, Field::WrittenSet] {
+        let mut sets = field.sets(state, 0);
+        if asked && sets.has(requested) {
+            sets.0[page_of(requested) as usize] ^= object_bit(requested);
+        }
+        field.put_sets(state, 0, &sets);
+    }
+}
+
+fn lock_written(state: &mut [u8]) {
+    let written = Field::WrittenSet.sets(state, 0);
+    let locks = Field::Locks.sets(state, 0).with(&written);
+    Field::Locks.put_sets(state, 0, &locks);
+}
+
+/// What is used or locked is cached.
+fn cache_held(state: &mut [u8]) {
+    let used = [Field::ReadSet, Field::WrittenSet];
+    let used = used.map(|field| field.sets(state, 0).pages());
+    let cached = Field::Cached.word(state, 0) | locked(state);
+    cache_only(used[0] | used[1] | cached, state);
+}
+
+/// Cut, doubled, or longer by some.
+pub fn of_a_wrong_length(random: &mut Random, state: &mut Vec<u8>) {
+    let length = random.pick(&[0, 1, LENGTH - 1, LENGTH + 1, LENGTH + 7, 2 * LENGTH, 4_864]);
+    state.resize(length, 0);
+}
+
+#[cfg(test)]
+mod tests {
+    use super::*;
+    use second::line::station::state::{decode, valid};
+
+    #[test]
+    fn random_states_decode() {
+        let mut random = Random::new(1);
+        for _ in 0..2_000 {
+            let state = decoded(&mut random);
+            assert_eq!(decode(&state).is_some(), valid(&state));
+            let state = by_the_rules(&mut random);
+            let keeps = decode(&state).is_some_and(|station| station.keeps_rules());
+            assert_eq!(keeps, valid(&state));
+        }
+    }
+}

@@ -1,0 +1,359 @@
+//! A station's state as bytes, from docs/STATE.md: its table of fields, number 1, and what it calls leftovers.
+
+use super::{Callback, Out, Page, Station, Transaction};
+use crate::line::little::{long, put_long, put_word, word};
+use crate::line::sets::{address, object_of, page_of, rising, Addresses};
+use crate::line::sets::{OBJECTS, PAGES, STATIONS};
+use crate::line::Kind;
+use std::array;
+use std::collections::BTreeMap;
+use std::ops::Range;
+
+/// "A station's state, 6,713 bytes"
+pub const LENGTH: usize = 6_713;
+
+/// The fields, each by its first byte.
+#[derive(Clone, Copy, Debug, PartialEq, Eq)]
+#[repr(usize)]
+pub enum Field {
+    Copy = 0,
+    ReadValue = 2048,
+    WrittenValue = 4096,
+    WaitingValue = 6144,
+    Kept = 6152,
+    Version = 6184,
+    Number = 6312,
+    Cached = 6316,
+    Whole = 6320,
+    Unavailable = 6324,
+    ReadSet = 6356,
+    WrittenSet = 6388,
+    Locks = 6420,
+    Named = 6452,
+    Station = 6708,
+    Kind = 6709,
+    Open = 6710,
+    Wait = 6711,
+    Address = 6712,
+}
+
+impl Field {
+    /// "nothing lies between the fields"
+    pub const ALL: [Field; 19] = [
+        Field::Copy,
+        Field::ReadValue,
+        Field::WrittenValue,
+        Field::WaitingValue,
+        Field::Kept,
+        Field::Version,
+        Field::Number,
+        Field::Cached,
+        Field::Whole,
+        Field::Unavailable,
+        Field::ReadSet,
+        Field::WrittenSet,
+        Field::Locks,
+        Field::Named,
+        Field::Station,
+        Field::Kind,
+        Field::Open,
+        Field::Wait,
+        Field::Address,
+    ];
+
+    /// 0 throughout while no transaction is open.
+    pub const OF_TRANSACTION: [Field; 5] = [
+        Field::Whole,
+        Field::ReadSet,
+        Field::WrittenSet,
+        Field::Locks,
+        Field::Wait,
+    ];
+
+    /// What is known of a page beside that it is cached.
+    pub const OF_COPIES: [Field; 3] = [Field::Copy, Field::Version, Field::Unavailable];
+
+    pub fn start(self) -> usize {
+        self as usize
+    }
+
+    /// All its bytes.
+    pub fn range(self) -> Range<usize> {
+        let mut starts = Field::ALL.into_iter().map(Field::start);
+        let end = starts.find(|start| *start > self.start());
+        self.start()..end.unwrap_or(LENGTH)
+    }
+
+    /// The field of this byte.
+    pub fn of(place: usize) -> Option<Field> {
+        let holds = |field: &Field| field.range().contains(&place);
+        Field::ALL.into_iter().find(holds)
+    }
+
+    pub fn byte(self, bytes: &[u8]) -> u8 {
+        bytes[self.start()]
+    }
+
+    pub fn word(self, bytes: &[u8], i: usize) -> u32 {
+        word(bytes, self.start() + 4 * i)
+    }
+
+    fn long(self, bytes: &[u8], i: usize) -> u64 {
+        long(bytes, self.start() + 8 * i)
+    }
+
+    /// Object sets by page; of `Named` those of requester `i`.
+    pub fn sets(self, bytes: &[u8], i: usize) -> Addresses {
+        let start = self.start() + PAGES * i;
+        Addresses(array::from_fn(|page| bytes[start + page]))
+    }
+
+    pub fn put_byte(self, bytes: &mut [u8], byte: u8) {
+        bytes[self.start()] = byte;
+    }
+
+    pub fn put_word(self, bytes: &mut [u8], i: usize, word: u32) {
+        put_word(bytes, self.start() + 4 * i, word);
+    }
+
+    fn put_long(self, bytes: &mut [u8], i: usize, long: u64) {
+        put_long(bytes, self.start() + 8 * i, long);
+    }
+
+    pub fn put_sets(self, bytes: &mut [u8], i: usize, sets: &Addresses) {
+        let start = self.start() + PAGES * i;
+        bytes[start..start + PAGES].copy_from_slice(&sets.0);
+    }
+}
+
+/// Not number 1: "the length is not 6,713, a field is out of the range above ..., or a callback from the station itself
+/// is kept. Nothing else is asked".
+#[inline]
+pub fn valid(bytes: &[u8]) -> bool {
+    bytes.len() == LENGTH && in_range(bytes) && !keeps_its_own(bytes)
+}
+
+fn in_range(bytes: &[u8]) -> bool {
+    let open = Field::Open.byte(bytes);
+    usize::from(Field::Station.byte(bytes)) < STATIONS
+        && Field::Kind.byte(bytes) <= 1
+        && open <= 1
+        && Field::Wait.byte(bytes) <= 3
+        // "not 0 while one is open"
+        && (open == 0 || Field::Number.word(bytes, 0) != 0)
+}
+
+fn keeps_its_own(bytes: &[u8]) -> bool {
+    let station = Field::Station.byte(bytes);
+    Field::Kept.word(bytes, station.into()) != 0
+}
+
+/// What the bytes say; None where they are not valid, or say what a `Station` cannot hold. Leftovers are not looked at.
+pub fn decode(bytes: &[u8]) -> Option<Station> {
+    let station = near(bytes)?;
+    let holds = pages_leave_nothing(bytes)
+        && own_values_stand(&station)
+        && (station.kind == Kind::Validating || locked_pages_are_cached(&station));
+    holds.then_some(station)
+}
+
+/// What the bytes say beside copies that a `Station` cannot hold: a call on it tells and sends the right thing, and
+/// leaves the right bytes but for `Field::OF_COPIES`. None also for a transaction's things with none open.
+pub fn near(bytes: &[u8]) -> Option<Station> {
+    if !valid(bytes) {
+        return None;
+    }
+    let station = Station {
+        number: Field::Station.byte(bytes),
+        kind: Kind::of(Field::Kind.byte(bytes).into())?,
+        latest: Field::Number.word(bytes, 0),
+        open: open(bytes)?,
+        cached: cached(bytes),
+        kept: kept(bytes),
+    };
+    (asks_once(&station) && versions_are_cached(&station, bytes)).then_some(station)
+}
+
+/// A page that is not cached is 0 throughout.
+fn pages_leave_nothing(bytes: &[u8]) -> bool {
+    let pages = rising(!Field::Cached.word(bytes, 0));
+    pages
+        .map(|number| page(bytes, number))
+        .all(|page| page == Page::default())
+}
+
+/// A `Station` lays its own writes into the copy, whatever was there.
+fn own_values_stand(station: &Station) -> bool {
+    let stands = |(address, value): (&u8, &u64)| {
+        let page = station.cached[page_of(*address) as usize].as_ref();
+        page.is_none_or(|page| page.values[object_of(*address) as usize] == *value)
+    };
+    station
+        .open
+        .as_ref()
+        .is_none_or(|open| open.writes.iter().all(stands))
+}
+
+/// A local write under a lock changes a copy, so there is one.
+fn locked_pages_are_cached(station: &Station) -> bool {
+    let (locked, whole) = station.locks();
+    (locked.pages() | whole) & !station.cached() == 0
+}
+
+/// A read that is out is of an object not yet seen: its delivery is the first read.
+fn asks_once(station: &Station) -> bool {
+    let open = station.open.as_ref();
+    open.is_none_or(|open| match open.out {
+        Some(Out::Read(address)) => open.seen(address).is_none(),
+        _ => true,
+    })
+}
+
+/// A validating commit has the versions of its cached pages only.
+fn versions_are_cached(station: &Station, bytes: &[u8]) -> bool {
+    let mut beside = rising(station.used() & !station.cached());
+    let has_none = |page: u8| Field::Version.word(bytes, page.into()) == 0;
+    station.kind == Kind::Locking || beside.all(has_none)
+}
+
+/// The open transaction, or that there is none.
+fn open(bytes: &[u8]) -> Option<Option<Transaction>> {
+    let transaction = Transaction {
+        reads: values(bytes, Field::ReadSet, Field::ReadValue),
+        writes: values(bytes, Field::WrittenSet, Field::WrittenValue),
+        locked: Field::Locks.sets(bytes, 0),
+        locked_whole: Field::Whole.word(bytes, 0),
+        out: out(bytes),
+    };
+    match Field::Open.byte(bytes) {
+        0 => (transaction == Transaction::default()).then_some(None),
+        _ => Some(Some(transaction)),
+    }
+}
+
+/// The values that stand for the members of a set.
+fn values(bytes: &[u8], set: Field, value: Field) -> BTreeMap<u8, u64> {
+    let set = set.sets(bytes, 0);
+    (0..=u8::MAX)
+        .filter(|address| set.has(*address))
+        .map(|address| (address, value.long(bytes, address.into())))
+        .collect()
+}
+
+fn out(bytes: &[u8]) -> Option<Out> {
+    let address = Field::Address.byte(bytes);
+    match Field::Wait.byte(bytes) {
+        0 => None,
+        1 => Some(Out::Read(address)),
+        2 => Some(Out::Write(address, Field::WaitingValue.long(bytes, 0))),
+        _ => Some(Out::Commit),
+    }
+}
+
+fn cached(bytes: &[u8]) -> [Option<Page>; PAGES] {
+    let mut cached = [const { None }; PAGES];
+    for number in rising(Field::Cached.word(bytes, 0)) {
+        cached[usize::from(number)] = Some(page(bytes, number));
+    }
+    cached
+}
+
+fn page(bytes: &[u8], number: u8) -> Page {
+    Page {
+        version: Field::Version.word(bytes, number.into()),
+        unavailable: Field::Unavailable.sets(bytes, 0).on(number),
+        values: array::from_fn(|object| {
+            Field::Copy.long(bytes, address(number, object as u8).into())
+        }),
+    }
+}
+
+/// "by requester: the transaction of the callback kept for it, 0 for none"
+fn kept(bytes: &[u8]) -> BTreeMap<u8, Callback> {
+    let callback = |requester: u8| Callback {
+        transaction: Field::Kept.word(bytes, requester.into()),
+        objects: Field::Named.sets(bytes, requester.into()),
+    };
+    (0..STATIONS as u8)
+        .map(|requester| (requester, callback(requester)))
+        .filter(|(_, callback)| callback.transaction != 0)
+        .collect()
+}
+
+/// The station's bytes, leftovers 0.
+pub fn encode(station: &Station) -> Vec<u8> {
+    let mut bytes = vec![0; LENGTH];
+    lay(station, &mut bytes);
+    bytes
+}
+
+/// Lays the station's bytes over others of a state: "what no longer counts keeps its bytes".
+pub fn lay(station: &Station, bytes: &mut [u8]) {
+    Field::Station.put_byte(bytes, station.number);
+    Field::Kind.put_byte(bytes, station.kind as u8);
+    Field::Open.put_byte(bytes, station.open.is_some().into());
+    Field::Number.put_word(bytes, 0, station.latest);
+    match &station.open {
+        Some(transaction) => lay_transaction(transaction, bytes),
+        None => lay_transaction(&Transaction::default(), bytes),
+    }
+    Field::Cached.put_word(bytes, 0, station.cached());
+    let nothing = Page::default();
+    for (number, page) in (0..).zip(&station.cached) {
+        // "A dropped page leaves nothing: its version, values and unavailable set become 0."
+        lay_page(number, page.as_ref().unwrap_or(&nothing), bytes);
+    }
+    lay_kept(&station.kept, bytes);
+}
+
+fn lay_transaction(transaction: &Transaction, bytes: &mut [u8]) {
+    lay_values(&transaction.reads, Field::ReadSet, Field::ReadValue, bytes);
+    let writes = &transaction.writes;
+    lay_values(writes, Field::WrittenSet, Field::WrittenValue, bytes);
+    Field::Locks.put_sets(bytes, 0, &transaction.locked);
+    Field::Whole.put_word(bytes, 0, transaction.locked_whole);
+    lay_out(transaction.out.as_ref(), bytes);
+}
+
+fn lay_values(values: &BTreeMap<u8, u64>, set: Field, value: Field, bytes: &mut [u8]) {
+    set.put_sets(bytes, 0, &values.keys().copied().collect());
+    for (address, number) in values {
+        value.put_long(bytes, (*address).into(), *number);
+    }
+}
+
+fn lay_out(out: Option<&Out>, bytes: &mut [u8]) {
+    let wait = match out {
+        None => 0,
+        Some(Out::Read(address)) => {
+            Field::Address.put_byte(bytes, *address);
+            1
+        }
+        Some(Out::Write(address, value)) => {
+            Field::Address.put_byte(bytes, *address);
+            Field::WaitingValue.put_long(bytes, 0, *value);
+            2
+        }
+        Some(Out::Commit) => 3,
+    };
+    Field::Wait.put_byte(bytes, wait);
+}
+
+fn lay_page(number: u8, page: &Page, bytes: &mut [u8]) {
+    Field::Version.put_word(bytes, number.into(), page.version);
+    bytes[Field::Unavailable.start() + usize::from(number)] = page.unavailable;
+    for (object, value) in page.values.into_iter().enumerate() {
+        Field::Copy.put_long(bytes, OBJECTS * usize::from(number) + object, value);
+    }
+}
+
+fn lay_kept(kept: &BTreeMap<u8, Callback>, bytes: &mut [u8]) {
+    for requester in 0..STATIONS {
+        let callback = kept.get(&(requester as u8));
+        let transaction = callback.map_or(0, |callback| callback.transaction);
+        Field::Kept.put_word(bytes, requester, transaction);
+        if let Some(callback) = callback {
+            Field::Named.put_sets(bytes, requester, &callback.objects);
+        }
+    }
+}

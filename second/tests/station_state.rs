@@ -1,0 +1,258 @@
+//! A station's state as bytes: docs/STATE.md's table, number 1, leftovers, and what cannot be held.
+
+use second::line::call::Call;
+use second::line::crossing::Crossing;
+use second::line::scripts;
+use second::line::sets::Addresses;
+use second::line::station::state::{decode, encode, lay, near, valid, Field, LENGTH};
+use second::line::station::Station;
+use second::line::world::World;
+use second::line::Kind;
+use second::random::Random;
+
+const TABLE: &str = include_str!("../../docs/STATE.md");
+
+/// Station 0's state behind a script; it is locking, 1 validating.
+fn behind(script: &str) -> (Station, Vec<u8>) {
+    let mut world = World::fresh([Kind::Locking; 8]);
+    for call in scripts::calls(&format!("fresh 01000000; {script}")) {
+        world.call(&call);
+    }
+    let station = world.stations[0].clone();
+    let bytes = encode(&station);
+    (station, bytes)
+}
+
+/// Reads and writes on two pages, a kept callback, a request out.
+fn busy() -> Vec<u8> {
+    behind(
+        "begin 0; read 0 8; server 0; station 0; write 0 17 5; server 0; station 0; \
+         begin 2; write 2 8 6; server 2; station 0; read 0 40",
+    )
+    .1
+}
+
+fn with(bytes: &[u8], at: usize, byte: u8) -> Vec<u8> {
+    let mut bytes = bytes.to_vec();
+    bytes[at] = byte;
+    bytes
+}
+
+/// From, bytes and name of each row.
+fn rows() -> Vec<(usize, usize, String)> {
+    let cells = |line: &'static str| line.split('|').map(str::trim).collect::<Vec<_>>();
+    let row = |cells: Vec<&str>| {
+        let [_, from, bytes, name, ..] = cells[..] else {
+            return None;
+        };
+        let factors = bytes
+            .split('×')
+            .map(|factor| factor.trim().parse::<usize>());
+        let bytes = factors.product::<Result<usize, _>>().ok()?;
+        Some((from.parse().ok()?, bytes, name.replace(' ', "")))
+    };
+    TABLE.lines().map(cells).filter_map(row).collect()
+}
+
+#[test]
+fn the_fields_are_the_tables() {
+    let fields = Field::ALL.map(|field| {
+        let name = format!("{field:?}").to_lowercase();
+        (field.start(), field.range().len(), name)
+    });
+    assert_eq!(rows(), fields);
+    assert_eq!(Field::Address.range().end, LENGTH);
+    assert_eq!(Field::of(0), Some(Field::Copy));
+    assert_eq!(Field::of(6_315), Some(Field::Number));
+    assert_eq!(Field::of(LENGTH), None);
+}
+
+/// "A fresh state is 0 everywhere but in station and kind."
+#[test]
+fn fresh() {
+    let bytes = encode(&Station::fresh(5, Kind::Validating, 0));
+    let others = bytes.iter().enumerate().filter(|(_, byte)| **byte != 0);
+    let others: Vec<(usize, u8)> = others.map(|(at, byte)| (at, *byte)).collect();
+    assert_eq!(others, [(6_708, 5), (6_709, 1)]);
+}
+
+#[test]
+fn a_state_place_by_place() {
+    let bytes = busy();
+    let long = |field: Field, i: usize| {
+        let at = field.start() + 8 * i;
+        u64::from_le_bytes(bytes[at..at + 8].try_into().unwrap())
+    };
+    assert_eq!(long(Field::Copy, 17), 5);
+    assert_eq!(long(Field::WrittenValue, 17), 5);
+    assert_eq!(Field::Kept.word(&bytes, 2), 1);
+    assert_eq!(Field::Named.sets(&bytes, 2), Addresses::one(8));
+    assert_eq!(Field::Number.word(&bytes, 0), 1);
+    assert_eq!(Field::Cached.word(&bytes, 0), 0b110);
+    assert_eq!(Field::Whole.word(&bytes, 0), 0b100);
+    assert_eq!(Field::ReadSet.sets(&bytes, 0), Addresses::one(8));
+    assert_eq!(Field::WrittenSet.sets(&bytes, 0), Addresses::one(17));
+    assert_eq!(bytes[6_708..], [0, 0, 1, 1, 40]);
+}
+
+/// "the waiting value": of a write only.
+#[test]
+fn a_waiting_write() {
+    let (_, bytes) = behind("begin 0; write 0 9 77");
+    assert_eq!(bytes[Field::WaitingValue.start()], 77);
+    assert_eq!(bytes[6_708..], [0, 0, 1, 2, 9]);
+    let (_, bytes) = behind("begin 0; commit 0");
+    assert_eq!(bytes[6_708..], [0, 0, 1, 3, 0]);
+}
+
+#[test]
+fn number_1() {
+    let good = busy();
+    assert!(valid(&good));
+    for length in [0, 1, LENGTH - 1] {
+        assert!(!valid(&good[..length]));
+    }
+    assert!(!valid(&[&good[..], &[0]].concat()));
+    for (field, most) in [
+        (Field::Kind, 1),
+        (Field::Open, 1),
+        (Field::Wait, 3),
+        (Field::Address, 255),
+    ] {
+        for byte in 0..=255 {
+            let bytes = with(&good, field.start(), byte);
+            assert_eq!(valid(&bytes), byte <= most, "{field:?} {byte}");
+        }
+    }
+    for station in 0..=255 {
+        let bytes = with(&good, Field::Station.start(), station);
+        // the callback is 2's
+        assert_eq!(valid(&bytes), station < 8 && station != 2, "{station}");
+    }
+    for byte in 0..4 {
+        let own = with(&good, Field::Kept.start() + byte, 1);
+        assert!(!valid(&own));
+    }
+}
+
+/// "any; not 0 while one is open"
+#[test]
+fn number_0_is_closed() {
+    let mut bytes = busy();
+    Field::Number.put_word(&mut bytes, 0, 0);
+    assert!(!valid(&bytes));
+    Field::Open.put_byte(&mut bytes, 0);
+    assert!(valid(&bytes));
+    assert!(valid(&encode(&Station::fresh(0, Kind::Locking, 0))));
+}
+
+/// Valid, and more than a `Station` holds.
+#[test]
+fn not_decoded() {
+    let (_, closed) = behind("begin 0; read 0 8; server 0; station 0; abort 0");
+    assert!(decode(&closed).is_some());
+    for field in Field::OF_TRANSACTION {
+        let bytes = with(&closed, field.start(), 1);
+        assert!(valid(&bytes) && near(&bytes).is_none(), "{field:?}");
+    }
+    assert!(decode(&closed[1..]).is_none());
+    let open = busy();
+    assert!(decode(&open).is_some());
+    // its read of 40 is out, though 40 was read before
+    let asked_again = with(&open, Field::ReadSet.start() + 5, 1);
+    assert!(valid(&asked_again) && near(&asked_again).is_none());
+    // page 4 is used and not cached
+    let mut versioned = with(&open, Field::ReadSet.start() + 4, 1);
+    Field::Version.put_word(&mut versioned, 4, 1);
+    assert!(near(&versioned).is_some());
+    Field::Kind.put_byte(&mut versioned, 1);
+    assert!(valid(&versioned) && near(&versioned).is_none());
+}
+
+/// Copies that a `Station` cannot hold, the rest as it was.
+#[test]
+fn nearly_decoded() {
+    let open = busy();
+    let nearly = |bytes: Vec<u8>| decode(&bytes).is_none() && near(&bytes).is_some();
+    // page 0 is not cached
+    for field in [Field::Copy, Field::Version, Field::Unavailable] {
+        assert!(nearly(with(&open, field.start(), 1)), "{field:?}");
+    }
+    // 17 was written, and stands in the copy
+    let own = Field::Copy.start() + 8 * 17;
+    assert!(nearly(with(&open, own, 6)));
+    // a lock on page 0, of the object or whole; a validating station has none
+    for field in [Field::Locks, Field::Whole] {
+        let mut locked = with(&open, field.start(), open[field.start()] | 1);
+        assert!(nearly(locked.clone()), "{field:?}");
+        Field::Kind.put_byte(&mut locked, 1);
+        assert!(decode(&locked).is_some(), "{field:?}");
+    }
+}
+
+/// "the whole lock becomes locks on those objects": none does without it.
+#[test]
+fn de_escalated_without_a_whole_lock() {
+    let mut bytes = busy();
+    Field::Whole.put_word(&mut bytes, 0, 0);
+    let mut station = decode(&bytes).unwrap();
+    let mut message = [0; 112];
+    // 19 for page 2 of transaction 1
+    message[..5].copy_from_slice(&[19, 0, 2, 0, 1]);
+    let sent = station.step(&message).unwrap().sent;
+    assert_eq!(sent[0][..5], [8, 0, 2, 0, 1]);
+    assert_eq!(sent[0][16], 0b10);
+    assert_eq!(encode(&station), bytes);
+}
+
+/// Each state of many runs comes back from its bytes, whatever the leftovers, and keeps the rules.
+#[test]
+fn states_of_runs() {
+    let noise = Random::new(3).bytes(LENGTH);
+    let mut seen = 0;
+    for seed in 1..=60 {
+        let mut crossing = Crossing::new(seed, 300);
+        let mut world = World::fresh(crossing.kinds);
+        while let Some(call) = crossing.next(&world) {
+            let reply = world.call(&call);
+            crossing.saw(&call, &reply);
+            if let Some(number) = call.station() {
+                check(&world.stations[number as usize], &noise, &call);
+                seen += 1;
+            }
+        }
+    }
+    assert!(seen > 8_000);
+}
+
+fn check(station: &Station, noise: &[u8], call: &Call) {
+    assert!(station.keeps_rules(), "{call}: {station:?}");
+    let mut bytes = encode(station);
+    assert!(valid(&bytes), "{call}: {station:?}");
+    assert_eq!(decode(&bytes).as_ref(), Some(station), "{call}");
+    bytes.copy_from_slice(noise);
+    lay(station, &mut bytes);
+    assert_eq!(decode(&bytes).as_ref(), Some(station), "{call}");
+}
+
+/// "What no longer counts keeps its bytes".
+#[test]
+fn leftovers() {
+    let before = busy();
+    let (ended, _) = behind("begin 0; read 0 8; server 0; station 0; abort 0");
+    let mut after = before.clone();
+    lay(&ended, &mut after);
+    for field in [
+        Field::ReadValue,
+        Field::WrittenValue,
+        Field::WaitingValue,
+        Field::Named,
+        Field::Address,
+    ] {
+        assert_eq!(after[field.range()], before[field.range()], "{field:?}");
+    }
+    // a dropped page leaves nothing
+    assert_eq!(Field::Cached.word(&after, 0), 0b10);
+    assert_eq!(after[8 * 16..8 * 24], [0; 64]);
+    assert_eq!(decode(&after), Some(ended));
+}
