@@ -1,61 +1,19 @@
--- A record of the line as document 01's record: what it read and wrote by address, as lists of entries; and nothing is lost by that.
-use Prim.Native.Nat.{ℕ, zero, suc, _+_, _≤_, _<_, _^_}
-use mathlib.Core.Path.{_≡_, refl, sym, ap, _∙_, fun-ext}
-use mathlib.Core.Bool.{cond}
+-- Nothing is lost where a record of the line is written as document 01's record, and its replay is the line's.
+use Prim.Native.Nat.{ℕ, zero, suc, _+_, _≤_, _<_}
+use mathlib.Core.Path.{_≡_, refl, ap, _∙_, fun-ext}
 use mathlib.Core.List.{List, [], _∷_}
 use native.Mathlib.Omega.{arith}
-use lib.Dec.{eqb, ltb}
-use lib.ListN.{length}
+use lib.Dec.{ltb}
 use Rattle.sets.specs.Base.{Val, none, some, valOr}
 use Rattle.sets.specs.Laws.{byB, byEq, eqb-same, eqb-yes, eqb-no, ltb-yes, ltb-no}
-use Rattle.layout.specs.Record.{Entry, Record}
+use Rattle.layout.specs.Record.{Entry}
 use Rattle.layout.specs.Replay.{Values, wrote, ReadsAgree, Replays}
 use Rattle.layout.specs.Replay as Laid
 use Rattle.entries.specs.Entries.{entryIf, entriesFrom, entriesOf, valueIn, Within, says}
+use Rattle.recs.specs.Recs.{recordsOf, Narrow}
 use Rattle.line.specs.All.{All}
 use Rattle.line.specs.Messages.{Rec}
 use Rattle.line.specs.Truth as Line
-
--- THE DEFINITIONS
-
--- the line's record as document 01 writes it
-abbrev pub asRecord : Rec → Record
-asRecord r =
-    record { reads = entriesOf (r .reads); writes = entriesOf (r .writes); commit = r .number; transaction = r .transaction; station = r .station; kind = r .kind }
-
-abbrev pub recordsOf : List Rec → List Record
-recordsOf [] = []
-recordsOf (r ∷ rs) = asRecord r ∷ recordsOf rs
-
-abbrev pub asRec : Record → Rec
-asRec r =
-    record { number = r .commit; transaction = r .transaction; station = r .station; kind = r .kind; reads = valueIn (r .reads); writes = valueIn (r .writes) }
-
-abbrev pub recsOf : List Record → List Rec
-recsOf [] = []
-recsOf (r ∷ rs) = asRec r ∷ recsOf rs
-
--- a record's reads and writes have nothing from address 256 on
-pub record Narrow (r : Rec) : Type 0 where
-  pub reads : Within (r .reads)
-  pub writes : Within (r .writes)
-
-pub given-back : (r : Rec) → Narrow r → asRec (asRecord r) ≡ r
-given-back r n =
-    λ t.
-    record {
-      number = r .number;
-      transaction = r .transaction;
-      station = r .station;
-      kind = r .kind;
-      reads = fun-ext (says (r .reads) (n .reads)) t;
-      writes = fun-ext (says (r .writes) (n .writes)) t;
-    }
-
--- the line's records are had back from document 01's
-pub all-given-back : (rs : List Rec) → All Narrow rs → recsOf (recordsOf rs) ≡ rs
-all-given-back [] h = refl
-all-given-back (r ∷ rs) h = rw (given-back r (h .0), all-given-back rs (h .1))
 
 -- WHAT THE ENTRIES WRITE
 

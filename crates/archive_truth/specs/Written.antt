@@ -23,7 +23,8 @@ use Rattle.line.specs.Truth as Line
 use Rattle.line.specs.Truth.{In, here, there, leftBefore, NumberedFrom, lastWrite, firstOf, firstRead, True}
 use Rattle.truth.specs.Truth.{truth}
 use Rattle.entries.specs.Entries.{entries-rise, entries-count, entries-fit}
-use Rattle.archive_truth.specs.Bytes.{asRecord, recordsOf, recsOf, Narrow, all-given-back, left-is, ReadsLeft, replays-of}
+use Rattle.recs.specs.Recs.{asRecord, recordsOf, recsOf, Narrow, all-given-back}
+use Rattle.archive_truth.specs.Bytes.{left-is, ReadsLeft, replays-of}
 use Rattle.archive_truth.specs.Fits.{FitRec, FitCalls, fits-run}
 
 -- WHAT FITS IS WELL FORMED

@@ -3,7 +3,6 @@ use Prim.Native.Nat.{ℕ, zero, suc, _+_, _*_, _-_, _≤_, _<_}
 use mathlib.Core.Path.{_≡_, refl, sym, ap, _∙_}
 use mathlib.Core.List.{List, [], _∷_, _++_, append-assoc, append-nil}
 use mathlib.Core.Bool.{Bool, true, false, cond}
-use native.Mathlib.Numerals.{add-one}
 use native.Mathlib.Omega.{arith}
 use lib.ListN.{length, take, drop, set, length-append, length-take, length-drop, drop-of-length-le}
 use lib.Seq.{sets, set-comm}
@@ -17,7 +16,7 @@ use Rattle.layout.specs.Record.{Entry, Record, entries, header, addresses, valu
 use Rattle.entries.specs.Entries.{entryIf, entriesFrom, entriesOf}
 use Rattle.record.specs.Stores.{length-header}
 use Rattle.station_state.specs.Layout.{member}
-use Rattle.set_record.specs.Record.{valuesAt, recordFrom, Filled, filled, recordFilled}
+use Rattle.set_record.specs.Record.{valuesAt, recordFrom, filled, recordFilled}
 use Rattle.set_record.specs.Stores.{entryOne, entriesTo}
 
 -- STORES THAT DO NOT MEET CHANGE PLACES
@@ -127,14 +126,6 @@ entries-are o s base at from k i zero h = rw below-none
 entries-are o s base at from k i (suc n) h =
     rw (below-more s at from n, ← length-below s at from n)
     (entry-step o base k i n (u64At s (from + n * 8)) (below s at from n) (member s at n) (entriesTo o s base at from k i n) (rw length-below h) (entries-are o s base at from k i n (omega arith)))
-
--- a turn of the loop over the addresses, as `put_entry` tells of it
-pub entries-turn : (o s : List ℕ) (base at from k i a : ℕ) {j r : ℕ} {d e : List ℕ} → j ≡ i + rank (member s at) a → d ≡ entriesTo o s base at from k i a
-    → filled e r ≡ filled (entryOne d s base at from k j a) (j + cond (member s at a) 1 0)
-    → (r ≡ i + rank (member s at) (a + 1)) × (e ≡ entriesTo o s base at from k i (a + 1))
-unfolding rank entriesTo
-entries-turn o s base at from k i a ej ed h =
-    rw add-one (omega (arith, ap (λ (f : Filled). f .count) h), ap (λ (f : Filled). f .out) h ∙ rw (ej, ed))
 
 -- reads from place p, then writes: the addresses of both, then the values of both
 both-are : (o : List ℕ) (es fs : List Entry) (n m p q : ℕ) {b d : ℕ} → length es ≡ n → length fs ≡ m

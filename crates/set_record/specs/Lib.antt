@@ -2,3 +2,4 @@
 pub mod Record
 pub mod Stores
 pub mod Filled
+pub mod Spans

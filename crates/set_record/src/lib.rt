@@ -1,12 +1,13 @@
 // A record out of two sets of addresses and their values, written anywhere.
 ghost use mathlib.Core.Path.{_≡_};
 ghost use mathlib.Core.Bool.{cond};
-ghost use Prim.Native.Nat.{_+_, _≤_, _<_};
+ghost use Prim.Native.Nat.{_+_, _*_, _≤_, _<_};
 ghost use lib.ListN.{length};
 ghost use Rattle.cells.specs.Loops.{rank};
 ghost use Rattle.station_state.specs.Layout.{member as Layout·member};
 ghost use Rattle.set_record.specs.Record.{recordFrom, filled, recordFilled};
 ghost use Rattle.set_record.specs.Stores.{entryOne, entriesTo};
+ghost use Rattle.set_record.specs.Spans.{memberFrom, spanTo};
 
 fn one_if(yes: bool) -> usize
     ensures { λ r. ⌜ (r ≡ cond yes 1 0) × (r ≤ 1) ⌝ }
@@ -17,16 +18,33 @@ fn one_if(yes: bool) -> usize
     0
 }
 
+// How many addresses of page p the set from `at` has. A page without any is passed over at once.
+fn count_page(s: &[u8], at: usize, p: usize) -> usize
+    requires { ⌜ (at + 32 ≤ length (now s)) × (p < 32) ⌝ }
+    ensures { λ r. ⌜ (r ≡ rank (memberFrom (now (s .entry)) at (p * 8)) 8) × (r ≤ 8) ⌝ }
+{
+    if s[at + p] == 0 {
+        return 0;
+    }
+    let mut n: usize = 0;
+    let mut o = 0;
+    while o < 8 {
+        n += one_if(station_state::member(s, at, p * 8 + o));
+        o += 1;
+    }
+    n
+}
+
 // How many addresses the set from `at` has.
 fn count(s: &[u8], at: usize) -> usize
     requires { ⌜ at + 32 ≤ length (now s) ⌝ }
     ensures { λ r. ⌜ (r ≡ rank (Layout·member (now (s .entry)) at) 256) × (r ≤ 256) ⌝ }
 {
     let mut n: usize = 0;
-    let mut a = 0;
-    while a < 256 {
-        n += one_if(station_state::member(s, at, a));
-        a += 1;
+    let mut p = 0;
+    while p < 32 {
+        n += count_page(s, at, p);
+        p += 1;
     }
     n
 }
@@ -53,22 +71,48 @@ fn put_entry(
     i
 }
 
+// Puts the addresses of page p that the set from `at` has, from entry i of k on; how many entries there are then.
+fn put_page(
+    out: &mut [u8],
+    s: &[u8],
+    base: usize,
+    at: usize,
+    values: usize,
+    k: usize,
+    i: usize,
+    p: usize,
+) -> usize
+    requires { ⌜ (at + 32 ≤ length (now s)) × (values + 2048 ≤ length (now s)) × (base + 4624 ≤ length (now out)) × (k ≤ 512) × (i ≤ 504) × (p < 32) ⌝ }
+    ensures { λ r. ⌜ filled (now (out .exit)) r ≡ filled (spanTo (now (out .entry)) (now (s .entry)) base at values k i (p * 8) 8) (i + rank (memberFrom (now (s .entry)) at (p * 8)) 8) ⌝ }
+{
+    if s[at + p] == 0 {
+        return i;
+    }
+    let mut j = i;
+    let mut o = 0;
+    while o < 8 {
+        let b = put_entry(out, s, base, at, values, k, j, p * 8 + o);
+        j = b;
+        o += 1;
+    }
+    j
+}
+
 // Puts the addresses of the set from `at` with their values, from entry i of k on.
 fn put_entries(out: &mut [u8], s: &[u8], base: usize, at: usize, values: usize, k: usize, i: usize)
     requires { ⌜ (at + 32 ≤ length (now s)) × (values + 2048 ≤ length (now s)) × (base + 4624 ≤ length (now out)) × (k ≤ 512) × (i ≤ 256) ⌝ }
     ensures { λ _. ⌜ now (out .exit) ≡ entriesTo (now (out .entry)) (now (s .entry)) base at values k i 256 ⌝ }
 {
     let mut j = i;
-    let mut a = 0;
-    while a < 256 {
-        let b = put_entry(out, s, base, at, values, k, j, a);
+    let mut p = 0;
+    while p < 32 {
+        let b = put_page(out, s, base, at, values, k, j, p);
         j = b;
-        a += 1;
+        p += 1;
     }
 }
 
-// Puts a record from `base` on: its reads are the set from `reads` with the values from `read_values`, and so its writes.
-// How many bytes it has.
+// Puts a record from `base` on, with the addresses of the sets from `reads` and `writes` and their values: how many bytes it has.
 pub fn put_record(
     s: &[u8],
     out: &mut [u8],

@@ -1,0 +1,1 @@
+// No code: the line's records as document 01's.

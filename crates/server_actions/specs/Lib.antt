@@ -1,0 +1,4 @@
+-- The server's actions and its pass, over the bytes of a state.
+pub mod Actions
+pub mod Pass
+pub mod Step

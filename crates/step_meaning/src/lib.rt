@@ -1,0 +1,1 @@
+// No code: the server's step over bytes means document 01's step.
