@@ -38,6 +38,14 @@ fn with(bytes: &[u8], at: usize, byte: u8) -> Vec<u8> {
     bytes
 }
 
+/// The section on a station's state; the server's has a table too.
+fn section() -> &'static str {
+    let sections = &mut TABLE.split("\n## ");
+    sections
+        .find(|section| section.starts_with("A station's state"))
+        .expect("docs/STATE.md describes a station's state")
+}
+
 /// From, bytes and name of each row.
 fn rows() -> Vec<(usize, usize, String)> {
     let cells = |line: &'static str| line.split('|').map(str::trim).collect::<Vec<_>>();
@@ -51,7 +59,7 @@ fn rows() -> Vec<(usize, usize, String)> {
         let bytes = factors.product::<Result<usize, _>>().ok()?;
         Some((from.parse().ok()?, bytes, name.replace(' ', "")))
     };
-    TABLE.lines().map(cells).filter_map(row).collect()
+    section().lines().map(cells).filter_map(row).collect()
 }
 
 #[test]
