@@ -1,0 +1,536 @@
+-- "a field out of range": the bytes of the server's state that its meaning does not tell apart, what a station wants, its 20s sent and its
+-- transaction unfinished, stay in range through every step; with them the address that it requests.
+use Prim.Native.Nat.{ℕ, zero, suc, _+_, _*_, _/_, _%_, _≤_, _<_}
+use mathlib.Core.Path.{_≡_, refl}
+use mathlib.Core.Bool.{Bool, true, false, not, _&&_, cond}
+use mathlib.Core.List.{List, [], _∷_}
+use mathlib.Core.Logic.{_≢_, inr}
+use native.Mathlib.Omega.{arith}
+use lib.Dec.{eqb}
+use lib.ListN.{getD, set, replicate}
+use lib.Seq.{getD-set-other}
+use Rattle.sets.specs.Laws.{byB, eqb-yes, eqb-no}
+use Rattle.le.specs.Le.{u16At, u64At, setU32, setU64}
+use Rattle.le.specs.Laws.{setU32-is}
+use Rattle.cells.specs.Num.{AllBytes, put-other}
+use Rattle.message.specs.Layout.{stationOf, pageOf, requesterOf, transactionOf, pagesOf, setOf}
+use Rattle.message.specs.Layout as Message
+use Rattle.message.specs.Number.{upNumber}
+use Rattle.message_meaning.specs.UpAccepted.{UpAccepted, up-accepted}
+use Rattle.station_state.specs.Layout.{hasBit, member}
+use Rattle.station_state.specs.Changes.{addTo, pageOn, pageOff, clearTo}
+use Rattle.server_state.specs.Valid.{kindsTo, freshServer}
+use Rattle.server_state.specs.Layout.{serverLength, agesOf, latestOf, lastOf, lockOf, wholeOf, askedOf, arrivalOf, writtenSet, writtenSetFrom, writtenValuesFrom, wantOf, requestOf, calledOf, pendOf, lockingB}
+use Rattle.server_tests.specs.Tests.{openCallB, openAskB, faultB, blockedB, shutB, shutOutB, hinderedB, informedB}
+use Rattle.server_order.specs.Order.{comesFirst, firstTo, edgesTo, youngerB, youngestTo, victimB}
+use Rattle.server_changes.specs.Changes.{noticeB, freePageB, freePagesTo, freeOneB, freeTo, finishB, leaveB, joinB, joinReadB, joinWriteB, unpackOne, unpackTo, versionsIn, unpackB, joinCommitB, listB, unlistB, markBusyB, answeredB, lockOneB, lockTo, loosenB, askedB, calledB, lockPageB, lockObjectB, versionOneB, versionsTo, valueOneB, valuesTo, writeB}
+use Rattle.server_actions.specs.Actions.{Serving, serving, sendPageB, abortB, informB, informTo, installB, commitNowB, addressOf, noticedB, onReadB, onWriteB, onCommitB, onAbortB, onPurgeB, onBusyB, onDoneB, onWrittenSetB, acceptB}
+use Rattle.server_actions.specs.Pass.{askB, askTo, serveReadB, callOneB, callTo, callB, callOnceB, grantPageB, grantObjectB, grantB, afterCallsB, proceedB, gatesB, visitB, orderB, passB, movedB, settleB, serverStepB}
+
+pub record Flagged (s : List ℕ) : Type 0 where
+  pub wants : (j : ℕ) → j < 8 → getD s (37024 + j) 0 ≤ 3
+  pub requests : (j : ℕ) → j < 8 → getD s (37032 + j) 0 ≤ 255
+  pub calleds : (j : ℕ) → j < 8 → getD s (37040 + j) 0 ≤ 1
+  pub unfinisheds : (j : ℕ) → j < 8 → getD s (37064 + j) 0 ≤ 1
+
+-- STORES
+
+-- a number that may stand there
+set-le : (n : ℕ) (s : List ℕ) (at v : ℕ) → v ≤ n → (j : ℕ) → getD s j 0 ≤ n → getD (set s at v) j 0 ≤ n
+set-le n [] at v l j h = h
+set-le n (x ∷ s) zero v l zero h = l
+set-le n (x ∷ s) zero v l (suc j) h = h
+set-le n (x ∷ s) (suc at) v l zero h = h
+set-le n (x ∷ s) (suc at) v l (suc j) h = set-le n s at v l j h
+
+-- a store elsewhere
+set-off : (n : ℕ) (s : List ℕ) (at v j : ℕ) → j ≢ at → getD s j 0 ≤ n → getD (set s at v) j 0 ≤ n
+set-off n s at v j d h = rw (getD-set-other s at j v 0 d) h
+
+module _ {s : List ℕ} (k : Flagged s) where
+  -- below all of them
+  low-set : (at v : ℕ) → at < 37024 → Flagged (set s at v)
+  low-set at v n =
+      record {
+        wants = λ j l. set-off 3 s at v (37024 + j) (λ e. omega arith) (k .wants j l);
+        requests = λ j l. set-off 255 s at v (37032 + j) (λ e. omega arith) (k .requests j l);
+        calleds = λ j l. set-off 1 s at v (37040 + j) (λ e. omega arith) (k .calleds j l);
+        unfinisheds = λ j l. set-off 1 s at v (37064 + j) (λ e. omega arith) (k .unfinisheds j l);
+      }
+
+  low-u32 : (at v : ℕ) → at + 4 ≤ 37024 → Flagged (setU32 s at v)
+  low-u32 at v n =
+      record {
+        wants = λ j l. rw (setU32-is s at v, put-other 4 s at v (37024 + j) (inr (omega arith))) (k .wants j l);
+        requests = λ j l. rw (setU32-is s at v, put-other 4 s at v (37032 + j) (inr (omega arith))) (k .requests j l);
+        calleds = λ j l. rw (setU32-is s at v, put-other 4 s at v (37040 + j) (inr (omega arith))) (k .calleds j l);
+        unfinisheds = λ j l. rw (setU32-is s at v, put-other 4 s at v (37064 + j) (inr (omega arith))) (k .unfinisheds j l);
+      }
+
+  want-set : (i v : ℕ) → i < 8 → v ≤ 3 → Flagged (set s (37024 + i) v)
+  want-set i v li lv =
+      record {
+        wants = λ j l. set-le 3 s (37024 + i) v lv (37024 + j) (k .wants j l);
+        requests = λ j l. set-off 255 s (37024 + i) v (37032 + j) (λ e. omega arith) (k .requests j l);
+        calleds = λ j l. set-off 1 s (37024 + i) v (37040 + j) (λ e. omega arith) (k .calleds j l);
+        unfinisheds = λ j l. set-off 1 s (37024 + i) v (37064 + j) (λ e. omega arith) (k .unfinisheds j l);
+      }
+
+  request-set : (i v : ℕ) → i < 8 → v < 256 → Flagged (set s (37032 + i) v)
+  request-set i v li lv =
+      record {
+        wants = λ j l. set-off 3 s (37032 + i) v (37024 + j) (λ e. omega arith) (k .wants j l);
+        requests = λ j l. set-le 255 s (37032 + i) v (omega arith) (37032 + j) (k .requests j l);
+        calleds = λ j l. set-off 1 s (37032 + i) v (37040 + j) (λ e. omega arith) (k .calleds j l);
+        unfinisheds = λ j l. set-off 1 s (37032 + i) v (37064 + j) (λ e. omega arith) (k .unfinisheds j l);
+      }
+
+  called-set : (i v : ℕ) → i < 8 → v ≤ 1 → Flagged (set s (37040 + i) v)
+  called-set i v li lv =
+      record {
+        wants = λ j l. set-off 3 s (37040 + i) v (37024 + j) (λ e. omega arith) (k .wants j l);
+        requests = λ j l. set-off 255 s (37040 + i) v (37032 + j) (λ e. omega arith) (k .requests j l);
+        calleds = λ j l. set-le 1 s (37040 + i) v lv (37040 + j) (k .calleds j l);
+        unfinisheds = λ j l. set-off 1 s (37040 + i) v (37064 + j) (λ e. omega arith) (k .unfinisheds j l);
+      }
+
+  unfinished-set : (i v : ℕ) → i < 8 → v ≤ 1 → Flagged (set s (37064 + i) v)
+  unfinished-set i v li lv =
+      record {
+        wants = λ j l. set-off 3 s (37064 + i) v (37024 + j) (λ e. omega arith) (k .wants j l);
+        requests = λ j l. set-off 255 s (37064 + i) v (37032 + j) (λ e. omega arith) (k .requests j l);
+        calleds = λ j l. set-off 1 s (37064 + i) v (37040 + j) (λ e. omega arith) (k .calleds j l);
+        unfinisheds = λ j l. set-le 1 s (37064 + i) v lv (37064 + j) (k .unfinisheds j l);
+      }
+
+  -- the stations that owe a 7, and those that sent 6
+  owed-set : (at v : ℕ) → 37048 ≤ at → at < 37064 → Flagged (set s at v)
+  owed-set at v from to =
+      record {
+        wants = λ j l. set-off 3 s at v (37024 + j) (λ e. omega arith) (k .wants j l);
+        requests = λ j l. set-off 255 s at v (37032 + j) (λ e. omega arith) (k .requests j l);
+        calleds = λ j l. set-off 1 s at v (37040 + j) (λ e. omega arith) (k .calleds j l);
+        unfinisheds = λ j l. set-off 1 s at v (37064 + j) (λ e. omega arith) (k .unfinisheds j l);
+      }
+
+low-u64 : {s : List ℕ} → Flagged s → (at v : ℕ) → at + 8 ≤ 37024 → Flagged (setU64 s at v)
+unfolding setU64
+low-u64 k at v n = low-u32 (low-u32 k at (v % 4294967296) (omega arith)) (at + 4) (v / 4294967296) (omega arith)
+
+either : {s t : List ℕ} (b : Bool) → Flagged s → Flagged t → Flagged (cond b s t)
+either true h k = h
+either false h k = k
+
+page-on : {s : List ℕ} → Flagged s → (at p : ℕ) → at + 4 ≤ 37024 → Flagged (pageOn s at p)
+unfolding pageOn
+page-on k at p n = low-u32 k at _ n
+
+page-off : {s : List ℕ} → Flagged s → (at p : ℕ) → at + 4 ≤ 37024 → Flagged (pageOff s at p)
+unfolding pageOff
+page-off k at p n = low-u32 k at _ n
+
+-- LOOPS
+
+cleared : {s : List ℕ} → Flagged s → (at n : ℕ) → at + n ≤ 37024 → Flagged (clearTo s at n)
+unfolding clearTo
+cleared k at zero h = k
+cleared k at (suc n) h = low-set (cleared k at n (omega arith)) (at + n) 0 (omega arith)
+
+added : {s : List ℕ} → Flagged s → (at a : ℕ) → at + 32 ≤ 37024 → a < 256 → Flagged (addTo s at a)
+unfolding addTo
+added k at a h l = low-set k (at + a / 8) _ (omega arith)
+
+pages-freed : {s : List ℕ} → Flagged s → (i n : ℕ) → n ≤ 32 → Flagged (freePagesTo i s n)
+unfolding freePagesTo freePageB
+pages-freed k i zero h = k
+pages-freed {s} k i (suc n) h =
+    let r = pages-freed k i n (omega arith) in
+    let t = freePagesTo i s n in
+    either (eqb (wholeOf t n) (i + 1)) (page-off (low-set r (36472 + n) 0 (omega arith)) 36212 n (omega arith)) r
+
+locks-freed : {s : List ℕ} → Flagged s → (i n : ℕ) → n ≤ 256 → Flagged (freeTo i s n)
+unfolding freeTo freeOneB
+locks-freed k i zero h = k
+locks-freed {s} k i (suc n) h =
+    let r = locks-freed k i n (omega arith) in
+    either (eqb (lockOf (freeTo i s n) n) (i + 1)) (low-set r (36216 + n) 0 (omega arith)) r
+
+versions-set : {s : List ℕ} → Flagged s → (i v n : ℕ) → n ≤ 32 → Flagged (versionsTo i v s n)
+unfolding versionsTo versionOneB
+versions-set k i v zero h = k
+versions-set {s} k i v (suc n) h =
+    let r = versions-set k i v n (omega arith) in
+    either (eqb (writtenSet (versionsTo i v s n) i n) 0) r (low-u32 r (34960 + n * 4) v (omega arith))
+
+values-set : {s : List ℕ} → Flagged s → (i n : ℕ) → n ≤ 256 → Flagged (valuesTo i s n)
+unfolding valuesTo valueOneB
+values-set k i zero h = k
+values-set {s} k i (suc n) h =
+    let r = values-set k i n (omega arith) in
+    let t = valuesTo i s n in
+    either (member t (writtenSetFrom i) n) (low-u64 r (n * 8) (u64At t (writtenValuesFrom i + n * 8)) (omega arith)) r
+
+objects-locked : {s : List ℕ} → Flagged s → (i p x n : ℕ) → p < 32 → n ≤ 8 → Flagged (lockTo i p x s n)
+unfolding lockTo lockOneB
+objects-locked k i p x zero lp h = k
+objects-locked k i p x (suc n) lp h =
+    let r = objects-locked k i p x n lp (omega arith) in
+    either (hasBit x n) (low-set r (36216 + (p * 8 + n)) (i + 1) (omega arith)) r
+
+versions-taken : {s : List ℕ} → Flagged s → (x : List ℕ) (i n : ℕ) → i < 8 → n ≤ 32 → Flagged (versionsIn x i s n)
+unfolding versionsIn
+versions-taken k x i zero l h = k
+versions-taken k x i (suc n) l h = low-u32 (versions-taken k x i n l (omega arith)) (35088 + i * 128 + n * 4) _ (omega arith)
+
+entries-taken : {s : List ℕ} → Flagged s → (x : List ℕ) → AllBytes x → (at from first n : ℕ) → at + 32 ≤ 37024 → from + 2048 ≤ 37024
+    → Flagged (unpackTo x s at from first n)
+unfolding unpackTo unpackOne
+entries-taken k x b at from first zero h g = k
+entries-taken k x b at from first (suc n) h g =
+    let l : getD x (256 + (first + n)) 0 < 256 = b (256 + (first + n)) in
+    low-u64 (added (entries-taken k x b at from first n h g) at _ h l) (from + getD x (256 + (first + n)) 0 * 8) _ (omega arith)
+
+-- THE CHANGES
+
+module _ {s : List ℕ} (k : Flagged s) where
+  listed : (i p : ℕ) → i < 8 → Flagged (listB i p s)
+  unfolding listB
+  listed i p l = page-on k (36176 + i * 4) p (omega arith)
+
+  unlisted : (i d : ℕ) → i < 8 → Flagged (unlistB i d s)
+  unfolding unlistB
+  unlisted i d l = low-u32 k (36176 + i * 4) _ (omega arith)
+
+  noticed : (i t : ℕ) → i < 8 → Flagged (noticeB i t s)
+  unfolding noticeB
+  noticed i t l =
+      let ages = low-u64 (low-u64 k (34816 + i * 8) (agesOf s) (omega arith)) 34944 (agesOf s + 1) (omega arith) in
+      either (eqb t (latestOf s i)) k (low-u32 (unfinished-set ages i 1 l (omega arith)) (36144 + i * 4) t (omega arith))
+
+  finished : (i : ℕ) → i < 8 → Flagged (finishB i s)
+  unfolding finishB
+  finished i l = unfinished-set (locks-freed (pages-freed k i 32 (omega arith)) i 256 (omega arith)) i 0 l (omega arith)
+
+  left : (i : ℕ) → i < 8 → Flagged (leaveB i s)
+  unfolding leaveB
+  left i l =
+      let arrival = low-u64 (want-set k i 0 l (omega arith)) (34880 + i * 8) 0 (omega arith) in
+      let request = request-set arrival i 0 l (omega arith) in
+      let sets = cleared (cleared request (36504 + i * 32) 32 (omega arith)) (36760 + i * 32) 32 (omega arith) in
+      let called = called-set sets i 0 l (omega arith) in
+      owed-set (owed-set called (37048 + i) 0 (omega arith) (omega arith)) (37056 + i) 0 (omega arith) (omega arith)
+
+  written : (i : ℕ) → Flagged (writeB i s)
+  unfolding writeB
+  written i = values-set (versions-set (low-u32 k 36208 _ (omega arith)) i _ 32 (omega arith)) i 256 (omega arith)
+
+  busied : (i r : ℕ) → r < 8 → Flagged (markBusyB i r s)
+  unfolding markBusyB
+  busied i r l = owed-set k (37056 + r) _ (omega arith) (omega arith)
+
+  answered : (i r : ℕ) → r < 8 → Flagged (answeredB i r s)
+  unfolding answeredB
+  answered i r l = owed-set (owed-set k (37056 + r) _ (omega arith) (omega arith)) (37048 + r) _ (omega arith) (omega arith)
+
+  loosened : (i p x : ℕ) → p < 32 → Flagged (loosenB i p x s)
+  unfolding loosenB
+  loosened i p x l = objects-locked (low-set (page-off k 36212 p (omega arith)) (36472 + p) 0 (omega arith)) i p x 8 l (omega arith)
+
+  asked : (p : ℕ) → Flagged (askedB p s)
+  unfolding askedB
+  asked p = page-on k 36212 p (omega arith)
+
+  called : (i x : ℕ) → i < 8 → Flagged (calledB i x s)
+  unfolding calledB
+  called i x l = owed-set (called-set k i 1 l (omega arith)) (37048 + i) x (omega arith) (omega arith)
+
+  page-locked : (i p : ℕ) → p < 32 → Flagged (lockPageB i p s)
+  unfolding lockPageB
+  page-locked i p l = low-set (page-off k 36212 p (omega arith)) (36472 + p) (i + 1) (omega arith)
+
+  object-locked : (i a : ℕ) → a < 256 → Flagged (lockObjectB i a s)
+  unfolding lockObjectB
+  object-locked i a l = low-set k (36216 + a) (i + 1) (omega arith)
+
+  unpacked : (i : ℕ) (x : List ℕ) → i < 8 → AllBytes x → Flagged (unpackB i x s)
+  unfolding unpackB
+  unpacked i x l b =
+      let versions = versions-taken (low-u32 k (36112 + i * 4) (transactionOf x) (omega arith)) x i 32 l (omega arith) in
+      let reads = entries-taken versions x b (36504 + i * 32) (2048 + i * 2048) 0 (u16At x 240) (omega arith) (omega arith) in
+      entries-taken reads x b (36760 + i * 32) (18432 + i * 2048) (u16At x 240) (u16At x 242) (omega arith) (omega arith)
+
+joined : {s : List ℕ} → Flagged s → (i w a : ℕ) → i < 8 → w ≤ 3 → a < 256 → Flagged (joinB i w a s)
+unfolding joinB
+joined k i w a l lw la =
+    let want = want-set (low-u64 (left k i l) (34880 + i * 8) _ (omega arith)) i w l lw in
+    low-u64 (request-set want i a l la) 34952 _ (omega arith)
+
+read-joined : {s : List ℕ} → Flagged s → (i a : ℕ) → i < 8 → a < 256 → Flagged (joinReadB i a s)
+unfolding joinReadB
+read-joined k i a l la = added (joined k i 1 a l (omega arith) la) (36504 + i * 32) a (omega arith) la
+
+write-joined : {s : List ℕ} → Flagged s → (i a : ℕ) → i < 8 → a < 256 → Flagged (joinWriteB i a s)
+unfolding joinWriteB
+write-joined k i a l la = added (joined k i 2 a l (omega arith) la) (36760 + i * 32) a (omega arith) la
+
+commit-joined : {s : List ℕ} → Flagged s → (i : ℕ) (x : List ℕ) → i < 8 → AllBytes x → Flagged (joinCommitB i x s)
+unfolding joinCommitB
+commit-joined k i x l b = unpacked (joined k i 3 0 l (omega arith) (omega arith)) i x l b
+
+-- THE ACTIONS
+
+-- of a step under way
+record Fine (x : Serving) : Type 0 where
+  flags : Flagged (x .state)
+
+fine : (s : List ℕ) (m r : List (List ℕ)) → Flagged s → Fine (serving s m r)
+fine s m r k = record { flags = k }
+
+one-of : {x y : Serving} (b : Bool) → Fine x → Fine y → Fine (cond b x y)
+one-of true h k = h
+one-of false h k = k
+
+-- where the test's answer is needed
+as-tested : {x y : Serving} (b : Bool) → (b ≡ true → Fine x) → (b ≡ false → Fine y) → Fine (cond b x y)
+as-tested true h k = h refl
+as-tested false h k = k refl
+
+page-sent : (kind i a u : ℕ) (x : Serving) → i < 8 → Fine x → Fine (sendPageB kind i a u x)
+unfolding sendPageB
+page-sent kind i a u x l h = fine _ _ _ (listed (h .flags) i (a / 8) l)
+
+aborted : (i c : ℕ) (x : Serving) → i < 8 → Fine x → Fine (abortB i c x)
+unfolding abortB
+aborted i c x l h = fine _ _ _ (finished (left (h .flags) i l) i l)
+
+informed : (i d : ℕ) (x : Serving) → Fine x → (n : ℕ) → n ≤ 8 → Fine (informTo i d x n)
+unfolding informTo informB
+informed i d x h zero q = h
+informed i d x h (suc n) q =
+    let r = informed i d x h n (omega arith) in
+    one-of (informedB ((informTo i d x n) .state) i d n) (fine _ _ _ (unlisted (r .flags) n d q)) r
+
+installed : (i : ℕ) (x : Serving) → i < 8 → Fine x → Fine (installB i x)
+unfolding installB
+installed i x l h = informed i _ _ (fine _ _ _ (finished (left (written (h .flags) i) i l) i l)) 8 (omega arith)
+
+next : (n k : ℕ) → n ≤ k → eqb k n ≡ false → suc n ≤ k
+next n k l e = omega (arith, eqb-no k n e)
+
+-- the message's own effect
+module _ (kinds m : List ℕ) (ok : upNumber kinds m ≡ 0) (b : AllBytes m) (x : Serving) (h : Fine x) where
+  abbrev accepted : UpAccepted kinds m
+  accepted = up-accepted kinds m ok
+
+  abbrev i : ℕ
+  i = stationOf m
+
+  own : i < 8
+  own = accepted .station-is
+
+  seen : Fine (noticedB m x)
+  unfolding noticedB
+  seen = fine _ _ _ (noticed (h .flags) i (transactionOf m) own)
+
+  address-small : Message.kindOf m ≤ 2 → addressOf m < 256
+  address-small e = let r = accepted .request e in omega (arith, r .page-is, r .object-is)
+
+  on-read : Message.kindOf m ≡ 1 → Fine (onReadB m x)
+  unfolding onReadB
+  on-read e =
+      one-of (lockingB (x .state) i) (fine _ _ _ (read-joined (seen .flags) i (addressOf m) own (address-small (omega (arith, e)))))
+      (page-sent 16 i (addressOf m) 0 (noticedB m x) own seen)
+
+  on-write : Message.kindOf m ≡ 2 → Fine (onWriteB m x)
+  unfolding onWriteB
+  on-write e = fine _ _ _ (write-joined (seen .flags) i (addressOf m) own (address-small (omega (arith, e))))
+
+  on-commit : Fine (onCommitB m x)
+  unfolding onCommitB commitNowB
+  on-commit =
+      one-of (lockingB (x .state) i)
+      (one-of (eqb (lastOf ((noticedB m x) .state)) 4294967295) (aborted i 4 (noticedB m x) own seen)
+      (installed i _ own (fine _ _ _ (unpacked (left (seen .flags) i own) i m own b))))
+      (fine _ _ _ (commit-joined (seen .flags) i m own b))
+
+  on-abort : Fine (onAbortB m x)
+  unfolding onAbortB
+  on-abort = fine _ _ _ (finished (seen .flags) i own)
+
+  on-purge : Fine (onPurgeB m x)
+  unfolding onPurgeB
+  on-purge = fine _ _ _ (unlisted (h .flags) i _ own)
+
+  on-busy : Message.kindOf m ≡ 6 → Fine (onBusyB m x)
+  unfolding onBusyB
+  on-busy e = one-of (openCallB (x .state) i (requesterOf m) (transactionOf m)) (fine _ _ _ (busied (h .flags) i (requesterOf m) (accepted .busy e .requester-is))) h
+
+  on-done : Message.kindOf m ≡ 7 → Fine (onDoneB m x)
+  unfolding onDoneB
+  on-done e =
+      let y = unlisted (h .flags) i (pagesOf m) own in
+      one-of (openCallB (x .state) i (requesterOf m) (transactionOf m)) (fine _ _ _ (answered y i (requesterOf m) (accepted .done e .requester-is))) (fine _ _ _ y)
+
+  on-written-set : Message.kindOf m ≡ 8 → Fine (onWrittenSetB m x)
+  unfolding onWrittenSetB
+  on-written-set e =
+      one-of (openAskB (x .state) i (pageOf m) (transactionOf m)) (fine _ _ _ (loosened (h .flags) i (pageOf m) (setOf m 0) (accepted .written-set e .page-is))) h
+
+  accepts : Fine (acceptB m x)
+  unfolding acceptB
+  accepts =
+      let k = Message.kindOf m in
+      as-tested (eqb k 1) (λ e. on-read (eqb-yes k 1 e))
+      (λ n1.
+      as-tested (eqb k 2) (λ e. on-write (eqb-yes k 2 e))
+      (λ n2.
+      as-tested (eqb k 3) (λ e. on-commit)
+      (λ n3.
+      as-tested (eqb k 4) (λ e. on-abort)
+      (λ n4.
+      as-tested (eqb k 5) (λ e. on-purge)
+      (λ n5.
+      as-tested (eqb k 6) (λ e. on-busy (eqb-yes k 6 e))
+      (λ n6.
+      as-tested (eqb k 7) (λ e. on-done (eqb-yes k 7 e))
+      (λ n7.
+      let l4 = next 3 k (next 2 k (next 1 k (accepted .kind-from) n1) n2) n3 in
+      let l8 = next 7 k (next 6 k (next 5 k (next 4 k l4 n4) n5) n6) n7 in
+      on-written-set (omega (arith, l8, accepted .kind-to)))))))))
+
+-- THE PASS
+
+asks : (i : ℕ) (x : Serving) → Fine x → (n : ℕ) → Fine (askTo i x n)
+unfolding askTo askB
+asks i x h zero = h
+asks i x h (suc n) = let r = asks i x h n in one-of (shutB ((askTo i x n) .state) i n && not (hasBit (askedOf ((askTo i x n) .state)) n)) (fine _ _ _ (asked (r .flags) n)) r
+
+calls-to : (i d : ℕ) (s : List ℕ) (x : Serving) → Fine x → (n : ℕ) → Fine (callTo i d s x n)
+unfolding callTo callOneB
+calls-to i d s x h zero = h
+calls-to i d s x h (suc n) = let r = calls-to i d s x h n in one-of (hasBit d n) (fine _ _ _ (r .flags)) r
+
+module _ (i : ℕ) (l : i < 8) where
+  read-served : (x : Serving) → Fine x → Fine (serveReadB i x)
+  unfolding serveReadB
+  read-served x h = page-sent 16 i _ _ _ l (fine _ _ _ (left (h .flags) i l))
+
+  calls : (x : Serving) → Fine x → Fine (callB i x)
+  unfolding callB
+  calls x h = fine _ _ _ (called (h .flags) i _ l)
+
+  calls-once : (x : Serving) → Fine x → Fine (callOnceB i x)
+  unfolding callOnceB
+  calls-once x h = one-of (eqb (calledOf (x .state) i) 0) (calls x h) h
+
+  request-small : (x : Serving) → Fine x → requestOf (x .state) i < 256
+  request-small x h = omega (arith, h .flags .requests i l)
+
+  page-granted : (x : Serving) → Fine x → Fine (grantPageB i x)
+  unfolding grantPageB
+  page-granted x h = page-sent 18 i _ _ _ l (fine _ _ _ (page-locked (left (h .flags) i l) i (requestOf (x .state) i / 8) (omega (arith, request-small x h))))
+
+  object-granted : (x : Serving) → Fine x → Fine (grantObjectB i x)
+  unfolding grantObjectB
+  object-granted x h = page-sent 17 i _ _ _ l (fine _ _ _ (object-locked (left (h .flags) i l) i (requestOf (x .state) i) (request-small x h)))
+
+  granted : (x : Serving) → Fine x → Fine (grantB i x)
+  unfolding grantB
+  granted x h = one-of (hinderedB (x .state) i (requestOf (x .state) i / 8)) (object-granted x h) (page-granted x h)
+
+  after-calls : (w : ℕ) (x : Serving) → Fine x → Fine (afterCallsB w i x)
+  unfolding afterCallsB
+  after-calls w x h = one-of (eqb (pendOf (x .state) i) 0) (one-of (eqb w 2) (granted x h) (installed i x l h)) h
+
+  proceeds : (w : ℕ) (x : Serving) → Fine x → Fine (proceedB w i x)
+  unfolding proceedB
+  proceeds w x h = one-of (eqb w 1) (read-served x h) (after-calls w (callOnceB i x) (calls-once x h))
+
+  gates : (w : ℕ) (x : Serving) → Fine x → Fine (gatesB w i x)
+  unfolding gatesB
+  gates w x h = one-of (blockedB (x .state) i) h (one-of (shutOutB (x .state) i) (asks i x h 32) (proceeds w x h))
+
+  visited : (x : Serving) → Fine x → Fine (visitB i x)
+  unfolding visitB
+  visited x h =
+      let w = wantOf (x .state) i in
+      let f = faultB (x .state) i in
+      one-of (eqb w 0) h (one-of (eqb w 3) (one-of (eqb f 0) (gates w x h) (aborted i f x l h)) (gates w x h))
+
+-- the stations of the list, and the victim
+first-most : (s : List ℕ) (b n : ℕ) → n ≤ 8 → firstTo s b n ≤ 8
+unfolding firstTo
+first-most s b zero l = omega arith
+first-most s b (suc n) l =
+    let r = first-most s b n (omega arith) in
+    byB (comesFirst s b (firstTo s b n) n) (λ e. rw e (omega arith)) (λ e. rw e r)
+
+youngest-most : (s e : List ℕ) (n : ℕ) → n ≤ 8 → youngestTo s e n ≤ 8
+unfolding youngestTo
+youngest-most s e zero l = omega arith
+youngest-most s e (suc n) l =
+    let r = youngest-most s e n (omega arith) in
+    byB (youngerB s e (youngestTo s e n) n) (λ q. rw q (omega arith)) (λ q. rw q r)
+
+victim-most : (s : List ℕ) → victimB s ≤ 8
+unfolding victimB
+victim-most s = youngest-most s (edgesTo s 8) 8 (omega arith)
+
+abbrev Stations : List ℕ → Type 0
+Stations [] = Unit {0}
+Stations (i ∷ l) = (i < 8) × Stations l
+
+order-stations : (s : List ℕ) (n b : ℕ) → Stations (orderB s n b)
+unfolding orderB
+order-stations s zero b = tt
+order-stations s (suc n) b =
+    let i = firstTo s b 8 in
+    let rest = order-stations s n (arrivalOf s i + 1) in
+    byB (eqb i 8) (λ e. rw e tt) (λ e. rw e (omega (arith, eqb-no i 8 e, first-most s b 8 (omega arith)), rest))
+
+passed : (js : List ℕ) (x : Serving) → Stations js → Fine x → Fine (passB js x)
+unfolding passB
+passed [] x a h = h
+passed (i ∷ js) x a h = passed js (visitB i x) (a .1) (visited i (a .0) x h)
+
+settled : (n : ℕ) (x : Serving) → Fine x → Fine (settleB n x)
+unfolding settleB
+settled zero x h = h
+settled (suc n) x h =
+    let y : Serving = passB (orderB (x .state) 8 0) x in
+    let g : Fine y = passed (orderB (x .state) 8 0) x (order-stations (x .state) 8 0) h in
+    let v = victimB (y .state) in
+    one-of (movedB x y) (settled n y g)
+    (as-tested (eqb v 8) (λ e. g) (λ e. settled n (abortB v 1 y) (aborted v 1 y (omega (arith, eqb-no v 8 e, victim-most (y .state))) g)))
+
+-- every accepted message's step
+pub step-flagged : (kinds m s : List ℕ) → upNumber kinds m ≡ 0 → AllBytes m → Flagged s → Flagged ((serverStepB m s) .state)
+unfolding serverStepB
+step-flagged kinds m s ok b k = settled 64 (acceptB m (serving s [] [])) (accepts kinds m ok b (serving s [] []) (fine s [] [] k)) .flags
+
+-- A FRESH STATE
+
+zeros-at : (n j : ℕ) → _≡_ {A = ℕ} (getD (replicate n 0) j 0) 0
+zeros-at zero j = refl
+zeros-at (suc n) zero = refl
+zeros-at (suc n) (suc j) = zeros-at n j
+
+-- n is the state's length: a variable, so that nothing computes the zeros
+blank-flagged : (n : ℕ) → Flagged (replicate n 0)
+blank-flagged n =
+    record {
+      wants = λ j l. rw (zeros-at n (37024 + j)) (omega arith);
+      requests = λ j l. rw (zeros-at n (37032 + j)) (omega arith);
+      calleds = λ j l. rw (zeros-at n (37040 + j)) (omega arith);
+      unfinisheds = λ j l. rw (zeros-at n (37064 + j)) (omega arith);
+    }
+
+kinds-flagged : {s : List ℕ} (kinds : List ℕ) → Flagged s → (n : ℕ) → n ≤ 8 → Flagged (kindsTo kinds s n)
+unfolding kindsTo
+kinds-flagged kinds k zero l = k
+kinds-flagged kinds k (suc n) l = low-set (kinds-flagged kinds k n (omega arith)) (37016 + n) _ (omega arith)
+
+pub fresh-flagged : (kinds : List ℕ) → Flagged (freshServer kinds)
+unfolding freshServer
+fresh-flagged kinds =
+    kinds-flagged kinds (low-u64 (low-u64 (blank-flagged serverLength) 34944 1 (omega arith)) 34952 1 (omega arith)) 8 (omega arith)

@@ -1,0 +1,18 @@
+-- Demand 3 over the bytes of states, messages and archive.
+-- the line, and the claim
+pub mod Bytes
+pub mod Claim
+-- every call is one of the model's
+pub mod Served
+pub mod Kinds
+pub mod Simulates
+pub mod Runs
+-- so the claim holds
+pub mod Truth
+-- and number 1 turns back no state of a run
+pub mod Flags
+pub mod Valid
+pub mod Ready
+-- so with output long enough the line is the model's: C12 as an example
+pub mod Whole
+pub mod Example
