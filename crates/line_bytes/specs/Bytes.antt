@@ -134,7 +134,7 @@ carryDownB b w =
       asked = w .asked;
     }
 
--- A CALL: "Each call gets the state its end's last call left; nobody else writes it"
+-- A CALL: "Each call gets the state its end's last call left; nobody else writes it". What a call leaves is carried whatever it answers.
 
 unfoldable pub ownerActsB : ℕ → Op → List ℕ → List ℕ → WorldB → WorldB
 ownerActsB i op o c w = let b = performB op (w .station i) o c in tellB i op (answerOf (b .said .answer)) (carryUpB i b w)
@@ -144,11 +144,12 @@ unfoldable pub stationTakesB : ℕ → List (List ℕ) → List ℕ → List ℕ
 stationTakesB i [] o c w = w
 stationTakesB i (m ∷ l) o c w =
     let b = stepB m (w .station i) o c in
-    cond (isRefused (answerOf (b .said .answer))) w (tellB i (w .asked i) (answerOf (b .said .answer)) (carryUpB i b (restDown i l w)))
+    let a = answerOf (b .said .answer) in
+    tellB i (w .asked i) a (carryUpB i b (cond (isRefused a) w (restDown i l w)))
 
 unfoldable pub serverTakesB : ℕ → List (List ℕ) → List ℕ → List ℕ → WorldB → WorldB
 serverTakesB i [] o q w = w
-serverTakesB i (m ∷ l) o q w = let b = serverCalled m (w .server) o q in cond (eqb (b .number) 0) (carryDownB b (restUp i l w)) w
+serverTakesB i (m ∷ l) o q w = let b = serverCalled m (w .server) o q in carryDownB b (cond (eqb (b .number) 0) (restUp i l w) w)
 
 -- "Stations 0 to 7": there is no other to call
 unfoldable pub actB : CallB → WorldB → WorldB

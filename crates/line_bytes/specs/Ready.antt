@@ -75,7 +75,7 @@ station-server : (i : ℕ) (ms : List (List ℕ)) (o c : List ℕ) (b : WorldB) 
 unfolding stationTakesB carryUpB
 station-server i [] o c b = refl
 station-server i (x ∷ ms) o c b =
-    byB (isRefused (answerOf ((stepB x (b .station i) o c) .said .answer))) (λ e. rw e) (λ e. rw e (told-server i (b .asked i) _ _))
+    byB (isRefused (answerOf ((stepB x (b .station i) o c) .said .answer))) (λ e. rw e (told-server i (b .asked i) _ _)) (λ e. rw e (told-server i (b .asked i) _ _))
 
 station-model : (i : ℕ) (ds : List Down) (w : World) → (stationTakes i ds w) .world .server ≡ w .server
 unfolding stationTakes carryUp
@@ -85,7 +85,7 @@ station-model i (m ∷ ds) w =
 
 -- so does a call that number 1 turns back
 turned-server : (i : ℕ) (ms : List (List ℕ)) (o q : List ℕ) (b : WorldB) → ServerCall.ready (b .server) o q ≡ false → (serverTakesB i ms o q b) .server ≡ b .server
-unfolding serverTakesB serverCalled
+unfolding serverTakesB serverCalled carryDownB
 turned-server i [] o q b r = refl
 turned-server i (x ∷ ms) o q b r = rw r
 

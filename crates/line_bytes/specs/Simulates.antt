@@ -2,7 +2,7 @@
 -- model's, the archive has the bytes of the model's records, and owners are told the same.
 use Prim.Native.Nat.{ℕ, _≤_, _<_}
 use mathlib.Core.Path.{_≡_, refl, sym, ap, subst, _∙_, fun-ext}
-use mathlib.Core.Bool.{true, false, _&&_, cond}
+use mathlib.Core.Bool.{true, false, _&&_, cond, false≢true}
 use mathlib.Core.List.{List, [], _∷_, _++_, append-nil}
 use native.Mathlib.Omega.{arith}
 use lib.Dec.{eqb, ltb, leb}
@@ -27,7 +27,9 @@ use Rattle.message_meaning.specs.Meant.{downOf}
 use Rattle.message_meaning.specs.Sent.{Reads}
 use Rattle.station_state.specs.Layout.{station}
 use Rattle.station_state.specs.Valid.{valid}
-use Rattle.station_answer.specs.Did.{Outcome}
+use Rattle.station_answer.specs.declared.Answer as Enum
+use Rattle.station_answer.specs.declared.Answer.the-variants as Said
+use Rattle.station_answer.specs.Did.{said, Outcome, outcome}
 use Rattle.station_owner.specs.Owner.{ready}
 use Rattle.station_meaning.specs.Meant.{meant}
 use Rattle.station_meaning.specs.Meant as StationMeant
@@ -38,14 +40,14 @@ use Rattle.server_meaning.specs.Meant as ServerMeant
 use Rattle.server_meaning.specs.Tests.{wanting}
 use Rattle.server_actions.specs.Actions.{Serving}
 use Rattle.server_actions.specs.Pass.{serverStepB}
-use Rattle.server_actions.specs.Step.{kindsOf, checkStepB, laid, serverCalled}
+use Rattle.server_actions.specs.Step.{kindsOf, checkStepB, refused, laid, serverCalled}
 use Rattle.server_actions.specs.Step as ServerCall
 use Rattle.step_meaning.specs.Relation.{ReadAs, AllSent, Serves}
 use Rattle.step_meaning.specs.Accept.{unexpected-at, accept-means}
 use Rattle.step_meaning.specs.Pass.{step-means}
 use Rattle.call_meaning.specs.Relation.{answerOf}
 use Rattle.call_meaning.specs.Buffers.{messagesIn, sentBy}
-use Rattle.call_meaning.specs.Calls.{AllReads, performB, stepB, OpFits, owner-means, owner-unready, step-told}
+use Rattle.call_meaning.specs.Calls.{AllReads, performB, stepB, OpFits, owner-means, owner-unready, step-told, step-unchanged}
 use Rattle.call_meaning.specs.Calls as Calls
 use Rattle.line_bytes.specs.Bytes.{WorldB, CallB, OwnerB, ServerTakesB, StationTakesB, Fits, tellB, sentToB, restUp, restDown, carryUpB, carryDownB, ownerActsB, stationTakesB, serverTakesB, actB}
 use Rattle.line_bytes.specs.Served.{sound-of, kinds-read, archive-join, messages-are, records-are}
@@ -282,6 +284,32 @@ module _ (kinds : List ℕ) (ok : kindsOk kinds ≡ true) (i : ℕ) (l : i < 8) 
         notes = h .notes;
       }
 
+-- a refused step leaves all as it was
+module _ (i : ℕ) (b : WorldB) (o c x : List ℕ) (ms : List (List ℕ)) where
+  abbrev out : Outcome
+  out = stepB x (b .station i) o c
+
+  refused-at : (n : ℕ) → out .said .answer ≡ Said.Refused n → stationTakesB i (x ∷ ms) o c b ≡ b
+  unfolding stationTakesB tellB messagesIn
+  refused-at n e =
+      let all : out ≡ outcome (b .station i) o c (said (Said.Refused n) 0 0) = step-unchanged (b .station i) o c x n e in
+      ap (λ (y : Outcome). tellB i (b .asked i) (answerOf (y .said .answer)) (carryUpB i y (cond (isRefused (answerOf (y .said .answer))) b (restDown i ms b)))) all
+      ∙ carry-none i (outcome (b .station i) o c (said (Said.Refused n) 0 0)) b refl refl
+
+  step-refused : isRefused (answerOf (out .said .answer)) ≡ true → stationTakesB i (x ∷ ms) o c b ≡ b
+  step-refused = go (out .said .answer) refl
+    where
+      go : (a : Enum.Answer) → out .said .answer ≡ a → isRefused (answerOf a) ≡ true → stationTakesB i (x ∷ ms) o c b ≡ b
+      go (Said.Refused n) e f = refused-at n e
+      go (Said.Begun t) e f = absurd (false≢true f)
+      go (Said.Value v) e f = absurd (false≢true f)
+      go Said.Waits e f = absurd (false≢true f)
+      go Said.Written e f = absurd (false≢true f)
+      go (Said.Committed n) e f = absurd (false≢true f)
+      go (Said.Aborted n) e f = absurd (false≢true f)
+      go Said.Purged e f = absurd (false≢true f)
+      go Said.Nothing e f = absurd (false≢true f)
+
 module _ (kinds : List ℕ) (ok : kindsOk kinds ≡ true) (i : ℕ) (l : i < 8) (b : WorldB) (w : World) (o c : List ℕ) where
   -- "an accepted step takes the first message of its line, a refused call moves none"
   station-sim : (ms : List (List ℕ)) (ds : List Down) → AllDown i ms ds → ready (b .station i) o c ≡ true → Sim kinds b w
@@ -300,15 +328,35 @@ module _ (kinds : List ℕ) (ok : kindsOk kinds ≡ true) (i : ℕ) (l : i < 8) 
       let moved = carry-up kinds ok i l b₁ w₁ _ d t k (rest-down kinds ok i l b w ms ds (q .1) h) in
       let asks = ap (λ (f : ℕ → Op). f i) (h .notes .asked) in
       let after = tell-sim kinds i (b .asked i) (carryUpB i (stepB x (b .station i) o c) b₁) (carryUp i d w₁) (w .asked i) _ _ asks (t .answer) moved in
-      byB (isRefused (d .answer)) (λ e. rw (same, e) h) (λ e. rw (same, e) after)
+      byB (isRefused (d .answer))
+      (λ e. subst (λ (z : WorldB). Sim kinds z ((stationTakes i (m ∷ ds) w) .world)) (sym (step-refused i b o c x ms (same ∙ e))) (rw e h))
+      (λ e. rw (same, e) after)
 
   -- number 1
   station-still : (ms : List (List ℕ)) → ready (b .station i) o c ≡ false → stationTakesB i ms o c b ≡ b
   unfolding stationTakesB
   station-still [] r = refl
-  station-still (x ∷ ms) r = rw r
+  station-still (x ∷ ms) r = step-refused i b o c x ms (rw r)
 
 -- THE SERVER'S CALL
+
+-- a refused call leaves all as it was
+carry-refused : (n : ℕ) (o q : List ℕ) (b : WorldB) → carryDownB (refused n (b .server) o q) b ≡ b
+unfolding carryDownB messagesIn
+carry-refused n o q b =
+    let downs = fun-ext (λ j. append-nil (b .down j)) in
+    λ t.
+    record {
+      server = b .server;
+      station = b .station;
+      up = b .up;
+      down = downs t;
+      archive = append-nil (b .archive) t;
+      told = b .told;
+      sentDown = append-nil (b .sentDown) t;
+      number = b .number;
+      asked = b .asked;
+    }
 
 -- what a call that passes number 1 was lent
 pub record Lent (s o q : List ℕ) : Type 0 where
@@ -399,13 +447,13 @@ module _ (kinds : List ℕ) (size : length kinds ≡ 8) (i : ℕ) (l : i < 8) (b
       let ms₁ = messages-are s o q (t .messages) (t .records) (step-128 i u (w .server)) in
       let rs₁ = records-are s o q (t .messages) (t .records) (step-8 i u (w .server) l) in
       let moved = carry-down kinds size i l (restUp i ms b) (worldUp w (upd (w .up) i us)) o q _ _ s (server-kind i u (w .server)) ms₁ rs₁ (rest-up kinds size i l b w o q ms us (k .1) h) in
-      byB (unexpected i u (w .server)) (λ e. rw (r, check, e) h) (λ e. rw (r, check, e) moved)
+      byB (unexpected i u (w .server)) (λ e. rw (r, check, e, carry-refused 6 o q b) h) (λ e. rw (r, check, e) moved)
 
   -- number 1
   server-still : (ms : List (List ℕ)) → ServerCall.ready (b .server) o q ≡ false → serverTakesB i ms o q b ≡ b
   unfolding serverTakesB serverCalled
   server-still [] r = refl
-  server-still (x ∷ ms) r = rw r
+  server-still (x ∷ ms) r = rw r (carry-refused 1 o q b)
 
 -- EVERY CALL
 
