@@ -2,3 +2,7 @@
 pub mod Actions
 pub mod Pass
 pub mod Step
+pub mod Posting
+pub mod Parts
+pub mod Stores
+pub mod Chains

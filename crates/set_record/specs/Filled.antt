@@ -21,7 +21,7 @@ use Rattle.set_record.specs.Stores.{entryOne, entriesTo}
 
 -- STORES THAT DO NOT MEET CHANGE PLACES
 
-one-first : (y s : List ℕ) (p q v : ℕ) → p < q → set (sets s q y) p v ≡ sets (set s p v) q y
+pub one-first : (y s : List ℕ) (p q v : ℕ) → p < q → set (sets s q y) p v ≡ sets (set s p v) q y
 one-first [] s p q v h = refl
 one-first (w ∷ y) s p q v h =
     one-first y (set s q w) p (suc q) v (omega arith) ∙ ap (λ (l : List ℕ). sets l (suc q) y) (set-comm s q p w v (λ e. omega arith))

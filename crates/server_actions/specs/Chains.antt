@@ -1,0 +1,102 @@
+-- The calls of an action, one after the other, leave what its definition gives; and there is room for each.
+use Prim.Native.Nat.{ℕ, _+_, _*_, _/_, _≤_}
+use mathlib.Core.Path.{_≡_, refl, sym, ap, _∙_}
+use mathlib.Core.Bool.{true, false}
+use mathlib.Core.List.{List, [], _∷_}
+use native.Mathlib.Omega.{arith}
+use lib.ListN.{length}
+use lib.Seq.{sets}
+use Rattle.set_record.specs.Record.{recordFrom, Filled, filled, recordFilled}
+use Rattle.server_state.specs.Layout.{latestOf, lastOf, workNumber, kindOf, readSetFrom, readValuesFrom, writtenSetFrom, writtenValuesFrom}
+use Rattle.server_tests.specs.Tests.{informedB}
+use Rattle.server_changes.specs.Changes.{finishB, leaveB, listB, unlistB, writeB}
+use Rattle.server_actions.specs.Actions.{serving, pageB, abortedB, committedB, invalidateB, recordB, sendPageB, abortB, writtenPagesB, informB, informTo, installB}
+use Rattle.server_actions.specs.declared.Counts.{Counts}
+use Rattle.server_actions.specs.Posting.{from, Acts, counts, Posted, posted, post, post-none, post-one, post-both, posted-then, Room, room-first, room-next, acts-turns}
+use Rattle.server_actions.specs.Parts.{turns-informs, installedB, acts-installed, install-is}
+
+-- a record
+pub archive-chain : (q : List ℕ) (c : Counts) (i : ℕ) (s : List ℕ) {n t kind k : ℕ} {q₁ : List ℕ} → n ≡ lastOf s → t ≡ workNumber s i → kind ≡ kindOf s i
+    → filled q₁ k ≡ recordFilled q (c .records) (recordFrom s (readSetFrom i) (readValuesFrom i) (writtenSetFrom i) (writtenValuesFrom i) n t i kind)
+    → (q₁ ≡ sets q (c .records) (recordB i s)) × (counts (c .messages) (c .records + k) ≡ counts (c .messages) (c .records + length (recordB i s)))
+archive-chain q c i s en et ek e =
+    (ap (λ (p : Filled). p .out) e ∙ rw (en, et, ek), ap (λ (p : Filled). counts (c .messages) (c .records + p .count)) e ∙ rw (en, et, ek))
+
+module _ (o q : List ℕ) (c : Counts) where
+  one-fits : (t m : List ℕ) (ms rs : List (List ℕ)) → Room o q c (serving t (m ∷ ms) rs) → c .messages * 112 + 112 ≤ length o
+  one-fits t m ms rs r = omega (arith, r .messages)
+
+  sent-chain : (t m : List ℕ) {s₁ o₁ : List ℕ} {r : Counts} → o₁ ≡ sets o (c .messages * 112) m → s₁ ≡ t → r ≡ counts (c .messages + 1) (c .records)
+      → posted s₁ o₁ q r ≡ post o q c (serving t (m ∷ []) [])
+  sent-chain t m eo es er = rw (eo, es, er) (post-one o q c t m)
+
+  -- A PAGE
+
+  pub page-fits : (kind i a u : ℕ) (s : List ℕ) → Room o q c (sendPageB kind i a u (from s)) → c .messages * 112 + 112 ≤ length o
+  unfolding sendPageB
+  page-fits kind i a u s = one-fits (listB i (a / 8) s) (pageB kind i a u s) [] []
+
+  pub page-chain : (kind i a u : ℕ) (s : List ℕ) {s₁ o₁ : List ℕ} {r : Counts} → o₁ ≡ sets o (c .messages * 112) (pageB kind i a u s) → s₁ ≡ listB i (a / 8) s
+      → r ≡ counts (c .messages + 1) (c .records) → posted s₁ o₁ q r ≡ post o q c (sendPageB kind i a u (from s))
+  unfolding sendPageB
+  page-chain kind i a u s = sent-chain (listB i (a / 8) s) (pageB kind i a u s)
+
+  -- 22
+
+  pub abort-fits : (i cause : ℕ) (s : List ℕ) → Room o q c (abortB i cause (from s)) → c .messages * 112 + 112 ≤ length o
+  unfolding abortB
+  abort-fits i cause s = let t = finishB i (leaveB i s) in one-fits t (abortedB i (latestOf t i) cause) [] []
+
+  pub abort-chain : (i cause : ℕ) (s : List ℕ) {t : ℕ} {s₁ s₂ o₁ : List ℕ} {r : Counts} → s₁ ≡ leaveB i s → s₂ ≡ finishB i s₁ → t ≡ latestOf s₂ i
+      → o₁ ≡ sets o (c .messages * 112) (abortedB i t cause) → r ≡ counts (c .messages + 1) (c .records)
+      → posted s₂ o₁ q r ≡ post o q c (abortB i cause (from s))
+  unfolding abortB
+  abort-chain i cause s e₁ e₂ et eo er =
+      let t = finishB i (leaveB i s) in
+      sent-chain t (abortedB i (latestOf t i) cause) (eo ∙ rw (et, e₂, e₁)) (rw (e₂, e₁)) er
+
+  -- 23
+
+  pub inform-fits : (i d j : ℕ) (s : List ℕ) → informedB s i d j ≡ true → Room o q c (informB i d (from s) j) → c .messages * 112 + 112 ≤ length o
+  unfolding informB
+  inform-fits i d j s e r = one-fits (unlistB j d s) (invalidateB j d) [] [] (rw e at r)
+
+  pub inform-chain : (i d j : ℕ) (s : List ℕ) {s₁ o₁ : List ℕ} {r : Counts} → informedB s i d j ≡ true → o₁ ≡ sets o (c .messages * 112) (invalidateB j d) → s₁ ≡ unlistB j d s
+      → r ≡ counts (c .messages + 1) (c .records) → posted s₁ o₁ q r ≡ post o q c (informB i d (from s) j)
+  unfolding informB
+  inform-chain i d j s e eo es er = rw e (sent-chain (unlistB j d s) (invalidateB j d) eo es er)
+
+  pub inform-none : (i d j : ℕ) (s : List ℕ) → informedB s i d j ≡ false → posted s o q c ≡ post o q c (informB i d (from s) j)
+  unfolding informB
+  inform-none i d j s e = rw e (post-none o q c s)
+
+  -- A RECORD AND 21
+
+  module _ (i : ℕ) (s : List ℕ) where
+    pub installed-fits : Room o q c (installedB i (from s)) → (c .messages * 112 + 112 ≤ length o) × (c .records + 4624 ≤ length q)
+    unfolding installedB
+    installed-fits r = (omega (arith, r .messages), omega (arith, r .records))
+
+    pub installed-chain : {t n : ℕ} {s₁ s₂ s₃ o₁ q₁ : List ℕ} {e r : Counts} → t ≡ workNumber s i → s₁ ≡ writeB i s
+        → (q₁ ≡ sets q (c .records) (recordB i s₁)) × (e ≡ counts (c .messages) (c .records + length (recordB i s₁)))
+        → s₂ ≡ leaveB i s₁ → s₃ ≡ finishB i s₂ → n ≡ lastOf s₃ → o₁ ≡ sets o (e .messages * 112) (committedB i t n) → r ≡ counts (e .messages + 1) (e .records)
+        → posted s₃ o₁ q₁ r ≡ post o q c (installedB i (from s))
+    unfolding installedB
+    installed-chain et e₁ (eq, ee) e₂ e₃ en eo er =
+        let z = finishB i (leaveB i (writeB i s)) in
+        rw (er, eo, en, eq, ee, et, e₃, e₂, e₁) (post-both o q c z (committedB i (workNumber s i) (lastOf z)) (recordB i (writeB i s)))
+
+    pub install-first : Room o q c (installB i (from s)) → Room o q c (installedB i (from s))
+    install-first r =
+        room-first o q c (acts-turns (turns-informs i (writtenPagesB s i)) 8) (installedB i (from s)) (rw (← install-is i (from s)) r)
+
+    module _ {d : ℕ} {s₁ o₁ q₁ : List ℕ} {b : Counts} (ed : d ≡ writtenPagesB s i) (e : posted s₁ o₁ q₁ b ≡ post o q c (installedB i (from s))) where
+      pub install-next : Room o q c (installB i (from s)) → Room o₁ q₁ b (informTo i d (from s₁) 8)
+      install-next r =
+          rw ed
+          (room-next o q c (acts-turns (turns-informs i (writtenPagesB s i)) 8) (installedB i (from s)) (acts-installed i .short s) e (rw (← install-is i (from s)) r))
+
+      pub install-chain : {p : Posted} → p ≡ post o₁ q₁ b (informTo i d (from s₁) 8) → p ≡ post o q c (installB i (from s))
+      install-chain f =
+          posted-then (acts-turns (turns-informs i (writtenPagesB s i)) 8) o q c (installedB i (from s)) e (f ∙ ap (λ (k : ℕ). post o₁ q₁ b (informTo i k (from s₁) 8)) ed)
+          ∙ ap (post o q c) (sym (install-is i (from s)))
