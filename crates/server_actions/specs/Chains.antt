@@ -23,10 +23,10 @@ archive-chain q c i s en et ek e =
     (ap (λ (p : Filled). p .out) e ∙ rw (en, et, ek), ap (λ (p : Filled). counts (c .messages) (c .records + p .count)) e ∙ rw (en, et, ek))
 
 module _ (o q : List ℕ) (c : Counts) where
-  one-fits : (t m : List ℕ) (ms rs : List (List ℕ)) → Room o q c (serving t (m ∷ ms) rs) → c .messages * 112 + 112 ≤ length o
+  pub one-fits : (t m : List ℕ) (ms rs : List (List ℕ)) → Room o q c (serving t (m ∷ ms) rs) → c .messages * 112 + 112 ≤ length o
   one-fits t m ms rs r = omega (arith, r .messages)
 
-  sent-chain : (t m : List ℕ) {s₁ o₁ : List ℕ} {r : Counts} → o₁ ≡ sets o (c .messages * 112) m → s₁ ≡ t → r ≡ counts (c .messages + 1) (c .records)
+  pub sent-chain : (t m : List ℕ) {s₁ o₁ : List ℕ} {r : Counts} → o₁ ≡ sets o (c .messages * 112) m → s₁ ≡ t → r ≡ counts (c .messages + 1) (c .records)
       → posted s₁ o₁ q r ≡ post o q c (serving t (m ∷ []) [])
   sent-chain t m eo es er = rw (eo, es, er) (post-one o q c t m)
 

@@ -16,7 +16,8 @@ pub struct Counts {
     pub records: usize,
 }
 
-fn one_more(c: Counts) -> Counts
+// One message more stands in o.
+pub fn one_more(c: Counts) -> Counts
     requires { ⌜ c .messages < 9223372036854775808 ⌝ }
     ensures { λ r. ⌜ r ≡ counts (c .messages + 1) (c .records) ⌝ }
 {

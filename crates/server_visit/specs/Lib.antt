@@ -1,0 +1,2 @@
+-- A waiter's turn: what its calls leave is what the definitions of server_actions give.
+pub mod Visits
