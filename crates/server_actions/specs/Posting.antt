@@ -226,7 +226,7 @@ pub record Turns (f g : Serving → ℕ → Serving) : Type 0 where
   pub next : (x : Serving) (n : ℕ) → f x (suc n) ≡ g (f x n) n
   pub acts : (n : ℕ) → Acts (λ x. g x n)
 
-acts-same : {f g : Serving → Serving} → ((x : Serving) → f x ≡ g x) → Acts g → Acts f
+pub acts-same : {f g : Serving → Serving} → ((x : Serving) → f x ≡ g x) → Acts g → Acts f
 acts-same h a = record { grows = λ x. h x ∙ a .grows x ∙ ap (behind x) (sym (h (from (x .state)))); short = λ s. rw (h (from s)) (a .short s) }
 
 pub acts-turns : {f g : Serving → ℕ → Serving} → Turns f g → (n : ℕ) → Acts (λ x. f x n)

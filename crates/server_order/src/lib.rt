@@ -7,35 +7,35 @@ ghost use lib.ListN.{length, getD};
 ghost use Rattle.station_state.specs.Layout.{hasBit};
 ghost use Rattle.server_order.specs.Order.{comesFirst, firstTo, edgesTo, spreadTo, grownTo, onCycleB, youngerB, youngestTo, victimB};
 
-// Whether n takes the place of r, the first so far, among the waiters that did not arrive before b. For r = 8, none, the eight bytes
-// behind the arrivals are read and not used.
-fn comes_first(s: &[u8], b: u64, r: usize, n: usize) -> bool
+// Whether n takes the place of r, the first so far, among the waiters that arrived behind a (or any, if so). For r = 8, none, the eight
+// bytes behind the arrivals are read and not used.
+fn comes_first(s: &[u8], any: bool, a: u64, r: usize, n: usize) -> bool
     requires { ⌜ (length (now s) ≡ 37072) × (r ≤ 8) × (n < 8) ⌝ }
-    ensures { λ x. ⌜ x ≡ comesFirst (now (s .entry)) b r n ⌝ }
+    ensures { λ x. ⌜ x ≡ comesFirst (now (s .entry)) (cond any 0 (a + 1)) r n ⌝ }
 {
-    let a = le::get_u64(s, 34880 + n * 8);
-    (s[37024 + n] != 0) & !(a < b) & ((r == 8) | (a < le::get_u64(s, 34880 + r * 8)))
+    let b = le::get_u64(s, 34880 + n * 8);
+    (s[37024 + n] != 0) & (any | (a < b)) & ((r == 8) | (b < le::get_u64(s, 34880 + r * 8)))
 }
 
-fn first_of(s: &[u8], b: u64, r: usize, n: usize) -> usize
+fn first_of(s: &[u8], any: bool, a: u64, r: usize, n: usize) -> usize
     requires { ⌜ (length (now s) ≡ 37072) × (r ≤ 8) × (n < 8) ⌝ }
-    ensures { λ x. ⌜ (x ≡ cond (comesFirst (now (s .entry)) b r n) n r) × (x ≤ 8) ⌝ }
+    ensures { λ x. ⌜ (x ≡ cond (comesFirst (now (s .entry)) (cond any 0 (a + 1)) r n) n r) × (x ≤ 8) ⌝ }
 {
-    if comes_first(s, b, r, n) {
+    if comes_first(s, any, a, r, n) {
         return n;
     }
     r
 }
 
-// The waiter that arrived first, not before b; 8 for none.
-pub fn first(s: &[u8], b: u64) -> usize
+// The waiter that arrived first behind a (or of all, if any); 8 for none.
+pub fn first(s: &[u8], any: bool, a: u64) -> usize
     requires { ⌜ length (now s) ≡ 37072 ⌝ }
-    ensures { λ x. ⌜ (x ≡ firstTo (now (s .entry)) b 8) × (x ≤ 8) ⌝ }
+    ensures { λ x. ⌜ (x ≡ firstTo (now (s .entry)) (cond any 0 (a + 1)) 8) × (x ≤ 8) ⌝ }
 {
     let mut r: usize = 8;
     let mut n = 0;
     while n < 8 {
-        r = first_of(s, b, r, n);
+        r = first_of(s, any, a, r, n);
         n += 1;
     }
     r

@@ -347,17 +347,17 @@ pass-means [] a h = h
 pass-means (i ∷ js) a h = pass-means js (a .1) (visit-means h i (a .0))
 
 -- as many messages over bytes as in the model
-sent-length : (ms : List (List ℕ)) (xs : List Sent) → AllSent ms xs → length ms ≡ length xs
+pub sent-length : (ms : List (List ℕ)) (xs : List Sent) → AllSent ms xs → length ms ≡ length xs
 sent-length [] [] h = refl
 sent-length [] (x ∷ xs) h = absurd h
 sent-length (m ∷ ms) [] h = absurd h
 sent-length (m ∷ ms) (x ∷ xs) h = ap suc (sent-length ms xs (h .1))
 
-moved-at : {b c : Serving} {x y : Model.Serving} → Serves b x → Serves c y → movedB b c ≡ moved x y
+pub moved-at : {b c : Serving} {x y : Model.Serving} → Serves b x → Serves c y → movedB b c ≡ moved x y
 moved-at {b} {c} {x} {y} h k = rw (sent-length (b .sent) (x .sent) (h .sent), sent-length (c .sent) (y .sent) (k .sent))
 
 -- "the youngest in any cycle gets 22, cause 1"
-victim-means : {b : Serving} {x : Model.Serving} → Serves b x → eqb (victim (x .server)) 8 ≡ false → Serves (abortB (victim (x .server)) 1 b) (abort (victim (x .server)) 1 x)
+pub victim-means : {b : Serving} {x : Model.Serving} → Serves b x → eqb (victim (x .server)) 8 ≡ false → Serves (abortB (victim (x .server)) 1 b) (abort (victim (x .server)) 1 x)
 victim-means {b} {x} h e =
     let v = victim-waits (x .server) e in
     abort-means h (victim (x .server)) 1 (v .0) (omega arith) (omega arith) (h .sound .numbered (victim (x .server)) (v .0) (v .1))

@@ -1,5 +1,5 @@
 -- `server_order::comes_first` meets its contract.
-use Rattle.server_order.specs.Order.{comesFirst}
+use Rattle.server_order.specs.Order.{comesFirst, behind-is}
 use borrow.Author.Needs.{needs}
 use Rattle.server_order.proofs.comes_first.Statement.{statement}
 use Rattle.server_order.proofs.comes_first.Tie as tie
@@ -30,7 +30,7 @@ get-u64-requires-2 c κs = search needs
 
 returns : tie.Need-returns
 unfolding comesFirst
-returns c = cc
+returns c = rw behind-is (cc)
 
 pub comes-first-spec : {M : Type 1} → statement M
 comes-first-spec =

@@ -1,5 +1,6 @@
 -- `server_order::first` meets its contract. The loop's invariant: the answer is the definition's at the count of stations passed.
-use Prim.Native.Nat.{_≤_, _-_}
+use Prim.Native.Nat.{_≤_, _+_, _-_}
+use mathlib.Core.Bool.{cond}
 use mathlib.Core.Path.{_≡_, ap, _∙_}
 use native.Mathlib.Numerals.{add-one}
 use native.Mathlib.Omega.{arith}
@@ -9,10 +10,10 @@ use Rattle.server_order.proofs.first.Statement.{statement}
 use Rattle.server_order.proofs.first.Tie as tie
 
 abbrev Inv-loop : tie.InvT-loop
-Inv-loop s b r₀ n₀ r n = (n ≤ 8) × (r ≤ 8) × (r ≡ firstTo s b n)
+Inv-loop s any a r₀ n₀ r n = (n ≤ 8) × (r ≤ 8) × (r ≡ firstTo s (cond any 0 (a + 1)) n)
 
 abbrev μ-loop : tie.MeasureT-loop
-μ-loop s b r₀ n₀ r n = 8 - n
+μ-loop s any a r₀ n₀ r n = 8 - n
 
 loop-holds : tie.Need-loop-holds Inv-loop μ-loop
 unfolding firstTo
@@ -29,7 +30,7 @@ loop-less c = search needs
 
 loop-again : tie.Need-loop-again Inv-loop μ-loop
 unfolding firstTo
-loop-again c = (search needs, c .first-of .ensures .1, rw add-one (cc))
+loop-again c = (search needs, c .first-of .ensures .1, rw (add-one (c .before .before .loop .n)) (cc))
 
 returns : tie.Need-returns Inv-loop μ-loop
 returns c = (c .before .loop .inv .2 ∙ ap (firstTo _ _) (omega arith), c .before .loop .inv .1)

@@ -1,0 +1,6 @@
+-- The pass over the waiting list, and the rounds of it until nothing changes.
+pub mod Sane
+pub mod Seats
+pub mod Rounds
+pub mod Calls
+pub mod Goes
