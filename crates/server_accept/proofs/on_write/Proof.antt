@@ -1,0 +1,44 @@
+use borrow.Author.Needs.{needs}
+use Rattle.server_accept.proofs.on_write.Statement.{statement}
+use Rattle.server_accept.proofs.on_write.Tie as tie
+use Rattle.server_accept.proofs.on_write.Reads as reads
+use Rattle.server_accept.proofs.on_write.Lts as lts
+use Rattle.server_accept.proofs.address.Reads as address-reads
+use Rattle.server_accept.proofs.noticed.Reads as noticed-reads
+use Rattle.server_accept.proofs.station.Reads as station-reads
+use Rattle.server_changes.proofs.join_write.Reads as join-write-reads
+
+-- src/lib.rt:72:5
+noticed-requires : tie.Need-noticed-requires
+noticed-requires c κs = search needs
+
+-- src/lib.rt:73:35
+station-requires : tie.Need-station-requires
+station-requires c κs = search needs
+
+-- src/lib.rt:73:47
+address-requires : tie.Need-address-requires
+address-requires c κs = search needs
+
+-- src/lib.rt:73:5
+join-write-requires : tie.Need-join-write-requires
+join-write-requires c κs = ?
+
+-- src/lib.rt:68:1
+same-length : tie.Need-same-length
+same-length c = search needs
+
+-- src/lib.rt:68:1
+returns : tie.Need-returns
+returns c = ?
+
+pub on-write-spec : {M : Type 1} → statement M
+on-write-spec =
+    tie.close
+    (tie.spec
+    noticed-requires
+    station-requires
+    address-requires
+    join-write-requires
+    same-length
+    returns)

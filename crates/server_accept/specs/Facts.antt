@@ -1,0 +1,70 @@
+-- What the acceptance of a message asks for, and what of it stays when the message's transaction is noticed.
+use Prim.Native.Nat.{ℕ, _+_, _*_, _≤_, _<_}
+use mathlib.Core.Path.{_≡_, refl, sym, _∙_}
+use mathlib.Core.Logic.{_⊎_, inl, inr}
+use mathlib.Core.List.{List}
+use native.Mathlib.Omega.{arith}
+use lib.ListN.{length, getD, set}
+use lib.Seq.{getD-set-other}
+use Rattle.sets.specs.Laws.{byEq}
+use Rattle.le.specs.Le.{setU32, setU64}
+use Rattle.le.specs.Laws.{u64At-is, setU32-is}
+use Rattle.cells.specs.Num.{put-other, num-frame}
+use Rattle.cells.specs.Le.{setU64-is}
+use Rattle.message.specs.Layout.{stationOf, pageOf, requesterOf, transactionOf}
+use Rattle.message.specs.Layout as Message
+use Rattle.message.specs.Commit.{entriesOf}
+use Rattle.server_state.specs.Layout.{agesOf, arrivalsOf, latestOf, lastOf}
+use Rattle.server_changes.specs.Changes.{noticeB, leaveB, unpackB}
+use Rattle.server_actions.specs.Actions.{addressOf}
+
+-- the record of a commit is whole
+pub record Packed (m : List ℕ) : Type 0 where
+  pub front : 256 ≤ length m
+  pub entries : 256 + 9 * entriesOf m ≤ length m
+
+-- what a commit brings leaves the last commit number
+abbrev pub LastKept : ℕ → List ℕ → List ℕ → Type 0
+LastKept i m s = lastOf (unpackB i m (leaveB i s)) ≡ lastOf s
+
+pub record Acceptable (s m : List ℕ) : Type 0 where
+  pub length-is : 112 ≤ length m
+  pub station : stationOf m < 8
+  pub kind : (1 ≤ Message.kindOf m) × (Message.kindOf m ≤ 8)
+  pub address : Message.kindOf m ≤ 2 → addressOf m < 256
+  pub commit : Message.kindOf m ≡ 3 → Packed m
+  pub last : Message.kindOf m ≡ 3 → LastKept (stationOf m) m (noticeB (stationOf m) (transactionOf m) s)
+  pub page : Message.kindOf m ≡ 5 → pageOf m < 32
+  pub requester : 6 ≤ Message.kindOf m → Message.kindOf m ≤ 7 → requesterOf m < 8
+  pub loosened : Message.kindOf m ≡ 8 → pageOf m < 32
+  pub ages : agesOf s < 9223372036854775808
+  pub arrivals : arrivalsOf s < 9223372036854775808
+
+u64-other : (s : List ℕ) (at v j : ℕ) → (j < at) ⊎ (at + 8 ≤ j) → getD (setU64 s at v) j 0 ≡ getD s j 0
+u64-other s at v j h = rw (setU64-is s at v) (put-other 8 s at v j h)
+
+u32-other : (s : List ℕ) (at v j : ℕ) → (j < at) ⊎ (at + 4 ≤ j) → getD (setU32 s at v) j 0 ≡ getD s j 0
+u32-other s at v j h = rw (setU32-is s at v) (put-other 4 s at v j h)
+
+-- the next arrival stands behind ages and before transactions
+notice-other : (i t : ℕ) (s : List ℕ) → i < 8 → (j : ℕ) → 34952 ≤ j → j < 34960 → getD (noticeB i t s) j 0 ≡ getD s j 0
+unfolding noticeB
+notice-other i t s l j a b =
+    let s₁ = setU64 s (34816 + i * 8) (agesOf s) in
+    let s₂ = setU64 s₁ 34944 (agesOf s + 1) in
+    let s₃ = set s₂ (37064 + i) 1 in
+    byEq t (latestOf s i) (λ e. rw e)
+    (λ e.
+    rw e
+    (u32-other s₃ (36144 + i * 4) t j (inl (omega arith))
+    ∙ getD-set-other s₂ (37064 + i) j 1 0 (λ d. omega arith)
+    ∙ u64-other s₁ 34944 (agesOf s + 1) j (inr (omega arith))
+    ∙ u64-other s (34816 + i * 8) (agesOf s) j (inr (omega arith))))
+
+pub notice-arrivals : (i t : ℕ) (s : List ℕ) → i < 8 → arrivalsOf (noticeB i t s) ≡ arrivalsOf s
+notice-arrivals i t s l =
+    u64At-is (noticeB i t s) 34952 ∙ num-frame 8 (noticeB i t s) s 34952 (λ j a b. notice-other i t s l j a (omega arith)) ∙ sym (u64At-is s 34952)
+
+pub arrivals-fit : (i t : ℕ) (s : List ℕ) → i < 8 → arrivalsOf s < 9223372036854775808 → {s₁ : List ℕ} → s₁ ≡ noticeB i t s
+    → arrivalsOf s₁ < 9223372036854775808
+arrivals-fit i t s l h e = rw (e, notice-arrivals i t s l) h
