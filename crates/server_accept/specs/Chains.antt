@@ -61,6 +61,41 @@ module _ (i : ℕ) (m s : List ℕ) where
   unfolding commitNowB
   commit-installs d e₁ e₂ = rw (ne-eqb _ _ d, e₂, e₁)
 
+-- ANSWERS
+
+module _ (m s : List ℕ) {i r t : ℕ} {w : Bool} (ei : i ≡ stationOf m) (er : r ≡ pageOf m) (et : t ≡ transactionOf m) where
+  module _ (ew : w ≡ openCallB s i r t) where
+    calls : openCallB s (stationOf m) (requesterOf m) (transactionOf m) ≡ w
+    calls = rw (ew, ei, er, et)
+
+    pub busy-open : {s₁ : List ℕ} → w ≡ true → s₁ ≡ markBusyB i r s → s₁ ≡ onBusyB m (from s) .state
+    unfolding onBusyB
+    busy-open h e = rw (calls ∙ h, e, ei, er)
+
+    pub busy-late : w ≡ false → s ≡ onBusyB m (from s) .state
+    unfolding onBusyB
+    busy-late h = rw (calls ∙ h)
+
+    pub done-open : {d : ℕ} {s₁ s₂ : List ℕ} → d ≡ pagesOf m → w ≡ true → s₁ ≡ unlistB i d s → s₂ ≡ answeredB i r s₁ → s₂ ≡ onDoneB m (from s) .state
+    unfolding onDoneB
+    done-open ed h e₁ e₂ = rw (calls ∙ h, e₂, e₁, ed, ei, er)
+
+    pub done-late : {d : ℕ} {s₁ : List ℕ} → d ≡ pagesOf m → w ≡ false → s₁ ≡ unlistB i d s → s₁ ≡ onDoneB m (from s) .state
+    unfolding onDoneB
+    done-late ed h e₁ = rw (calls ∙ h, e₁, ed, ei)
+
+  module _ (ew : w ≡ openAskB s i r t) where
+    asks : openAskB s (stationOf m) (pageOf m) (transactionOf m) ≡ w
+    asks = rw (ew, ei, er, et)
+
+    pub set-open : {s₁ : List ℕ} → w ≡ true → s₁ ≡ loosenB i r (setOf m 0) s → s₁ ≡ onWrittenSetB m (from s) .state
+    unfolding onWrittenSetB
+    set-open h e = rw (asks ∙ h, e, ei, er)
+
+    pub set-late : w ≡ false → s ≡ onWrittenSetB m (from s) .state
+    unfolding onWrittenSetB
+    set-late h = rw (asks ∙ h)
+
 -- WHAT SENDS NOTHING
 
 pub write-still : (m s : List ℕ) → onWriteB m (from s) ≡ from (onWriteB m (from s) .state)

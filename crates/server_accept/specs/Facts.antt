@@ -1,7 +1,7 @@
 -- What the acceptance of a message asks for, and what of it stays when the message's transaction is noticed.
 use Prim.Native.Nat.{ℕ, _+_, _*_, _≤_, _<_}
 use mathlib.Core.Path.{_≡_, refl, sym, _∙_}
-use mathlib.Core.Logic.{_⊎_, inl, inr}
+use mathlib.Core.Logic.{_≢_, _⊎_, inl, inr}
 use mathlib.Core.List.{List}
 use native.Mathlib.Omega.{arith}
 use lib.ListN.{length, getD, set}
@@ -68,3 +68,14 @@ notice-arrivals i t s l =
 pub arrivals-fit : (i t : ℕ) (s : List ℕ) → i < 8 → arrivalsOf s < 9223372036854775808 → {s₁ : List ℕ} → s₁ ≡ noticeB i t s
     → arrivalsOf s₁ < 9223372036854775808
 arrivals-fit i t s l h e = rw (e, notice-arrivals i t s l) h
+
+pub last-noticed : (m s : List ℕ) {i : ℕ} {s₁ : List ℕ} → i ≡ stationOf m → s₁ ≡ noticeB (stationOf m) (transactionOf m) s
+    → LastKept (stationOf m) m (noticeB (stationOf m) (transactionOf m) s) → LastKept i m s₁
+last-noticed m s ei e h = rw (ei, e) h
+
+-- a last number n that is not the last of all has a next one
+pub last-fits : (i : ℕ) (m s : List ℕ) {n : ℕ} {s₁ s₂ : List ℕ} → LastKept i m s → n ≡ lastOf s → n < 4294967296 → n ≢ 4294967295
+    → s₁ ≡ leaveB i s → s₂ ≡ unpackB i m s₁ → lastOf s₂ < 4294967295
+last-fits i m s h en l d e₁ e₂ =
+    let k : lastOf (unpackB i m (leaveB i s)) < 4294967295 = omega (arith, h, en, l, d) in
+    rw (e₂, e₁) k

@@ -1,3 +1,8 @@
+use Prim.Native.Nat.{_<_}
+use native.Mathlib.Omega.{arith}
+use mathlib.Core.Path.{sym, _∙_}
+use Rattle.server_accept.specs.Facts.{last-fits}
+use Rattle.server_accept.specs.Chains.{room-as, post-as, commit-aborts, commit-installs}
 use borrow.Author.Needs.{needs}
 use Rattle.server_accept.proofs.commit_now.Statement.{statement}
 use Rattle.server_accept.proofs.commit_now.Tie as tie
@@ -15,7 +20,7 @@ get-u32-requires c κs = search needs
 
 -- src/lib.rt:82:9
 abort-requires : tie.Need-abort-requires
-abort-requires c κs = ?
+abort-requires c κs = (search needs, search needs, room-as _ _ _ (commit-aborts _ _ _ (sym (c .before .before .before .before .get-u32 .ensures) ∙ c .before .before .before .if1 .taken)) (c .before .before .before .before .before .before .before .before .before .before .pre .4))
 
 -- src/lib.rt:82:9
 same-length : tie.Need-same-length
@@ -31,7 +36,7 @@ same-length-3 c = search needs
 
 -- src/lib.rt:82:9
 returns : tie.Need-returns
-returns c = ?
+returns c = post-as _ _ _ (commit-aborts _ _ _ (sym (c .before .before .before .before .before .before .before .before .before .before .before .get-u32 .ensures) ∙ c .before .before .before .before .before .before .before .before .before .before .if1 .taken)) (c .before .before .before .before .before .before .abort .ensures)
 
 -- src/lib.rt:84:5
 leave-requires : tie.Need-leave-requires
@@ -43,7 +48,7 @@ unpack-commit-requires c κs = search needs
 
 -- src/lib.rt:86:5
 install-requires : tie.Need-install-requires
-install-requires c κs = ?
+install-requires c κs = (search needs, search needs, last-fits _ _ _ (c .before .before .before .before .before .before .before .before .before .before .before .before .before .before .before .before .before .before .pre .3) (c .before .before .before .before .before .before .before .before .before .before .before .before .get-u32 .ensures) (search needs) (c .before .before .before .before .before .before .before .before .before .before .before .if1 .left) (c .before .before .before .before .before .before .before .before .before .leave .ensures) (c .before .before .before .before .before .unpack-commit .ensures), room-as _ _ _ (commit-installs _ _ _ (λ e. c .before .before .before .before .before .before .before .before .before .before .before .if1 .left (c .before .before .before .before .before .before .before .before .before .before .before .before .get-u32 .ensures ∙ e)) (c .before .before .before .before .before .before .before .before .before .leave .ensures) (c .before .before .before .before .before .unpack-commit .ensures)) (c .before .before .before .before .before .before .before .before .before .before .before .before .before .before .before .before .before .before .pre .4))
 
 -- src/lib.rt:77:1
 same-length-4 : tie.Need-same-length-4
@@ -59,7 +64,7 @@ same-length-6 c = search needs
 
 -- src/lib.rt:77:1
 returns-2 : tie.Need-returns-2
-returns-2 c = ?
+returns-2 c = post-as _ _ _ (commit-installs _ _ _ (λ e. c .before .before .before .before .before .before .before .before .before .before .before .before .before .before .before .before .before .before .if1 .left (c .before .before .before .before .before .before .before .before .before .before .before .before .before .before .before .before .before .before .before .get-u32 .ensures ∙ e)) (c .before .before .before .before .before .before .before .before .before .before .before .before .before .before .before .before .leave .ensures) (c .before .before .before .before .before .before .before .before .before .before .before .before .unpack-commit .ensures)) (c .before .before .before .before .before .before .install .ensures)
 
 pub commit-now-spec : {M : Type 1} → statement M
 commit-now-spec =

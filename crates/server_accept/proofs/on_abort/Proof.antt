@@ -1,3 +1,4 @@
+use Rattle.server_actions.specs.Actions.{onAbortB, noticedB}
 use borrow.Author.Needs.{needs}
 use Rattle.server_accept.proofs.on_abort.Statement.{statement}
 use Rattle.server_accept.proofs.on_abort.Tie as tie
@@ -25,7 +26,8 @@ same-length c = search needs
 
 -- src/lib.rt:104:1
 returns : tie.Need-returns
-returns c = ?
+unfolding onAbortB noticedB
+returns c = cc
 
 pub on-abort-spec : {M : Type 1} → statement M
 on-abort-spec =

@@ -1,3 +1,4 @@
+use Rattle.server_accept.specs.Chains.{busy-open, busy-late}
 use borrow.Author.Needs.{needs}
 use Rattle.server_accept.proofs.on_busy.Statement.{statement}
 use Rattle.server_accept.proofs.on_busy.Tie as tie
@@ -35,7 +36,7 @@ same-length c = search needs
 
 -- src/lib.rt:128:9
 returns : tie.Need-returns
-returns c = ?
+returns c = busy-open _ _ (c .before .before .before .before .before .before .before .before .before .station .ensures) (c .before .before .before .before .before .before .before .before .named .ensures) (c .before .before .before .before .before .before .get-u32 .ensures) (c .before .before .before .before .before .open-call .ensures) (c .before .before .before .before .if1 .taken) (c .before .before .mark-busy .ensures)
 
 -- src/lib.rt:120:1
 same-length-2 : tie.Need-same-length-2
@@ -43,7 +44,7 @@ same-length-2 c = search needs
 
 -- src/lib.rt:120:1
 returns-2 : tie.Need-returns-2
-returns-2 c = ?
+returns-2 c = busy-late _ _ (c .before .before .before .before .before .station .ensures) (c .before .before .before .before .named .ensures) (c .before .before .get-u32 .ensures) (c .before .open-call .ensures) (c .if1 .left)
 
 pub on-busy-spec : {M : Type 1} → statement M
 on-busy-spec =

@@ -1,3 +1,4 @@
+use Rattle.server_accept.specs.Chains.{done-open, done-late}
 use borrow.Author.Needs.{needs}
 use Rattle.server_accept.proofs.on_done.Statement.{statement}
 use Rattle.server_accept.proofs.on_done.Tie as tie
@@ -44,7 +45,7 @@ same-length c = search needs
 
 -- src/lib.rt:143:9
 returns : tie.Need-returns
-returns c = ?
+returns c = done-open _ _ (c .before .before .before .before .before .before .before .before .before .before .before .before .before .before .station .ensures) (c .before .before .before .before .before .before .before .before .before .before .before .before .before .named .ensures) (c .before .before .before .before .before .before .before .before .before .before .before .get-u32 .ensures) (c .before .before .before .before .before .before .before .before .before .before .open-call .ensures) (c .before .before .before .before .before .before .before .before .get-u322 .ensures) (c .before .before .before .before .if1 .taken) (c .before .before .before .before .before .before .before .unlist .ensures) (c .before .before .answered .ensures)
 
 -- src/lib.rt:133:1
 same-length-2 : tie.Need-same-length-2
@@ -52,7 +53,7 @@ same-length-2 c = search needs
 
 -- src/lib.rt:133:1
 returns-2 : tie.Need-returns-2
-returns-2 c = ?
+returns-2 c = done-late _ _ (c .before .before .before .before .before .before .before .before .before .before .station .ensures) (c .before .before .before .before .before .before .before .before .before .named .ensures) (c .before .before .before .before .before .before .before .get-u32 .ensures) (c .before .before .before .before .before .before .open-call .ensures) (c .before .before .before .before .get-u322 .ensures) (c .if1 .left) (c .before .before .before .unlist .ensures)
 
 pub on-done-spec : {M : Type 1} → statement M
 on-done-spec =

@@ -1,3 +1,4 @@
+use Rattle.server_actions.specs.Actions.{onPurgeB}
 use borrow.Author.Needs.{needs}
 use Rattle.server_accept.proofs.on_purge.Statement.{statement}
 use Rattle.server_accept.proofs.on_purge.Tie as tie
@@ -30,7 +31,8 @@ same-length c = search needs
 
 -- src/lib.rt:112:1
 returns : tie.Need-returns
-returns c = ?
+unfolding onPurgeB
+returns c = cc
 
 pub on-purge-spec : {M : Type 1} → statement M
 on-purge-spec =

@@ -1,3 +1,5 @@
+use Rattle.server_accept.specs.Facts.{arrivals-fit}
+use Rattle.server_actions.specs.Actions.{onWriteB, noticedB}
 use borrow.Author.Needs.{needs}
 use Rattle.server_accept.proofs.on_write.Statement.{statement}
 use Rattle.server_accept.proofs.on_write.Tie as tie
@@ -22,7 +24,7 @@ address-requires c κs = search needs
 
 -- src/lib.rt:73:5
 join-write-requires : tie.Need-join-write-requires
-join-write-requires c κs = ?
+join-write-requires c κs = let h = arrivals-fit _ _ _ (c .before .before .before .before .before .before .before .before .before .pre .2) (c .before .before .before .before .before .before .before .before .before .pre .5) (c .before .before .before .before .before .noticed .ensures) in search needs
 
 -- src/lib.rt:68:1
 same-length : tie.Need-same-length
@@ -30,7 +32,8 @@ same-length c = search needs
 
 -- src/lib.rt:68:1
 returns : tie.Need-returns
-returns c = ?
+unfolding onWriteB noticedB
+returns c = cc
 
 pub on-write-spec : {M : Type 1} → statement M
 on-write-spec =

@@ -1,3 +1,4 @@
+use Rattle.server_accept.specs.Chains.{set-open, set-late}
 use borrow.Author.Needs.{needs}
 use Rattle.server_accept.proofs.on_written_set.Statement.{statement}
 use Rattle.server_accept.proofs.on_written_set.Tie as tie
@@ -39,7 +40,7 @@ same-length c = search needs
 
 -- src/lib.rt:156:9
 returns : tie.Need-returns
-returns c = ?
+returns c = set-open _ _ (c .before .before .before .before .before .before .before .before .before .before .station .ensures) (c .before .before .before .before .before .before .before .before .before .named .ensures) (c .before .before .before .before .before .before .before .get-u32 .ensures) (c .before .before .before .before .before .before .open-ask .ensures) (c .before .before .before .before .before .if1 .taken) (c .before .before .loosen .ensures)
 
 -- src/lib.rt:148:1
 same-length-2 : tie.Need-same-length-2
@@ -47,7 +48,7 @@ same-length-2 c = search needs
 
 -- src/lib.rt:148:1
 returns-2 : tie.Need-returns-2
-returns-2 c = ?
+returns-2 c = set-late _ _ (c .before .before .before .before .before .station .ensures) (c .before .before .before .before .named .ensures) (c .before .before .get-u32 .ensures) (c .before .open-ask .ensures) (c .if1 .left)
 
 pub on-written-set-spec : {M : Type 1} → statement M
 on-written-set-spec =
