@@ -6,11 +6,11 @@ use mathlib.Core.Logic.{_≢_}
 use mathlib.Core.List.{List}
 use borrow.Author.Tests.{eq-eqb, ne-eqb}
 use Rattle.sets.specs.Laws.{byB}
-use Rattle.message.specs.Layout.{stationOf, pageOf, requesterOf, transactionOf, pagesOf, setOf}
+use Rattle.message.specs.Layout.{kindOf, stationOf, pageOf, requesterOf, transactionOf, pagesOf, setOf}
 use Rattle.server_state.specs.Layout.{lastOf, lockingB}
 use Rattle.server_tests.specs.Tests.{openCallB, openAskB}
 use Rattle.server_changes.specs.Changes.{noticeB, finishB, leaveB, joinReadB, joinWriteB, joinCommitB, unpackB, unlistB, markBusyB, answeredB, loosenB}
-use Rattle.server_actions.specs.Actions.{Serving, sendPageB, abortB, installB, commitNowB, addressOf, noticedB, onReadB, onWriteB, onCommitB, onAbortB, onPurgeB, onBusyB, onDoneB, onWrittenSetB}
+use Rattle.server_actions.specs.Actions.{Serving, sendPageB, abortB, installB, commitNowB, addressOf, noticedB, onReadB, onWriteB, onCommitB, onAbortB, onPurgeB, onBusyB, onDoneB, onWrittenSetB, acceptB}
 use Rattle.server_actions.specs.declared.Counts.{Counts}
 use Rattle.server_actions.specs.Posting.{from, Posted, posted, post, post-none, Room}
 
@@ -121,3 +121,38 @@ done-still m s = byB (openCallB s (stationOf m) (requesterOf m) (transactionOf m
 pub writtenSet-still : (m s : List ℕ) → onWrittenSetB m (from s) ≡ from (onWrittenSetB m (from s) .state)
 unfolding onWrittenSetB
 writtenSet-still m s = byB (openAskB s (stationOf m) (pageOf m) (transactionOf m)) (λ e. rw e) (λ e. rw e)
+
+-- KINDS
+
+module _ (m : List ℕ) (x : Serving) where
+  pub accept-read : kindOf m ≡ 1 → acceptB m x ≡ onReadB m x
+  unfolding acceptB
+  accept-read e = rw e
+
+  pub accept-write : kindOf m ≡ 2 → acceptB m x ≡ onWriteB m x
+  unfolding acceptB
+  accept-write e = rw e
+
+  pub accept-commit : kindOf m ≡ 3 → acceptB m x ≡ onCommitB m x
+  unfolding acceptB
+  accept-commit e = rw e
+
+  pub accept-abort : kindOf m ≡ 4 → acceptB m x ≡ onAbortB m x
+  unfolding acceptB
+  accept-abort e = rw e
+
+  pub accept-purge : kindOf m ≡ 5 → acceptB m x ≡ onPurgeB m x
+  unfolding acceptB
+  accept-purge e = rw e
+
+  pub accept-busy : kindOf m ≡ 6 → acceptB m x ≡ onBusyB m x
+  unfolding acceptB
+  accept-busy e = rw e
+
+  pub accept-done : kindOf m ≡ 7 → acceptB m x ≡ onDoneB m x
+  unfolding acceptB
+  accept-done e = rw e
+
+  pub accept-set : kindOf m ≡ 8 → acceptB m x ≡ onWrittenSetB m x
+  unfolding acceptB
+  accept-set e = rw e

@@ -11,8 +11,7 @@ use Rattle.le.specs.Le.{setU32, setU64}
 use Rattle.le.specs.Laws.{u64At-is, setU32-is}
 use Rattle.cells.specs.Num.{put-other, num-frame}
 use Rattle.cells.specs.Le.{setU64-is}
-use Rattle.message.specs.Layout.{stationOf, pageOf, requesterOf, transactionOf}
-use Rattle.message.specs.Layout as Message
+use Rattle.message.specs.Layout.{kindOf, stationOf, pageOf, requesterOf, transactionOf}
 use Rattle.message.specs.Commit.{entriesOf}
 use Rattle.server_state.specs.Layout.{agesOf, arrivalsOf, latestOf, lastOf}
 use Rattle.server_changes.specs.Changes.{noticeB, leaveB, unpackB}
@@ -30,15 +29,26 @@ LastKept i m s = lastOf (unpackB i m (leaveB i s)) ≡ lastOf s
 pub record Acceptable (s m : List ℕ) : Type 0 where
   pub length-is : 112 ≤ length m
   pub station : stationOf m < 8
-  pub kind : (1 ≤ Message.kindOf m) × (Message.kindOf m ≤ 8)
-  pub address : Message.kindOf m ≤ 2 → addressOf m < 256
-  pub commit : Message.kindOf m ≡ 3 → Packed m
-  pub last : Message.kindOf m ≡ 3 → LastKept (stationOf m) m (noticeB (stationOf m) (transactionOf m) s)
-  pub page : Message.kindOf m ≡ 5 → pageOf m < 32
-  pub requester : 6 ≤ Message.kindOf m → Message.kindOf m ≤ 7 → requesterOf m < 8
-  pub loosened : Message.kindOf m ≡ 8 → pageOf m < 32
+  pub kind : (1 ≤ kindOf m) × (kindOf m ≤ 8)
+  pub address : kindOf m ≤ 2 → addressOf m < 256
+  pub commit : kindOf m ≡ 3 → Packed m
+  pub last : kindOf m ≡ 3 → LastKept (stationOf m) m (noticeB (stationOf m) (transactionOf m) s)
+  pub page : kindOf m ≡ 5 → pageOf m < 32
+  pub requester : 6 ≤ kindOf m → kindOf m ≤ 7 → requesterOf m < 8
+  pub loosened : kindOf m ≡ 8 → pageOf m < 32
   pub ages : agesOf s < 9223372036854775808
   pub arrivals : arrivalsOf s < 9223372036854775808
+
+-- the kind that is none of the others
+
+not-low : (k : ℕ) → 1 ≤ k → k ≢ 1 → k ≢ 2 → k ≢ 3 → k ≢ 4 → 5 ≤ k
+not-low k l a b c d = omega arith
+
+not-high : (k : ℕ) → 5 ≤ k → k ≤ 8 → k ≢ 5 → k ≢ 6 → k ≢ 7 → k ≡ 8
+not-high k l h a b c = omega arith
+
+pub kind-set : (s m : List ℕ) → Acceptable s m → kindOf m ≢ 1 → kindOf m ≢ 2 → kindOf m ≢ 3 → kindOf m ≢ 4 → kindOf m ≢ 5 → kindOf m ≢ 6 → kindOf m ≢ 7 → kindOf m ≡ 8
+kind-set s m h a b c d = not-high (kindOf m) (not-low (kindOf m) (h .kind .0) a b c d) (h .kind .1)
 
 u64-other : (s : List ℕ) (at v j : ℕ) → (j < at) ⊎ (at + 8 ≤ j) → getD (setU64 s at v) j 0 ≡ getD s j 0
 u64-other s at v j h = rw (setU64-is s at v) (put-other 8 s at v j h)

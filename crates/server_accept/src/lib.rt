@@ -156,3 +156,21 @@ fn on_written_set(s: &mut [u8], m: &[u8])
         return;
     }
 }
+
+// The message's own effect.
+pub fn accept(s: &mut [u8], o: &mut [u8], q: &mut [u8], c: Counts, m: &[u8]) -> Counts
+    requires { ⌜ (length (now s) ≡ 37072) × Acceptable (now s) (now m) × Room (now o) (now q) c (acceptB (now m) (Posting·from (now s))) ⌝ }
+    ensures { λ r. ⌜ posted (now (s .exit)) (now (o .exit)) (now (q .exit)) r ≡ post (now (o .entry)) (now (q .entry)) c (acceptB (now (m .entry)) (Posting·from (now (s .entry)))) ⌝ }
+{
+    match m[0] {
+        1 => return on_read(s, o, q, c, m),
+        2 => on_write(s, m),
+        3 => return on_commit(s, o, q, c, m),
+        4 => on_abort(s, m),
+        5 => on_purge(s, m),
+        6 => on_busy(s, m),
+        7 => on_done(s, m),
+        _ => on_written_set(s, m),
+    }
+    c
+}
