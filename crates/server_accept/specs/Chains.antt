@@ -9,12 +9,12 @@ use Rattle.sets.specs.Laws.{byB}
 use Rattle.message.specs.Layout.{kindOf, stationOf, pageOf, requesterOf, transactionOf, pagesOf, setOf}
 use Rattle.server_state.specs.Layout.{lastOf, lockingB}
 use Rattle.server_tests.specs.Tests.{openCallB, openAskB}
-use Rattle.server_changes.specs.Changes.{noticeB, finishB, leaveB, joinReadB, joinWriteB, joinCommitB, unpackB, unlistB, markBusyB, answeredB, loosenB}
+use Rattle.server_changes.specs.Changes.{noticeB, leaveB, joinReadB, joinCommitB, unpackB, unlistB, markBusyB, answeredB, loosenB}
 use Rattle.server_actions.specs.Actions.{Serving, sendPageB, abortB, installB, commitNowB, addressOf, noticedB, onReadB, onWriteB, onCommitB, onAbortB, onPurgeB, onBusyB, onDoneB, onWrittenSetB, acceptB}
 use Rattle.server_actions.specs.declared.Counts.{Counts}
 use Rattle.server_actions.specs.Posting.{from, Posted, posted, post, post-none, Room}
 
--- x is y
+-- where x is y
 module _ (o q : List ℕ) (c : Counts) {x y : Serving} (e : x ≡ y) where
   pub room-as : Room o q c x → Room o q c y
   room-as r = rw e at r
@@ -23,13 +23,14 @@ module _ (o q : List ℕ) (c : Counts) {x y : Serving} (e : x ≡ y) where
   post-as f = f ∙ ap (post o q c) (sym e)
 
 -- x sends and archives nothing
-pub post-still : (o q : List ℕ) (c : Counts) {x : Serving} {s : List ℕ} → x ≡ from (x .state) → s ≡ x .state → posted s o q c ≡ post o q c x
-post-still o q c {x} {s} e h = post-as o q c (e ∙ ap from (sym h)) (post-none o q c s)
 
 pub post-waits : (o q : List ℕ) (c : Counts) {x : Serving} {s : List ℕ} → x ≡ from s → posted s o q c ≡ post o q c x
 post-waits o q c {x} {s} e = post-as o q c e (post-none o q c s)
 
--- A READ, A COMMIT
+pub post-still : (o q : List ℕ) (c : Counts) {x : Serving} {s : List ℕ} → x ≡ from (x .state) → s ≡ x .state → posted s o q c ≡ post o q c x
+post-still o q c e h = post-waits o q c (e ∙ ap from (sym h))
+
+-- A READ, A COMMIT: the station is locking, or it is not
 
 module _ (m s : List ℕ) {i : ℕ} {w : Bool} {s₁ : List ℕ} (ei : i ≡ stationOf m) (ew : w ≡ lockingB s i) (e₁ : s₁ ≡ noticeB (stationOf m) (transactionOf m) s) where
   locks : lockingB s (stationOf m) ≡ w
@@ -61,7 +62,7 @@ module _ (i : ℕ) (m s : List ℕ) where
   unfolding commitNowB
   commit-installs d e₁ e₂ = rw (ne-eqb _ _ d, e₂, e₁)
 
--- ANSWERS
+-- 6, 7, 8: the 20 or 19 is open, or it is not
 
 module _ (m s : List ℕ) {i r t : ℕ} {w : Bool} (ei : i ≡ stationOf m) (er : r ≡ pageOf m) (et : t ≡ transactionOf m) where
   module _ (ew : w ≡ openCallB s i r t) where

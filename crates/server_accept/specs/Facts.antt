@@ -1,6 +1,6 @@
 -- What the acceptance of a message asks for, and what of it stays when the message's transaction is noticed.
 use Prim.Native.Nat.{ℕ, _+_, _*_, _≤_, _<_}
-use mathlib.Core.Path.{_≡_, refl, sym, _∙_}
+use mathlib.Core.Path.{_≡_, sym, _∙_}
 use mathlib.Core.Logic.{_≢_, _⊎_, inl, inr}
 use mathlib.Core.List.{List}
 use native.Mathlib.Omega.{arith}
@@ -22,10 +22,11 @@ pub record Packed (m : List ℕ) : Type 0 where
   pub front : 256 ≤ length m
   pub entries : 256 + 9 * entriesOf m ≤ length m
 
--- what a commit brings leaves the last commit number
+-- unpacking a commit leaves the last commit number
 abbrev pub LastKept : ℕ → List ℕ → List ℕ → Type 0
 LastKept i m s = lastOf (unpackB i m (leaveB i s)) ≡ lastOf s
 
+-- what is asked of a state and a message that comes to it
 pub record Acceptable (s m : List ℕ) : Type 0 where
   pub length-is : 112 ≤ length m
   pub station : stationOf m < 8

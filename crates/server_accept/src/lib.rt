@@ -1,10 +1,9 @@
-// The server's acceptance of a message: its own effect, before the waiting list is gone through. What it asks of state and message
-// beyond their lengths is in specs/Facts.antt; a message that passes numbers 1 to 6 gives it.
+// The server's acceptance of a message: the message's own effect, before the pass over the waiting list. What it asks of state and
+// message is Acceptable in specs/Facts.antt, in plain numbers: this crate knows nothing of what the bytes mean.
 ghost use mathlib.Core.Path.{_≡_};
 ghost use Prim.Native.Nat.{_+_, _*_, _≤_, _<_};
 ghost use lib.ListN.{length};
 ghost use Rattle.message.specs.Layout.{stationOf, pageOf, requesterOf, transactionOf};
-ghost use Rattle.message.specs.Commit.{entriesOf};
 ghost use Rattle.server_state.specs.Layout.{agesOf, arrivalsOf, lockingB};
 ghost use Rattle.server_changes.specs.Changes.{noticeB};
 ghost use Rattle.server_actions.specs.Actions.{commitNowB, addressOf, onReadB, onWriteB, onCommitB, onAbortB, onPurgeB, onBusyB, onDoneB, onWrittenSetB, acceptB};
@@ -49,7 +48,7 @@ fn noticed(s: &mut [u8], m: &[u8])
     server_changes::notice(s, station(m), le::get_u32(m, 4));
 }
 
-// A locking read waits; a validating one gets its page at once, whose objects are all free to it.
+// A locking read waits; a validating one gets its page at the same step, with no object unavailable.
 fn on_read(s: &mut [u8], o: &mut [u8], q: &mut [u8], c: Counts, m: &[u8]) -> Counts
     requires { ⌜ (length (now s) ≡ 37072) × (112 ≤ length (now m)) × (stationOf (now m) < 8) × (addressOf (now m) < 256) × (agesOf (now s) < 9223372036854775808) × (arrivalsOf (now s) < 9223372036854775808) × Room (now o) (now q) c (onReadB (now m) (Posting·from (now s))) ⌝ }
     ensures { λ r. ⌜ posted (now (s .exit)) (now (o .exit)) (now (q .exit)) r ≡ post (now (o .entry)) (now (q .entry)) c (onReadB (now (m .entry)) (Posting·from (now (s .entry)))) ⌝ }
@@ -73,7 +72,7 @@ fn on_write(s: &mut [u8], m: &[u8])
     server_changes::join_write(s, station(m), address(m));
 }
 
-// A locking commit waits for nobody, since its locks are its grants; but the last number is used once.
+// A locking commit installs without waiting: it has its locks. No number comes after the last.
 fn commit_now(s: &mut [u8], o: &mut [u8], q: &mut [u8], c: Counts, m: &[u8], i: usize) -> Counts
     requires { ⌜ (length (now s) ≡ 37072) × Packed (now m) × (i < 8) × LastKept i (now m) (now s) × Room (now o) (now q) c (commitNowB i (now m) (Posting·from (now s))) ⌝ }
     ensures { λ r. ⌜ posted (now (s .exit)) (now (o .exit)) (now (q .exit)) r ≡ post (now (o .entry)) (now (q .entry)) c (commitNowB i (now (m .entry)) (Posting·from (now (s .entry)))) ⌝ }
@@ -86,7 +85,7 @@ fn commit_now(s: &mut [u8], o: &mut [u8], q: &mut [u8], c: Counts, m: &[u8], i: 
     server_actions::install(s, o, q, c, i)
 }
 
-// A validating commit waits, for its check and for what others lock.
+// A validating commit waits: the pass checks it.
 fn on_commit(s: &mut [u8], o: &mut [u8], q: &mut [u8], c: Counts, m: &[u8]) -> Counts
     requires { ⌜ (length (now s) ≡ 37072) × Packed (now m) × (stationOf (now m) < 8) × LastKept (stationOf (now m)) (now m) (noticeB (stationOf (now m)) (transactionOf (now m)) (now s)) × (agesOf (now s) < 9223372036854775808) × (arrivalsOf (now s) < 9223372036854775808) × Room (now o) (now q) c (onCommitB (now m) (Posting·from (now s))) ⌝ }
     ensures { λ r. ⌜ posted (now (s .exit)) (now (o .exit)) (now (q .exit)) r ≡ post (now (o .entry)) (now (q .entry)) c (onCommitB (now (m .entry)) (Posting·from (now (s .entry)))) ⌝ }
@@ -116,7 +115,7 @@ fn on_purge(s: &mut [u8], m: &[u8])
     server_changes::unlist(s, station(m), station_state::bit32(named(m)));
 }
 
-// A 6 for a 20 that is no longer open says nothing.
+// A 6 to a 20 that is no longer open is void.
 fn on_busy(s: &mut [u8], m: &[u8])
     requires { ⌜ (length (now s) ≡ 37072) × (112 ≤ length (now m)) × (stationOf (now m) < 8) × (requesterOf (now m) < 8) ⌝ }
     ensures { λ _. ⌜ now (s .exit) ≡ onBusyB (now (m .entry)) (Posting·from (now (s .entry))) .state ⌝ }
@@ -129,7 +128,7 @@ fn on_busy(s: &mut [u8], m: &[u8])
     }
 }
 
-// The pages of a 7 are gone even when its 20 is no longer open.
+// The pages of a 7 are gone even where its 20 is no longer open.
 fn on_done(s: &mut [u8], m: &[u8])
     requires { ⌜ (length (now s) ≡ 37072) × (112 ≤ length (now m)) × (stationOf (now m) < 8) × (requesterOf (now m) < 8) ⌝ }
     ensures { λ _. ⌜ now (s .exit) ≡ onDoneB (now (m .entry)) (Posting·from (now (s .entry))) .state ⌝ }
@@ -144,7 +143,7 @@ fn on_done(s: &mut [u8], m: &[u8])
     }
 }
 
-// An 8 for a lock that went in the meantime says nothing.
+// An 8 is void where the lock went in the meantime.
 fn on_written_set(s: &mut [u8], m: &[u8])
     requires { ⌜ (length (now s) ≡ 37072) × (112 ≤ length (now m)) × (stationOf (now m) < 8) × (pageOf (now m) < 32) ⌝ }
     ensures { λ _. ⌜ now (s .exit) ≡ onWrittenSetB (now (m .entry)) (Posting·from (now (s .entry))) .state ⌝ }
@@ -157,7 +156,7 @@ fn on_written_set(s: &mut [u8], m: &[u8])
     }
 }
 
-// The message's own effect.
+// Takes a message that passes numbers 1 to 6.
 pub fn accept(s: &mut [u8], o: &mut [u8], q: &mut [u8], c: Counts, m: &[u8]) -> Counts
     requires { ⌜ (length (now s) ≡ 37072) × Acceptable (now s) (now m) × Room (now o) (now q) c (acceptB (now m) (Posting·from (now s))) ⌝ }
     ensures { λ r. ⌜ posted (now (s .exit)) (now (o .exit)) (now (q .exit)) r ≡ post (now (o .entry)) (now (q .entry)) c (acceptB (now (m .entry)) (Posting·from (now (s .entry)))) ⌝ }

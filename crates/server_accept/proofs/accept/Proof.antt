@@ -1,134 +1,95 @@
+-- `server_accept::accept` meets its contract.
 use native.Mathlib.Omega.{arith}
-use Prim.Native.Nat.{_≤_}
 use Rattle.server_accept.specs.Facts.{kind-set}
 use Rattle.server_accept.specs.Chains.{room-as, post-as, post-still, write-still, abort-still, purge-still, busy-still, done-still, writtenSet-still, accept-read, accept-write, accept-commit, accept-abort, accept-purge, accept-busy, accept-done, accept-set}
 use borrow.Author.Needs.{needs}
 use Rattle.server_accept.proofs.accept.Statement.{statement}
 use Rattle.server_accept.proofs.accept.Tie as tie
-use Rattle.server_accept.proofs.accept.Reads as reads
-use Rattle.server_accept.proofs.accept.Lts as lts
-use Rattle.server_accept.proofs.on_abort.Reads as on-abort-reads
-use Rattle.server_accept.proofs.on_busy.Reads as on-busy-reads
-use Rattle.server_accept.proofs.on_commit.Reads as on-commit-reads
-use Rattle.server_accept.proofs.on_done.Reads as on-done-reads
-use Rattle.server_accept.proofs.on_purge.Reads as on-purge-reads
-use Rattle.server_accept.proofs.on_read.Reads as on-read-reads
-use Rattle.server_accept.proofs.on_write.Reads as on-write-reads
-use Rattle.server_accept.proofs.on_written_set.Reads as on-written-set-reads
 
--- src/lib.rt:165:11
 shared-slice-read-match : tie.Need-shared-slice-read-match
 shared-slice-read-match c = search needs
 
--- src/lib.rt:166:14
 on-read-requires : tie.Need-on-read-requires
 on-read-requires c κs = let h = c .before .before .before .before .before .before .before .before .before .pre .1 .address (omega (arith, c .before .before .before .match .keys1)) in (search needs, search needs, search needs, h, search needs, search needs, room-as _ _ _ (accept-read _ _ (c .before .before .before .match .keys1)) (c .before .before .before .before .before .before .before .before .before .pre .2))
 
--- src/lib.rt:166:14
 same-length : tie.Need-same-length
 same-length c = search needs
 
--- src/lib.rt:166:14
 same-length-2 : tie.Need-same-length-2
 same-length-2 c = search needs
 
--- src/lib.rt:166:14
 same-length-3 : tie.Need-same-length-3
 same-length-3 c = search needs
 
--- src/lib.rt:166:14
 returns : tie.Need-returns
 returns c = post-as _ _ _ (accept-read _ _ (c .before .before .before .before .before .before .before .before .before .before .match .keys1)) (c .before .before .before .before .before .before .on-read .ensures)
 
--- src/lib.rt:167:14
 on-write-requires : tie.Need-on-write-requires
 on-write-requires c κs = let h = c .before .before .before .before .before .before .before .pre .1 .address (omega (arith, c .before .match .keys2)) in search needs
 
--- src/lib.rt:168:14
 on-commit-requires : tie.Need-on-commit-requires
 on-commit-requires c κs = (search needs, c .before .before .before .before .before .before .before .before .before .pre .1 .commit (c .before .before .before .match .keys3), search needs, c .before .before .before .before .before .before .before .before .before .pre .1 .last (c .before .before .before .match .keys3), search needs, search needs, room-as _ _ _ (accept-commit _ _ (c .before .before .before .match .keys3)) (c .before .before .before .before .before .before .before .before .before .pre .2))
 
--- src/lib.rt:168:14
 same-length-4 : tie.Need-same-length-4
 same-length-4 c = search needs
 
--- src/lib.rt:168:14
 same-length-5 : tie.Need-same-length-5
 same-length-5 c = search needs
 
--- src/lib.rt:168:14
 same-length-6 : tie.Need-same-length-6
 same-length-6 c = search needs
 
--- src/lib.rt:168:14
 returns-2 : tie.Need-returns-2
 returns-2 c = post-as _ _ _ (accept-commit _ _ (c .before .before .before .before .before .before .before .before .before .before .match .keys3)) (c .before .before .before .before .before .before .on-commit .ensures)
 
--- src/lib.rt:169:14
 on-abort-requires : tie.Need-on-abort-requires
 on-abort-requires c κs = search needs
 
--- src/lib.rt:170:14
 on-purge-requires : tie.Need-on-purge-requires
 on-purge-requires c κs = let h = c .before .before .before .before .before .before .before .pre .1 .page (c .before .match .keys5) in search needs
 
--- src/lib.rt:171:14
 on-busy-requires : tie.Need-on-busy-requires
 on-busy-requires c κs = let h = c .before .before .before .before .before .before .before .pre .1 .requester (omega (arith, c .before .match .keys6)) (omega (arith, c .before .match .keys6)) in search needs
 
--- src/lib.rt:172:14
 on-done-requires : tie.Need-on-done-requires
 on-done-requires c κs = let h = c .before .before .before .before .before .before .before .pre .1 .requester (omega (arith, c .before .match .keys7)) (omega (arith, c .before .match .keys7)) in search needs
 
--- src/lib.rt:173:14
 on-written-set-requires : tie.Need-on-written-set-requires
 on-written-set-requires c κs = let r = c .before .match .rest in let k = kind-set _ _ (c .before .before .before .before .before .before .before .pre .1) (r .0 .0 .0 .0 .0 .0 .1) (r .0 .0 .0 .0 .0 .1) (r .0 .0 .0 .0 .1) (r .0 .0 .0 .1) (r .0 .0 .1) (r .0 .1) (r .1) in let h = c .before .before .before .before .before .before .before .pre .1 .loosened k in search needs
 
--- src/lib.rt:161:1
 same-length-7 : tie.Need-same-length-7
 same-length-7 c = search needs
 
--- src/lib.rt:161:1
 returns-3 : tie.Need-returns-3
 returns-3 c = post-as _ _ _ (accept-write _ _ (c .before .before .before .before .match .keys2)) (post-still _ _ _ (write-still _ _) (c .before .before .on-write .ensures))
 
--- src/lib.rt:161:1
 same-length-8 : tie.Need-same-length-8
 same-length-8 c = search needs
 
--- src/lib.rt:161:1
 returns-4 : tie.Need-returns-4
 returns-4 c = post-as _ _ _ (accept-abort _ _ (c .before .before .before .before .match .keys4)) (post-still _ _ _ (abort-still _ _) (c .before .before .on-abort .ensures))
 
--- src/lib.rt:161:1
 same-length-9 : tie.Need-same-length-9
 same-length-9 c = search needs
 
--- src/lib.rt:161:1
 returns-5 : tie.Need-returns-5
 returns-5 c = post-as _ _ _ (accept-purge _ _ (c .before .before .before .before .match .keys5)) (post-still _ _ _ (purge-still _ _) (c .before .before .on-purge .ensures))
 
--- src/lib.rt:161:1
 same-length-10 : tie.Need-same-length-10
 same-length-10 c = search needs
 
--- src/lib.rt:161:1
 returns-6 : tie.Need-returns-6
 returns-6 c = post-as _ _ _ (accept-busy _ _ (c .before .before .before .before .match .keys6)) (post-still _ _ _ (busy-still _ _) (c .before .before .on-busy .ensures))
 
--- src/lib.rt:161:1
 same-length-11 : tie.Need-same-length-11
 same-length-11 c = search needs
 
--- src/lib.rt:161:1
 returns-7 : tie.Need-returns-7
 returns-7 c = post-as _ _ _ (accept-done _ _ (c .before .before .before .before .match .keys7)) (post-still _ _ _ (done-still _ _) (c .before .before .on-done .ensures))
 
--- src/lib.rt:161:1
 same-length-12 : tie.Need-same-length-12
 same-length-12 c = search needs
 
--- src/lib.rt:161:1
 returns-8 : tie.Need-returns-8
 returns-8 c = let r = c .before .before .before .before .match .rest in let k = kind-set _ _ (c .before .before .before .before .before .before .before .before .before .before .pre .1) (r .0 .0 .0 .0 .0 .0 .1) (r .0 .0 .0 .0 .0 .1) (r .0 .0 .0 .0 .1) (r .0 .0 .0 .1) (r .0 .0 .1) (r .0 .1) (r .1) in post-as _ _ _ (accept-set _ _ k) (post-still _ _ _ (writtenSet-still _ _) (c .before .before .on-written-set .ensures))
 

@@ -1,48 +1,33 @@
+-- `server_accept::on_busy` meets its contract.
 use Rattle.server_accept.specs.Chains.{busy-open, busy-late}
 use borrow.Author.Needs.{needs}
 use Rattle.server_accept.proofs.on_busy.Statement.{statement}
 use Rattle.server_accept.proofs.on_busy.Tie as tie
-use Rattle.server_accept.proofs.on_busy.Reads as reads
-use Rattle.server_accept.proofs.on_busy.Lts as lts
-use Rattle.le.proofs.get_u32.Reads as get-u32-reads
-use Rattle.server_accept.proofs.named.Reads as named-reads
-use Rattle.server_accept.proofs.station.Reads as station-reads
-use Rattle.server_changes.proofs.mark_busy.Reads as mark-busy-reads
-use Rattle.server_tests.proofs.open_call.Reads as open-call-reads
 
--- src/lib.rt:124:9
 station-requires : tie.Need-station-requires
 station-requires c κs = search needs
 
--- src/lib.rt:125:9
 named-requires : tie.Need-named-requires
 named-requires c κs = search needs
 
--- src/lib.rt:126:41
 get-u32-requires : tie.Need-get-u32-requires
 get-u32-requires c κs = search needs
 
--- src/lib.rt:126:8
 open-call-requires : tie.Need-open-call-requires
 open-call-requires c κs = search needs
 
--- src/lib.rt:127:9
 mark-busy-requires : tie.Need-mark-busy-requires
 mark-busy-requires c κs = search needs
 
--- src/lib.rt:128:9
 same-length : tie.Need-same-length
 same-length c = search needs
 
--- src/lib.rt:128:9
 returns : tie.Need-returns
 returns c = busy-open _ _ (c .before .before .before .before .before .before .before .before .before .station .ensures) (c .before .before .before .before .before .before .before .before .named .ensures) (c .before .before .before .before .before .before .get-u32 .ensures) (c .before .before .before .before .before .open-call .ensures) (c .before .before .before .before .if1 .taken) (c .before .before .mark-busy .ensures)
 
--- src/lib.rt:120:1
 same-length-2 : tie.Need-same-length-2
 same-length-2 c = search needs
 
--- src/lib.rt:120:1
 returns-2 : tie.Need-returns-2
 returns-2 c = busy-late _ _ (c .before .before .before .before .before .station .ensures) (c .before .before .before .before .named .ensures) (c .before .before .get-u32 .ensures) (c .before .open-call .ensures) (c .if1 .left)
 

@@ -1,36 +1,25 @@
+-- `server_accept::on_write` meets its contract.
 use Rattle.server_accept.specs.Facts.{arrivals-fit}
 use Rattle.server_actions.specs.Actions.{onWriteB, noticedB}
 use borrow.Author.Needs.{needs}
 use Rattle.server_accept.proofs.on_write.Statement.{statement}
 use Rattle.server_accept.proofs.on_write.Tie as tie
-use Rattle.server_accept.proofs.on_write.Reads as reads
-use Rattle.server_accept.proofs.on_write.Lts as lts
-use Rattle.server_accept.proofs.address.Reads as address-reads
-use Rattle.server_accept.proofs.noticed.Reads as noticed-reads
-use Rattle.server_accept.proofs.station.Reads as station-reads
-use Rattle.server_changes.proofs.join_write.Reads as join-write-reads
 
--- src/lib.rt:72:5
 noticed-requires : tie.Need-noticed-requires
 noticed-requires c κs = search needs
 
--- src/lib.rt:73:35
 station-requires : tie.Need-station-requires
 station-requires c κs = search needs
 
--- src/lib.rt:73:47
 address-requires : tie.Need-address-requires
 address-requires c κs = search needs
 
--- src/lib.rt:73:5
 join-write-requires : tie.Need-join-write-requires
 join-write-requires c κs = let h = arrivals-fit _ _ _ (c .before .before .before .before .before .before .before .before .before .pre .2) (c .before .before .before .before .before .before .before .before .before .pre .5) (c .before .before .before .before .before .noticed .ensures) in search needs
 
--- src/lib.rt:68:1
 same-length : tie.Need-same-length
 same-length c = search needs
 
--- src/lib.rt:68:1
 returns : tie.Need-returns
 unfolding onWriteB noticedB
 returns c = cc
