@@ -1,0 +1,3 @@
+-- The server's acceptance of a message.
+pub mod Facts
+pub mod Chains
