@@ -38,7 +38,7 @@ upFrom a zero = []
 upFrom a (suc n) = a ∷ upFrom (suc a) n
 
 -- n reads and m writes of the addresses from 0 on, all values 0, commit 1 of station 0
-abbrev filled : ℕ → ℕ → List ℕ
+abbrev pub filled : ℕ → ℕ → List ℕ
 filled n m = header n m 1 1 0 0 ++ (upFrom 0 n ++ (upFrom 0 m ++ replicate (8 * (n + m)) 0))
 
 -- C12's record

@@ -234,7 +234,7 @@ module _ (kinds : List ℕ) (ok : kindsOk kinds ≡ true) (i : ℕ) (l : i < 8) 
       }
 
   -- an owner's operation
-  owner-told : (op : Op) (o c : List ℕ) → OpFits op → ready (b .station i) o c ≡ true → Sim kinds b w → Calls.Told i (performB op (b .station i) o c) (perform op (w .station i))
+  pub owner-told : (op : Op) (o c : List ℕ) → OpFits op → ready (b .station i) o c ≡ true → Sim kinds b w → Calls.Told i (performB op (b .station i) o c) (perform op (w .station i))
   owner-told op o c f r h =
       let s = b .station i in
       let k = h .line .stations i l .is in
@@ -255,7 +255,7 @@ module _ (kinds : List ℕ) (ok : kindsOk kinds ≡ true) (i : ℕ) (l : i < 8) 
   owner-still op o c r = rw (owner-unready op (b .station i) o c r) (carry-none i _ b refl refl)
 
   -- the step
-  step-told-at : (x : List ℕ) (m : Down) (o c : List ℕ) → ReadAs x (To i m) → ready (b .station i) o c ≡ true → Sim kinds b w
+  pub step-told-at : (x : List ℕ) (m : Down) (o c : List ℕ) → ReadAs x (To i m) → ready (b .station i) o c ≡ true → Sim kinds b w
       → Calls.Told i (stepB x (b .station i) o c) (stationStep m (w .station i))
   step-told-at x m o c q r h =
       let s = b .station i in

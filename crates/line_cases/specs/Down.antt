@@ -1,0 +1,143 @@
+-- A message that a station takes is, byte for byte, document 01's of what it is read as: kinds 16 to 23.
+use Prim.Native.Nat.{ℕ, zero, suc, _+_, _*_, _/_, _%_, _≤_}
+use mathlib.Core.Path.{_≡_, refl, sym, ap, _∙_}
+use mathlib.Core.List.{List, [], _++_, append-nil}
+use native.Mathlib.Omega.{arith}
+use lib.ListN.{length, drop, getD, length-drop}
+use lib.Seq.{getD-drop}
+use borrow.Author.Tests.{lt-ltb}
+use Rattle.lists.specs.Bytes.{Bytes, byte-at}
+use Rattle.sets.specs.Base.{table}
+use Rattle.sets.specs.Laws.{byEq, eqb-yes, eqb-no, eqb-same}
+use Rattle.line.specs.Messages.{address, NoLock, ObjectLock, WholeLock, Down, Deescalate, Callback, Committed, Aborted, Invalidate, Sent, To}
+use Rattle.line.specs.Fields.{oneSet, objectSet, downFields}
+use Rattle.message.specs.Layout.{kindOf, stationOf, pageOf, requesterOf, objectOf, causeOf, transactionOf, pagesOf, versionOf, setOf, valueOf}
+use Rattle.message.specs.Accepted.{PageFields, DeescalateFields, CallbackFields, CommittedFields, AbortedFields, InvalidateFields, DownAccepted, down-accepted}
+use Rattle.message_meaning.specs.Meant.{objectsOn, objectsIn, pagesIn, setsOf, valuesOn, pageAt, downOf}
+use Rattle.message_meaning.specs.Kinds.{down-16, down-17, down-18, down-19, down-20, down-21, down-22, down-23, sets-at}
+use Rattle.message_meaning.specs.Inverse.{values-written}
+use Rattle.step_meaning.specs.Relation.{ReadAs}
+use Rattle.line_cases.specs.Wire.{words, wire}
+use Rattle.line_cases.specs.Parts.{made, inside, zero-at, zero-32, bits-back, table-same, table-back, words-table, set-of-page, pages-back, one-set, no-sets, no-values, from-8}
+
+-- VALUES OF A PAGE
+
+-- "eight values"
+values-of-page : (p : ℕ) (m : List ℕ) (n j : ℕ) → j + n ≤ 8 → table n (p * 8 + j) (valuesOn p m) ≡ table n j (valueOf m)
+values-of-page p m zero j l = refl
+values-of-page p m (suc n) j l =
+    let page : (p * 8 + j) / 8 ≡ p = omega arith in
+    let object : (p * 8 + j) % 8 ≡ j = omega arith in
+    let next : suc (p * 8 + j) ≡ p * 8 + suc j = omega arith in
+    rw (page, object, eqb-same p, next, values-of-page p m n (suc j) (omega arith))
+
+-- THE KINDS
+
+module _ (i : ℕ) (m : List ℕ) (hm : Bytes m) (hl : length m ≡ 112) (own : stationOf m ≡ i) where
+  -- "16 page (page, object, transaction, version, unavailable set, values)": its parts, where a is page and object
+  module _ (f : PageFields m) where
+    abbrev a : ℕ
+    a = address (pageOf m) (objectOf m)
+
+    page-is : pageOf m ≡ a / 8
+    page-is = omega (arith, f .object-is)
+
+    object-is : objectOf m ≡ a % 8
+    object-is = omega (arith, f .object-is)
+
+    set-is : setsOf m ≡ oneSet (objectSet (objectsOn (pageOf m) (setOf m 0)) (a / 8))
+    set-is = one-set m (omega arith) (f .unnamed-17) ∙ ap oneSet (sym (set-of-page (pageOf m) (setOf m 0) (byte-at m 16 hm)) ∙ ap (objectSet (objectsOn (pageOf m) (setOf m 0))) page-is)
+
+    values-are : drop 48 m ≡ words 8 (table 8 (address (a / 8) 0) (valuesOn (pageOf m) m)) ++ []
+    values-are =
+        sym (values-written m hm hl)
+        ∙ sym (words-table 8 8 0 (valueOf m))
+        ∙ ap (words 8) (sym (values-of-page (pageOf m) m 8 0 (omega arith)) ∙ ap (λ (p : ℕ). table 8 (address p 0) (valuesOn (pageOf m) m)) page-is)
+        ∙ sym (append-nil (words 8 (table 8 (address (a / 8) 0) (valuesOn (pageOf m) m))))
+
+  bytes-16 : kindOf m ≡ 16 → PageFields m → m ≡ wire (downFields (To i (pageAt NoLock m)))
+  unfolding pageAt
+  bytes-16 e f = made m hm (omega arith) e own (page-is f) (object-is f) refl (zero-32 m 8 (f .unnamed-8)) refl (set-is f) (values-are f)
+
+  bytes-17 : kindOf m ≡ 17 → PageFields m → m ≡ wire (downFields (To i (pageAt ObjectLock m)))
+  unfolding pageAt
+  bytes-17 e f = made m hm (omega arith) e own (page-is f) (object-is f) refl (zero-32 m 8 (f .unnamed-8)) refl (set-is f) (values-are f)
+
+  bytes-18 : kindOf m ≡ 18 → PageFields m → m ≡ wire (downFields (To i (pageAt WholeLock m)))
+  unfolding pageAt
+  bytes-18 e f = made m hm (omega arith) e own (page-is f) (object-is f) refl (zero-32 m 8 (f .unnamed-8)) refl (set-is f) (values-are f)
+
+  bytes-19 : kindOf m ≡ 19 → DeescalateFields m → m ≡ wire (downFields (To i (Deescalate (pageOf m) (transactionOf m))))
+  bytes-19 e f =
+      let r = from-8 m hl (f .unnamed-8) in
+      made m hm (omega arith) e own refl (zero-at m 3 1 (f .unnamed-3) (omega arith)) refl (r .0) (r .1) (r .2) (r .3)
+
+  -- "object sets by page"
+  sets-back : table 32 0 (objectSet (objectsIn (setsOf m))) ≡ setsOf m
+  sets-back =
+      table-same 32 0 (objectSet (objectsIn (setsOf m))) (λ p. getD m (16 + p) 0)
+      (λ p l q.
+      bits-back 8 (address p 0) (getD m (16 + p) 0) (objectsIn (setsOf m)) (omega (arith, byte-at m (16 + p) hm))
+      (λ k r.
+      let page : (address p 0 + k) / 8 ≡ p = omega arith in
+      let object : (address p 0 + k) % 8 ≡ k = omega arith in
+      rw (page, object, sets-at m p, lt-ltb p 32 q)))
+      ∙ table-same 32 0 (λ p. getD m (16 + p) 0) (λ p. getD (drop 16 m) p 0) (λ p l q. sym (getD-drop 16 m p 0))
+      ∙ table-back 32 0 (drop 16 m) (rw length-drop (omega arith))
+
+  bytes-20 : kindOf m ≡ 20 → CallbackFields i m → m ≡ wire (downFields (To i (Callback (requesterOf m) (transactionOf m) (objectsIn (setsOf m)))))
+  bytes-20 e f =
+      made m hm (omega arith) e own refl (zero-at m 3 1 (f .unnamed-3) (omega arith)) refl (zero-32 m 8 (inside m 8 8 0 4 (f .unnamed-8) (omega arith)))
+      (zero-32 m 12 (inside m 8 8 4 4 (f .unnamed-8) (omega arith))) (sym sets-back) (no-values m hl (f .unnamed-48))
+
+  bytes-21 : kindOf m ≡ 21 → CommittedFields m → m ≡ wire (downFields (To i (Committed (transactionOf m) (versionOf m))))
+  bytes-21 e f =
+      made m hm (omega arith) e own (zero-at m 2 2 (f .unnamed-2) (omega arith)) (zero-at m 3 1 (inside m 2 2 1 1 (f .unnamed-2) (omega arith)) (omega arith)) refl
+      (zero-32 m 8 (f .unnamed-8)) refl (no-sets m (omega arith) (inside m 16 96 0 32 (f .unnamed-16) (omega arith))) (no-values m hl (inside m 16 96 32 64 (f .unnamed-16) (omega arith)))
+
+  bytes-22 : kindOf m ≡ 22 → AbortedFields m → m ≡ wire (downFields (To i (Aborted (transactionOf m) (causeOf m))))
+  bytes-22 e f =
+      let r = from-8 m hl (f .unnamed-8) in
+      made m hm (omega arith) e own (zero-at m 2 1 (f .unnamed-2) (omega arith)) refl refl (r .0) (r .1) (r .2) (r .3)
+
+  bytes-23 : kindOf m ≡ 23 → InvalidateFields m → m ≡ wire (downFields (To i (Invalidate (pagesIn (pagesOf m)))))
+  bytes-23 e f =
+      let z = f .unnamed-12 in
+      made m hm (omega arith) e own (zero-at m 2 6 (f .unnamed-2) (omega arith)) (zero-at m 3 1 (inside m 2 6 1 1 (f .unnamed-2) (omega arith)) (omega arith))
+      (zero-32 m 4 (inside m 2 6 2 4 (f .unnamed-2) (omega arith))) (sym (pages-back m hm)) (zero-32 m 12 (inside m 12 100 0 4 z (omega arith)))
+      (no-sets m (omega arith) (inside m 12 100 4 32 z (omega arith))) (no-values m hl (inside m 12 100 36 64 z (omega arith)))
+
+  -- every kind that a station takes
+  written : DownAccepted i m → m ≡ wire (downFields (To i (downOf m)))
+  written h =
+      let k = kindOf m in
+      byEq k 16 (λ e. let q = eqb-yes k 16 e in bytes-16 q (h .page (omega arith)) ∙ said (down-16 m q))
+      (λ e16.
+      let l17 : 17 ≤ k = omega (arith, h .kind-from, eqb-no k 16 e16) in
+      byEq k 17 (λ e. let q = eqb-yes k 17 e in bytes-17 q (h .page (omega arith)) ∙ said (down-17 m q))
+      (λ e17.
+      let l18 : 18 ≤ k = omega (arith, l17, eqb-no k 17 e17) in
+      byEq k 18 (λ e. let q = eqb-yes k 18 e in bytes-18 q (h .page (omega arith)) ∙ said (down-18 m q))
+      (λ e18.
+      let l19 : 19 ≤ k = omega (arith, l18, eqb-no k 18 e18) in
+      byEq k 19 (λ e. let q = eqb-yes k 19 e in bytes-19 q (h .deescalate q) ∙ said (down-19 m q))
+      (λ e19.
+      let l20 : 20 ≤ k = omega (arith, l19, eqb-no k 19 e19) in
+      byEq k 20 (λ e. let q = eqb-yes k 20 e in bytes-20 q (h .callback q) ∙ said (down-20 m q))
+      (λ e20.
+      let l21 : 21 ≤ k = omega (arith, l20, eqb-no k 20 e20) in
+      byEq k 21 (λ e. let q = eqb-yes k 21 e in bytes-21 q (h .committed q) ∙ said (down-21 m q))
+      (λ e21.
+      let l22 : 22 ≤ k = omega (arith, l21, eqb-no k 21 e21) in
+      byEq k 22 (λ e. let q = eqb-yes k 22 e in bytes-22 q (h .aborted q) ∙ said (down-22 m q))
+      (λ e22.
+      let q : k ≡ 23 = omega (arith, l22, h .kind-to, eqb-no k 22 e22) in
+      bytes-23 q (h .invalidate q) ∙ said (down-23 m q))))))))
+    where
+      said : {d : Down} → downOf m ≡ d → wire (downFields (To i d)) ≡ wire (downFields (To i (downOf m)))
+      said e = ap (λ (d : Down). wire (downFields (To i d))) (sym e)
+
+-- what a station reads as x is the bytes of x
+pub down-written : (m : List ℕ) (x : Sent) → ReadAs m x → m ≡ wire (downFields x)
+down-written m x h =
+    written (h .to) m (h .bytes-are) (h .length-is) (h .station-is) (down-accepted (h .to) m (h .accepted)) ∙ ap (λ (y : Sent). wire (downFields y)) (sym (h .sent-is))

@@ -1,0 +1,265 @@
+-- Document 01's cases C1 to C12 as one table: of each call its answer, the bytes of the messages that it sends and the bytes that it
+-- archives. 8 is page 1, object 0; 9 is page 1, object 1.
+use Prim.Native.Nat.{ℕ, zero, suc, _+_}
+use mathlib.Core.List.{List, [], _∷_, _++_}
+use lib.ListN.{replicate}
+use Rattle.line.specs.Messages.{Answer, Nothing, Begun, Value, Waits, Written, CommittedAs, AbortedFor, Refused, Empty}
+use Rattle.line.specs.Line.{Call, Owner, ServerTakes, StationTakes, Begin, Read, Write, Commits, Aborts}
+use Rattle.cases.specs.Archive.{filled, c12, readOf8}
+use Rattle.line_cases.specs.Seen.{Step, step}
+use Rattle.line_cases.specs.Rows.{OfLine, OfCommit, OfFile, Row, row}
+
+-- THE BYTES: every number of C1 to C9 and of C12 is below 256, so that it stands in its first byte
+
+-- n bytes: those of the list, then zeros
+abbrev padded : ℕ → List ℕ → List ℕ
+padded zero l = []
+padded (suc n) [] = 0 ∷ padded n []
+padded (suc n) (x ∷ l) = x ∷ padded n l
+
+-- 112 bytes: "Byte 0 kind, 1 station on the line, 2 page or requester, 3 object or cause, 4–7 transaction, 8–11 page set, 12–15 version or
+-- commit number", and from byte 16 on "object sets by page (one set of a single page: byte 16), 48–111 eight values"
+abbrev message : ℕ → ℕ → ℕ → ℕ → ℕ → ℕ → ℕ → List ℕ → List ℕ
+message k i p o t d n from16 = k ∷ i ∷ p ∷ o ∷ t ∷ 0 ∷ 0 ∷ 0 ∷ d ∷ 0 ∷ 0 ∷ 0 ∷ n ∷ 0 ∷ 0 ∷ 0 ∷ padded 96 from16
+
+-- "n + m values of 8 bytes"
+abbrev values : List ℕ → List ℕ
+values [] = []
+values (v ∷ l) = v ∷ 0 ∷ 0 ∷ 0 ∷ 0 ∷ 0 ∷ 0 ∷ 0 ∷ values l
+
+-- "reads n (2 bytes), writes m (2), commit number (4; 0 on the way up), transaction (4), station (1), its kind (1), two zero bytes; then
+-- n + m addresses of one byte; then n + m values of 8 bytes"
+abbrev recorded : ℕ → ℕ → ℕ → ℕ → ℕ → ℕ → List ℕ → List ℕ → List ℕ
+recorded n m number t i k a v = n ∷ 0 ∷ m ∷ 0 ∷ number ∷ 0 ∷ 0 ∷ 0 ∷ t ∷ 0 ∷ 0 ∷ 0 ∷ i ∷ k ∷ 0 ∷ 0 ∷ (a ++ values v)
+
+-- "A commit is followed by 32 versions of 4 bytes .. and a record": station, transaction, set of pages used, versions, record
+abbrev commit : ℕ → ℕ → ℕ → List ℕ → List ℕ → List ℕ
+commit i t d v r = message 3 i 0 0 t d 0 [] ++ (padded 128 v ++ r)
+
+-- PARTS OF ROWS
+
+-- a step that only answers; one that sends; the server's, which answers nothing
+abbrev answers : Call → Answer → Step
+answers c a = step c a [] []
+
+abbrev sends : Call → Answer → List (List ℕ) → Step
+sends c a m = step c a m []
+
+abbrev serves : ℕ → List (List ℕ) → Step
+serves i m = step (ServerTakes i) Nothing m []
+
+-- station i begins and reads object o of page 1, which is all zeros: 1, 16, value 0
+abbrev reads : ℕ → ℕ → List Step
+reads i o =
+    answers (Owner i Begin) (Begun 1)
+    ∷ sends (Owner i (Read (8 + o))) Waits (message 1 i 1 o 1 0 0 [] ∷ [])
+    ∷ serves i (message 16 i 1 o 1 0 0 [] ∷ [])
+    ∷ answers (StationTakes i) (Value 0)
+    ∷ []
+
+-- 0 writes v to 8 and has to ask; it gets page 1 whole
+abbrev asks : ℕ → Step
+asks v = sends (Owner 0 (Write 8 v)) Waits (message 2 0 1 0 1 0 0 [] ∷ [])
+
+abbrev whole : List (List ℕ)
+whole = message 18 0 1 0 1 0 0 [] ∷ []
+
+abbrev getsWhole : ℕ → List Step
+getsWhole v = asks v ∷ serves 0 whole ∷ answers (StationTakes 0) Written ∷ []
+
+-- to 2, for 0: object 0 of page 1 is to be written
+abbrev callback : List (List ℕ)
+callback = message 20 2 0 0 1 0 0 (0 ∷ 1 ∷ []) ∷ []
+
+-- THE ROWS
+
+unfoldable pub C1 : Row
+C1 = row "C1 fresh, 0 reads 8: 1, 16, value 0." (OfLine (reads 0 0) [] ∷ [])
+
+unfoldable pub C2 : Row
+C2 = row "C2 then 0 writes 8, nobody else listed: 18." (OfLine (reads 0 0 ++ getsWhole 5) [] ∷ [])
+
+unfoldable pub C3 : Row
+C3 =
+    row "C3 as C2, page 1 unused at 2: 20, 7 dropping page 1, 18."
+    (OfLine
+    (reads 0 0
+    ++ reads 2 0
+    ++ (sends (Owner 2 Commits) Waits (commit 2 1 2 [] (recorded 1 0 0 1 2 0 (8 ∷ []) (0 ∷ [])) ∷ [])
+    ∷ step (ServerTakes 2) Nothing (message 21 2 0 0 1 0 1 [] ∷ []) (recorded 1 0 1 1 2 0 (8 ∷ []) (0 ∷ []))
+    ∷ answers (StationTakes 2) (CommittedAs 1)
+    ∷ asks 5
+    ∷ serves 0 callback
+    ∷ sends (StationTakes 2) Nothing (message 7 2 0 0 1 2 0 [] ∷ [])
+    ∷ serves 2 whole
+    ∷ answers (StationTakes 0) Written
+    ∷ []))
+    (recorded 1 0 1 1 2 0 (8 ∷ []) (0 ∷ []))
+    ∷ [])
+
+unfoldable pub C4 : Row
+C4 =
+    row "C4 2 has read 9: 7 dropping nothing, 17."
+    (OfLine
+    (reads 0 0
+    ++ reads 2 1
+    ++ (asks 5
+    ∷ serves 0 callback
+    ∷ sends (StationTakes 2) Nothing (message 7 2 0 0 1 0 0 [] ∷ [])
+    ∷ serves 2 (message 17 0 1 0 1 0 0 [] ∷ [])
+    ∷ answers (StationTakes 0) Written
+    ∷ []))
+    []
+    ∷ [])
+
+unfoldable pub C5 : Row
+C5 =
+    row "C5 2 has read 8: 6; 0 waits until 2 ends."
+    (OfLine
+    (reads 0 0
+    ++ reads 2 0
+    ++ (asks 5
+    ∷ serves 0 callback
+    ∷ sends (StationTakes 2) Nothing (message 6 2 0 0 1 0 0 [] ∷ [])
+    ∷ serves 2 []
+    ∷ answers (StationTakes 0) Empty
+    ∷ answers (Owner 0 (Write 8 6)) (Refused 7)
+    ∷ sends (Owner 2 Aborts) (AbortedFor 0) (message 4 2 0 0 1 0 0 [] ∷ message 7 2 0 0 1 2 0 [] ∷ [])
+    ∷ serves 2 []
+    ∷ serves 2 whole
+    ∷ answers (StationTakes 0) Written
+    ∷ []))
+    []
+    ∷ [])
+
+unfoldable pub C6 : Row
+C6 =
+    row "C6 0, then 2, read 8, and both write it: 2 gets cause 1."
+    (OfLine
+    (reads 0 0
+    ++ reads 2 0
+    ++ (asks 5
+    ∷ sends (Owner 2 (Write 8 6)) Waits (message 2 2 1 0 1 0 0 [] ∷ [])
+    ∷ serves 0 callback
+    ∷ serves 2 []
+    ∷ sends (StationTakes 2) Nothing (message 6 2 0 0 1 0 0 [] ∷ [])
+    ∷ serves 2 (message 22 2 0 1 1 0 0 [] ∷ [])
+    ∷ sends (StationTakes 2) (AbortedFor 1) (message 7 2 0 0 1 2 0 [] ∷ [])
+    ∷ serves 2 whole
+    ∷ answers (StationTakes 0) Written
+    ∷ []))
+    []
+    ∷ [])
+
+unfoldable pub C7 : Row
+C7 =
+    row "C7 1 reads 8, 0 commits 8: 1 gets 23 and ends, cause 2."
+    (OfLine
+    (reads 1 0
+    ++ (answers (Owner 0 Begin) (Begun 1)
+    ∷ getsWhole 5)
+    ++ (sends (Owner 0 Commits) Waits (commit 0 1 2 [] (recorded 0 1 0 1 0 0 (8 ∷ []) (5 ∷ [])) ∷ [])
+    ∷ step (ServerTakes 0) Nothing (message 21 0 0 0 1 0 1 [] ∷ message 23 1 0 0 0 2 0 [] ∷ []) (recorded 0 1 1 1 0 0 (8 ∷ []) (5 ∷ []))
+    ∷ answers (StationTakes 1) (AbortedFor 2)
+    ∷ answers (StationTakes 0) (CommittedAs 1)
+    ∷ []))
+    (recorded 0 1 1 1 0 0 (8 ∷ []) (5 ∷ []))
+    ∷ [])
+
+unfoldable pub C8 : Row
+C8 =
+    row "C8 0 holds page 1 whole, 1 commits a write to 9: cause 3."
+    (OfLine
+    (reads 0 0
+    ++ getsWhole 5
+    ++ (answers (Owner 1 Begin) (Begun 1)
+    ∷ sends (Owner 1 (Write 9 7)) Waits (message 1 1 1 1 1 0 0 [] ∷ [])
+    ∷ serves 1 (message 16 1 1 1 1 0 0 [] ∷ [])
+    ∷ answers (StationTakes 1) Written
+    ∷ sends (Owner 1 Commits) Waits (commit 1 1 2 [] (recorded 0 1 0 1 1 1 (9 ∷ []) (7 ∷ [])) ∷ [])
+    ∷ serves 1 (message 22 1 0 3 1 0 0 [] ∷ [])
+    ∷ answers (StationTakes 1) (AbortedFor 3)
+    ∷ []))
+    []
+    ∷ [])
+
+unfoldable pub C9 : Row
+C9 =
+    row "C9 0 wrote 8 under 18, 2 reads 9: 19, 8 with set 1, 16 with unavailable set 1."
+    (OfLine
+    (reads 0 0
+    ++ getsWhole 5
+    ++ (answers (Owner 2 Begin) (Begun 1)
+    ∷ sends (Owner 2 (Read 9)) Waits (message 1 2 1 1 1 0 0 [] ∷ [])
+    ∷ serves 2 (message 19 0 1 0 1 0 0 [] ∷ [])
+    ∷ sends (StationTakes 0) Nothing (message 8 0 1 0 1 0 0 (1 ∷ []) ∷ [])
+    ∷ serves 0 (message 16 2 1 1 1 0 0 (1 ∷ []) ∷ [])
+    ∷ answers (StationTakes 2) (Value 0)
+    ∷ []))
+    []
+    ∷ [])
+
+-- the addresses from a on, n of them
+abbrev upFrom : ℕ → ℕ → List ℕ
+upFrom a zero = []
+upFrom a (suc n) = a ∷ upFrom (suc a) n
+
+-- transaction 1 of station 0 has used all pages; its record by the two bytes of n, those of m, and what stands behind the header
+abbrev commitsAll : ℕ → ℕ → ℕ → ℕ → List ℕ → List ℕ
+commitsAll n n′ m m′ rest =
+    3 ∷ 0 ∷ 0 ∷ 0 ∷ 1 ∷ 0 ∷ 0 ∷ 0 ∷ 255 ∷ 255 ∷ 255 ∷ 255
+    ∷ (replicate 100 0 ++ (padded 128 [] ++ (n ∷ n′ ∷ m ∷ m′ ∷ 0 ∷ 0 ∷ 0 ∷ 0 ∷ 1 ∷ 0 ∷ 0 ∷ 0 ∷ 0 ∷ 0 ∷ 0 ∷ 0 ∷ rest)))
+
+unfoldable pub C10 : Row
+C10 =
+    row "C10 n = m = 256: 4,624 bytes; n = 257: number 5."
+    -- on the way up: 240 bytes and the record's
+    (OfCommit (commitsAll 0 1 0 1 (upFrom 0 256 ++ (upFrom 0 256 ++ replicate 4096 0))) 4864 0
+    ∷ OfFile (filled 256 256) 4624 0 "commit station transaction reads writes\n1 0 1 256 256\nend 1\n"
+    -- a byte has no 257th address
+    ∷ OfCommit (commitsAll 1 1 0 0 (upFrom 0 256 ++ (255 ∷ replicate 2056 0))) 2569 5
+    ∷ OfFile (filled 257 0) 2329 5 "commit station transaction reads writes\nrefused 5 after 0\n"
+    ∷ [])
+
+-- no calls archive nothing; record check of no bytes is short
+unfoldable pub C11 : Row
+C11 =
+    row "C11 empty file: the heading, then `end 0`."
+    (OfLine [] []
+    ∷ OfFile [] 0 12 "commit station transaction reads writes\nend 0\n"
+    ∷ [])
+
+-- 0 reads 8, writes 1 there and commits
+abbrev pub commits12 : List Step
+commits12 =
+    reads 0 0
+    ++ getsWhole 1
+    ++ (sends (Owner 0 Commits) Waits (commit 0 1 2 [] (recorded 1 1 0 1 0 0 (8 ∷ 8 ∷ []) (0 ∷ 1 ∷ [])) ∷ [])
+    ∷ step (ServerTakes 0) Nothing (message 21 0 0 0 1 0 1 [] ∷ []) c12
+    ∷ answers (StationTakes 0) (CommittedAs 1)
+    ∷ [])
+
+-- "a read of 8 (value 1) in transaction 1 of station 1": page 1 comes with version 1 and goes up with it
+abbrev pub readOf8By1 : List Step
+readOf8By1 =
+    answers (Owner 1 Begin) (Begun 1)
+    ∷ sends (Owner 1 (Read 8)) Waits (message 1 1 1 0 1 0 0 [] ∷ [])
+    ∷ serves 1 (message 16 1 1 0 1 0 1 (replicate 32 0 ++ (1 ∷ [])) ∷ [])
+    ∷ answers (StationTakes 1) (Value 1)
+    ∷ sends (Owner 1 Commits) Waits (commit 1 1 2 (0 ∷ 0 ∷ 0 ∷ 0 ∷ 1 ∷ []) (recorded 1 0 0 1 1 1 (8 ∷ []) (1 ∷ [])) ∷ [])
+    ∷ step (ServerTakes 1) Nothing (message 21 1 0 0 1 0 2 [] ∷ []) readOf8
+    ∷ answers (StationTakes 1) (CommittedAs 2)
+    ∷ []
+
+unfoldable pub C12 : Row
+C12 =
+    row "C12 record `01 00 01 00 01 00 00 00 01 00 00 00 00 00 00 00 08 08`, eight `00`, `01`, seven `00`: 34 bytes."
+    (OfLine commits12 c12
+    ∷ OfFile c12 34 0 "commit station transaction reads writes\n1 0 1 1 1\nend 1\n"
+    -- "C12 followed by a read of 8 (value 1) in transaction 1 of station 1 prints"
+    ∷ OfLine (commits12 ++ readOf8By1) (c12 ++ readOf8)
+    ∷ OfFile (c12 ++ readOf8) 59 0 "commit station transaction reads writes\n1 0 1 1 1\n2 1 1 1 0\nend 2\n"
+    ∷ [])
+
+unfoldable pub table : List Row
+table = C1 ∷ C2 ∷ C3 ∷ C4 ∷ C5 ∷ C6 ∷ C7 ∷ C8 ∷ C9 ∷ C10 ∷ C11 ∷ C12 ∷ []
