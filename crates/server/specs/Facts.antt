@@ -1,0 +1,202 @@
+-- What numbers 1 to 6 tell, where none of them is due: all that the step's parts ask for.
+use Prim.Native.Nat.{ℕ, suc, _+_, _*_, _≤_, _<_}
+use mathlib.Core.Path.{_≡_, refl, sym, ap, _∙_}
+use mathlib.Core.Logic.{_≢_}
+use mathlib.Core.Bool.{Bool, true, false, _&&_, cond}
+use mathlib.Core.List.{List, [], _∷_}
+use native.Mathlib.Omega.{arith}
+use lib.ListN.{length, drop}
+use lib.Dec.{eqb, leb}
+use borrow.Author.Tests.{leb-true, ne-eqb}
+use Rattle.sets.specs.Base.{turned}
+use Rattle.sets.specs.Laws.{byEq, byB, eqb-same, eqb-yes, eqb-no, and-l, and-r}
+use Rattle.le.specs.Le.{u16At}
+use Rattle.cells.specs.Num.{AllBytes, bytes-all}
+use Rattle.line.specs.Messages.{Sent, Rec}
+use Rattle.line.specs.Server.{Server, Waiter, noWaiter, start, accept, serverStep}
+use Rattle.line.specs.Bounds.{step-128, step-8}
+use Rattle.message.specs.Layout.{kindOf, stationOf, pageOf, requesterOf, objectOf, transactionOf}
+use Rattle.message.specs.Commit.{entriesOf}
+use Rattle.message.specs.Number.{upNumber}
+use Rattle.message.specs.Accepted.{fields-fit}
+use Rattle.message_meaning.specs.Meant.{upOf}
+use Rattle.message_meaning.specs.CommitRead.{u16-behind}
+use Rattle.message_meaning.specs.UpAccepted.{CommitFields, UpAccepted, up-accepted}
+use Rattle.server_state.specs.Layout.{agesOf, arrivalsOf, lastOf}
+use Rattle.server_state.specs.Valid.{valid}
+use Rattle.server_state.specs.Facts.{valid-ranged}
+use Rattle.server_tests.specs.Tests.{unexpectedB}
+use Rattle.server_changes.specs.Changes.{noticeB, leaveB, unpackB}
+use Rattle.server_actions.specs.declared.Counts.{Counts}
+use Rattle.server_actions.specs.Actions.{addressOf, acceptB}
+use Rattle.server_actions.specs.Pass.{serverStepB}
+use Rattle.server_actions.specs.Step.{ready, kindsOf, checkStepB}
+use Rattle.server_actions.specs.Posting.{from, counts, Room, Whole}
+use Rattle.server_accept.specs.Facts.{Packed, LastKept, Acceptable}
+use Rattle.server_meaning.specs.Meant.{meant, Is}
+use Rattle.server_meaning.specs.Tests.{wanting, last-at}
+use Rattle.server_meaning.specs.Changes.{notice-is}
+use Rattle.server_meaning.specs.Waiting.{leave-is}
+use Rattle.server_meaning.specs.Commit.{unpack-is}
+use Rattle.step_meaning.specs.Relation.{ReadAs, AllSent, AllRecs, Serves}
+use Rattle.step_meaning.specs.Accept.{accept-means}
+use Rattle.step_meaning.specs.Pass.{step-means, sent-length}
+use Rattle.line_bytes.specs.Served.{sound-of}
+use Rattle.server_pass.specs.Sane.{Sane, after}
+
+-- NUMBER 1
+
+module _ (s o q : List ℕ) (e : ready s o q ≡ true) where
+  pub ready-valid : valid s ≡ true
+  unfolding ready
+  ready-valid = and-l (valid s) _ (and-l (valid s && leb 14336 (length o)) _ e)
+
+  pub ready-size : length s ≡ 37072
+  ready-size = valid-ranged s ready-valid .size
+
+  messages-fit : 14336 ≤ length o
+  unfolding ready
+  messages-fit = leb-true 14336 (length o) (and-r (valid s) (leb 14336 (length o)) (and-l (valid s && leb 14336 (length o)) (leb 36992 (length q)) e))
+
+  records-fit : 36992 ≤ length q
+  unfolding ready
+  records-fit = leb-true 36992 (length q) (and-r (valid s && leb 14336 (length o)) (leb 36992 (length q)) e)
+
+-- NUMBERS 2 TO 5
+
+-- what the test for number 6 asks for
+pub record Readable (m : List ℕ) : Type 0 where
+  pub length-is : 112 ≤ length m
+  pub station : stationOf m < 8
+  pub commit : kindOf m ≡ 3 → Packed m
+  pub page : kindOf m ≡ 5 → pageOf m < 32
+
+packed : (kind : ℕ) (m : List ℕ) → CommitFields kind m → Packed m
+packed kind m c =
+    let n : entriesOf m ≡ entriesIn = rw (u16-behind 240 m 0, u16-behind 240 m 2) in
+    record { front = omega (arith, c .length-is); entries = omega (arith, c .length-is, n) }
+  where
+    entriesIn : ℕ
+    entriesIn = u16At (drop 240 m) 0 + u16At (drop 240 m) 2
+
+module _ (kinds m : List ℕ) (e : upNumber kinds m ≡ 0) where
+  fields : UpAccepted kinds m
+  fields = up-accepted kinds m e
+
+  long : 112 ≤ length m
+  long =
+      byEq (kindOf m) 3 (λ k. omega (arith, (packed _ m (fields .commit (eqb-yes (kindOf m) 3 k))) .front))
+      (λ k. omega (arith, fields .length-is (eqb-no (kindOf m) 3 k)))
+
+  pub readable : Readable m
+  readable =
+      record {
+        length-is = long;
+        station = fields .station-is;
+        commit = λ k. packed _ m (fields .commit k);
+        page = λ k. fields .purge k .page-is;
+      }
+
+-- NUMBER 6
+
+pub checked-up : (m s : List ℕ) → checkStepB m s ≡ 0 → upNumber (kindsOf s) m ≡ 0
+unfolding checkStepB
+checked-up m s e = byEq (upNumber (kindsOf s) m) 0 (λ k. eqb-yes (upNumber (kindsOf s) m) 0 k) (λ k. rw k at e)
+
+pub check-up : (m s : List ℕ) {n : ℕ} → n ≡ upNumber (kindsOf s) m → n ≢ 0 → n ≡ checkStepB m s
+unfolding checkStepB
+check-up m s e k = rw (← e, ne-eqb _ 0 k)
+
+pub check-6 : (m s : List ℕ) {n : ℕ} → n ≡ upNumber (kindsOf s) m → n ≡ 0 → unexpectedB s m ≡ true → 6 ≡ checkStepB m s
+unfolding checkStepB
+check-6 m s e k u = rw (← e, k, u)
+
+pub check-0 : (m s : List ℕ) {n : ℕ} → n ≡ upNumber (kindsOf s) m → n ≡ 0 → unexpectedB s m ≡ false → 0 ≡ checkStepB m s
+unfolding checkStepB
+check-0 m s e k u = rw (← e, k, u)
+
+-- NONE OF THEM
+
+every-112 : (ms : List (List ℕ)) (xs : List Sent) → AllSent ms xs → Whole ms
+every-112 [] [] h = tt
+every-112 [] (x ∷ xs) h = absurd h
+every-112 (m ∷ ms) [] h = absurd h
+every-112 (m ∷ ms) (x ∷ xs) h = (h .0 .length-is, every-112 ms xs (h .1))
+
+recs-length : (bs : List (List ℕ)) (rs : List Rec) → AllRecs bs rs → length bs ≡ length rs
+recs-length [] [] h = refl
+recs-length [] (r ∷ rs) h = absurd h
+recs-length (b ∷ bs) [] h = absurd h
+recs-length (b ∷ bs) (r ∷ rs) h = ap suc (recs-length bs rs (h .1))
+
+module _ (m s : List ℕ) (v : valid s ≡ true) (bs : AllBytes s) (bm : AllBytes m) (ok : checkStepB m s ≡ 0) where
+  is : Is s (meant s)
+  is = record { len = valid-ranged s v .size; bytes = bs; is = refl }
+
+  taken : upNumber (kindsOf s) m ≡ 0
+  taken = checked-up m s ok
+
+  accepted : Serves (acceptB m (from s)) (accept (stationOf m) (upOf m) (start (meant s)))
+  accepted =
+      accept-means is (wanting s v) (sound-of is v) (kindsOf s) m taken bm (valid-ranged s v .ages-fit) (valid-ranged s v .arrivals-fit)
+
+  stepped : Serves (serverStepB m s) (serverStep (stationOf m) (upOf m) (meant s))
+  stepped = step-means m s (stationOf m) (meant s) accepted
+
+  pub sane-accepted : Sane ((acceptB m (from s)) .state)
+  sane-accepted = after accepted
+
+  -- "128 messages and 36,992 record bytes": for every valid state, also one that no run reaches
+  pub step-room : (o q : List ℕ) → ready s o q ≡ true → Room o q (counts 0 0) (serverStepB m s)
+  step-room o q e =
+      let y = serverStepB m s in
+      let z = serverStep (stationOf m) (upOf m) (meant s) in
+      let n : length (y .sent) ≤ 128 = rw (sent-length (y .sent) (z .sent) (stepped .sent)) (step-128 (stationOf m) (upOf m) (meant s)) in
+      let k : length (y .recs) ≤ 8 =
+      rw (recs-length (y .recs) (z .recs) (stepped .recs)) (step-8 (stationOf m) (upOf m) (meant s) (readable (kindsOf s) m taken .station)) in
+      record { messages = few n (messages-fit s o q e); records = short k (records-fit s o q e) }
+    where
+      few : {n l : ℕ} → n ≤ 128 → 14336 ≤ l → (0 + n) * 112 ≤ l
+      few a b = omega arith
+
+      short : {n l : ℕ} → n ≤ 8 → 36992 ≤ l → 0 + n * 4624 ≤ l
+      short a b = omega arith
+
+  pub step-whole : Whole ((serverStepB m s) .sent)
+  step-whole = every-112 ((serverStepB m s) .sent) ((serverStep (stationOf m) (upOf m) (meant s)) .sent) (stepped .sent)
+
+  -- a commit's work leaves the last commit number
+  last-kept : kindOf m ≡ 3 → LastKept (stationOf m) m (noticeB (stationOf m) (transactionOf m) s)
+  last-kept k =
+      let f = up-accepted (kindsOf s) m taken in
+      let i = stationOf m in
+      let l = f .station-is in
+      let c = f .commit k in
+      let h = notice-is is i (transactionOf m) l (fields-fit m (bytes-all m bm) .transaction-fits) (omega (arith, valid-ranged s v .ages-fit)) in
+      last-at (unpack-is _ m (bytes-all m bm) c (leave-is h i l) i l noWaiter (rw (eqb-same i)) refl refl) ∙ sym (last-at h)
+
+  pub acceptable : Acceptable s m
+  acceptable =
+      let f = up-accepted (kindsOf s) m taken in
+      let r = readable (kindsOf s) m taken in
+      record {
+        length-is = r .length-is;
+        station = f .station-is;
+        kind = (f .kind-from, f .kind-to);
+        address = λ k. small (f .request k .page-is) (f .request k .object-is);
+        commit = r .commit;
+        last = last-kept;
+        page = r .page;
+        requester = λ a b. asker f a b;
+        loosened = λ k. f .written-set k .page-is;
+        ages = valid-ranged s v .ages-fit;
+        arrivals = valid-ranged s v .arrivals-fit;
+      }
+    where
+      small : {p o : ℕ} → p < 32 → o < 8 → p * 8 + o < 256
+      small a b = omega arith
+
+      asker : UpAccepted (kindsOf s) m → 6 ≤ kindOf m → kindOf m ≤ 7 → requesterOf m < 8
+      asker f a b =
+          byEq (kindOf m) 6 (λ k. f .busy (eqb-yes (kindOf m) 6 k) .requester-is)
+          (λ k. f .done (omega (arith, eqb-no (kindOf m) 6 k)) .requester-is)
