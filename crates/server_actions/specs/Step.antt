@@ -1,7 +1,7 @@
 -- The server's step on a lent state, a message and lent output: numbers 1 to 6, then the step, its messages and records.
 use Prim.Native.Nat.{ℕ}
 use mathlib.Core.List.{List}
-use mathlib.Core.Bool.{Bool, _&&_, cond}
+use mathlib.Core.Bool.{Bool, true, false, _&&_, cond}
 use lib.ListN.{length, take, drop}
 use lib.Seq.{sets}
 use lib.Dec.{eqb, leb}
@@ -25,8 +25,9 @@ kindsOf s = take 8 (drop 37016 s)
 unfoldable pub checkStepB : List ℕ → List ℕ → ℕ
 checkStepB m s = cond (eqb (upNumber (kindsOf s) m) 0) (turned (unexpectedB s m) 6 0) (upNumber (kindsOf s) m)
 
--- everything lent, afterwards, with the number (0 for none) and the counts of messages and of bytes of records
+-- everything lent, afterwards, with whether the call was accepted, the number (0 for none) and the counts of messages and of bytes of records
 pub record Outcome : Type 0 where
+  pub accepted : Bool
   pub state : List ℕ
   pub messages : List ℕ
   pub records : List ℕ
@@ -36,12 +37,13 @@ pub record Outcome : Type 0 where
 
 -- "Refused calls answer the number, send nothing and change no state or lent buffer."
 abbrev pub refused : ℕ → List ℕ → List ℕ → List ℕ → Outcome
-refused n s o q = record { state = s; messages = o; records = q; number = n; sent = 0; archived = 0 }
+refused n s o q = record { accepted = false; state = s; messages = o; records = q; number = n; sent = 0; archived = 0 }
 
 -- messages from the start of o, records from the start of q
 abbrev pub laid : List ℕ → List ℕ → Serving → Outcome
 laid o q x =
     record {
+      accepted = true;
       state = x .state;
       messages = sets o 0 (flat (x .sent));
       records = sets q 0 (flat (x .recs));

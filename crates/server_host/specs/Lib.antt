@@ -1,0 +1,2 @@
+-- The server's calls as C takes them.
+pub mod Host
