@@ -11,6 +11,7 @@ pub mod lent;
 pub mod little;
 pub mod message;
 pub mod owner;
+pub mod places;
 pub mod runs;
 pub mod scripts;
 pub mod server;

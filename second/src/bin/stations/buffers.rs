@@ -2,6 +2,7 @@
 
 use second::line::lent::{Lent, COMMIT, MESSAGES, TOLD};
 use second::line::message::LENGTH as MESSAGE;
+use second::line::places::Place;
 use second::line::station::state::{Field, LENGTH};
 use second::random::Random;
 use std::fmt::LowerHex;

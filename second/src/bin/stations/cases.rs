@@ -10,6 +10,7 @@ use second::line::call::Call;
 use second::line::crossing::Crossing;
 use second::line::damage;
 use second::line::lent::{Lent, Operation, BUFFER};
+use second::line::places::Place;
 use second::line::sets::STATIONS;
 use second::line::station::state::{self, Field, LENGTH};
 use second::line::station::Station;

@@ -5,6 +5,7 @@ use crate::tally::Tallies;
 use second::ffi::stations as proved;
 use second::line::lent::{Lent, Operation};
 use second::line::message::{Down, Up, LENGTH};
+use second::line::places::Place;
 use second::line::sets::STATIONS;
 use second::line::station::state::{self, Field};
 use second::line::Kind;

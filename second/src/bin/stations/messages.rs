@@ -2,6 +2,7 @@
 
 use second::generate::{self, Size};
 use second::line::message::{Commit, Down, Grant, PageMessage, Up, BEFORE_RECORD, LENGTH};
+use second::line::places::Place;
 use second::line::sets::{page_bit, page_of, rising, Addresses, STATIONS};
 use second::line::station::state::Field;
 use second::line::{Cause, Kind};

@@ -1,5 +1,6 @@
 //! States for damaged cases: real ones changed, random ones, and some of a wrong length.
 
+use second::line::places::Place;
 use second::line::sets::{object_bit, page_bit, page_of, rising, Addresses};
 use second::line::sets::{OBJECTS, PAGES, STATIONS};
 use second::line::station::state::{Field, LENGTH};
