@@ -4,6 +4,7 @@
 //! `bench` times both; `line_runs` tries the line on random crossings.
 
 pub mod archive;
+pub mod buffers;
 pub mod chart;
 #[cfg(feature = "proved")]
 pub mod ffi;

@@ -14,6 +14,7 @@ pub mod owner;
 pub mod places;
 pub mod runs;
 pub mod scripts;
+pub mod served;
 pub mod server;
 pub mod sets;
 pub mod shorten;

@@ -1,16 +1,15 @@
 //! Damaged cases, each on a copy of a state, so that the line goes on.
 
-use crate::buffers::{Room, GUARD};
 use crate::judge::{sort, Agreed, Difference, Judge};
 use crate::line::{down_check, up_check, Line};
 use crate::{messages, states};
+use second::buffers::{Room, GUARD};
 use second::ffi::stations as proved;
 use second::generate;
 use second::line::call::Call;
 use second::line::crossing::Crossing;
 use second::line::damage;
 use second::line::lent::{Lent, Operation, BUFFER};
-use second::line::places::Place;
 use second::line::sets::STATIONS;
 use second::line::station::state::{self, Field, LENGTH};
 use second::line::station::Station;
@@ -220,22 +219,10 @@ fn raw(crossing: &mut Crossing, line: &Line) -> Vec<u8> {
 
 /// Mostly enough; else one of them is too short, or all.
 fn room(random: &mut Random) -> (&'static str, Room) {
-    let mut room = Room::enough(random);
-    if !random.one_in(12) {
-        return ("enough", room);
+    match random.one_in(12) {
+        true => ("short", Room::short::<Field>(random)),
+        false => ("enough", Room::enough::<Field>(random)),
     }
-    let which = random.below(4);
-    let mut shorter = |least: usize| random.pick(&[0, 1, least / 2, least - 1, least - 1]);
-    if which == 0 || which == 3 {
-        room.messages = shorter(Room::LEAST.messages);
-    }
-    if which == 1 || which == 3 {
-        room.commit = shorter(Room::LEAST.commit);
-    }
-    if which == 2 || which == 3 {
-        room.told = shorter(Room::LEAST.told);
-    }
-    ("short", room)
 }
 
 /// "WAX_BUFFER length is not WAX_STATION_LENGTH", then the range.

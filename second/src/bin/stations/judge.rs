@@ -1,7 +1,7 @@
 //! Gives each call to a compiled station and compares number and every byte lent with what this implementation says.
 
-use crate::buffers::{show_state, Buffers, Room, Stock};
 use crate::tally::Tallies;
+use second::buffers::{show_state, Buffers, Room, Stock};
 use second::ffi::stations as proved;
 use second::line::lent::{Lent, Operation};
 use second::line::message::{Down, Up, LENGTH};
@@ -13,6 +13,9 @@ use second::numbers::OK;
 use second::random::Random;
 use second::show::hex;
 
+/// Damaged states may be twice as long as one.
+const LONGEST: usize = 2 * state::LENGTH;
+
 /// Where the two differ, in words.
 pub struct Difference(pub String);
 
@@ -23,8 +26,8 @@ pub struct Judge {
     show: bool,
     random: Random,
     stock: Stock,
-    expected: Buffers,
-    given: Buffers,
+    expected: Buffers<Field>,
+    given: Buffers<Field>,
 }
 
 impl Judge {
@@ -33,7 +36,7 @@ impl Judge {
         Judge {
             tallies: Tallies::default(),
             show,
-            stock: Stock::new(&mut random),
+            stock: Stock::new(&mut random, LONGEST),
             random,
             expected: Buffers::default(),
             given: Buffers::default(),
@@ -61,7 +64,7 @@ impl Judge {
         if number == OK {
             self.expected.take_fields(free, &self.given);
         }
-        if number != expected || self.expected != self.given {
+        if number != expected || !self.expected.same(&self.given) {
             return self.differ(operation, state, room, &expected.to_string(), number);
         }
         state.copy_from_slice(self.given.state());
@@ -80,7 +83,7 @@ impl Judge {
             self.expected.take_fields(&Field::ALL, &self.given);
             self.expected.take_sent(&self.given);
         }
-        if self.expected != self.given {
+        if !self.expected.same(&self.given) {
             return self.differ(operation, state, room, "any", number);
         }
         Ok(number)
@@ -110,7 +113,7 @@ impl Judge {
             println!("{}", show(operation));
         }
         let random = &mut self.random;
-        self.stock.fill(&mut self.given, state, room, random);
+        self.given.fill(&self.stock, state, room, random);
         self.expected.copy(&self.given);
     }
 
@@ -118,7 +121,7 @@ impl Judge {
         let number = proved::call(operation, &mut self.given.lent());
         self.tallies.called(operation, number);
         if number == OK {
-            self.tallies.told(self.given.told());
+            self.tallies.told(self.given.numbers());
         }
         number
     }
@@ -153,7 +156,11 @@ impl Judge {
         for line in self.expected.differences(&self.given) {
             text += &format!("{line}\n");
         }
-        text += &format!("state before ({}):\n{}", sort(state), show_state(state));
+        text += &format!(
+            "state before ({}):\n{}",
+            sort(state),
+            show_state::<Field>(state)
+        );
         Err(Difference(text))
     }
 }
