@@ -38,6 +38,25 @@ pub enum Number {
     Spent = 11,
 }
 
+impl Number {
+    pub fn of(number: u32) -> Option<Number> {
+        [
+            Number::Length,
+            Number::Kind,
+            Number::Range,
+            Number::Record,
+            Number::Unexpected,
+            Number::Waiting,
+            Number::Closed,
+            Number::Open,
+            Number::Kept,
+            Number::Spent,
+        ]
+        .into_iter()
+        .find(|one| *one as u32 == number)
+    }
+}
+
 /// "Stations 0 to 7, fixed for life as locking (0) or validating (1)".
 #[derive(Clone, Copy, Debug, PartialEq, Eq)]
 #[repr(u8)]
