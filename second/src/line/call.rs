@@ -215,17 +215,26 @@ impl<S: ServerEnd, T: StationEnd> Driver<S, T> {
         Ok(())
     }
 
+    /// The line; none before the first `fresh`.
+    pub fn world(&self) -> Option<&World<S, T>> {
+        self.world.as_ref()
+    }
+
     /// The reply to one command, without its line end.
     pub fn reply(&mut self, command: &str) -> String {
-        let reply = match (Call::parse(command), &mut self.world) {
+        self.answer(Call::parse(command).as_ref()).to_string()
+    }
+
+    /// The reply to one call; none is a malformed command.
+    pub fn answer(&mut self, call: Option<&Call>) -> Reply {
+        match (call, &mut self.world) {
             (Some(Call::Fresh(kinds)), world) => {
-                *world = Some(World::with_ends(kinds));
+                *world = Some(World::with_ends(*kinds));
                 Reply::Ready
             }
-            (Some(call), Some(world)) => world.call(&call),
+            (Some(call), Some(world)) => world.call(call),
             _ => Reply::Misplaced,
-        };
-        reply.to_string()
+        }
     }
 }
 
