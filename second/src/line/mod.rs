@@ -18,6 +18,7 @@ pub mod served;
 pub mod server;
 pub mod sets;
 pub mod shorten;
+pub mod spoil;
 pub mod station;
 pub mod truth;
 pub mod world;

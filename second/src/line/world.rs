@@ -191,6 +191,16 @@ impl<S: ServerEnd, T: StationEnd> World<S, T> {
 }
 
 impl<S, T> World<S, T> {
+    /// The message that a step is given: the first of its line, or a raw one.
+    pub fn message_of<'a>(&'a self, call: &'a Call) -> Option<&'a [u8]> {
+        match call {
+            Call::Server(station) => self.first_up(*station),
+            Call::Station(station) => self.first_down(*station),
+            Call::ServerRaw(bytes) | Call::StationRaw(_, bytes) => Some(bytes),
+            _ => None,
+        }
+    }
+
     pub fn up_length(&self, station: u8) -> usize {
         self.up[station as usize].len()
     }

@@ -64,8 +64,14 @@ impl Script {
         self.command(call.to_string(), reached)
     }
 
+    fn taken(&self, call: Option<&Call>) -> Option<Vec<u8>> {
+        let message = self.driver.world()?.message_of(call?)?;
+        Some(message.to_vec())
+    }
+
     fn command(&mut self, command: String, reached: &mut Reached) -> Reply {
         let call = Call::parse(&command);
+        let taken = self.taken(call.as_ref());
         let reply = self.driver.answer(call.as_ref());
         reached.commands += 1;
         match &reply {
@@ -74,7 +80,7 @@ impl Script {
             _ => (),
         }
         if let (Some(call), Some(world)) = (&call, self.driver.world()) {
-            reached.counts.note(call, None, &reply, world);
+            reached.counts.note(call, taken.as_deref(), &reply, world);
         }
         self.commands.push(command);
         self.replies.push(reply.to_string());

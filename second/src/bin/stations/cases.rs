@@ -11,6 +11,7 @@ use second::line::crossing::Crossing;
 use second::line::damage;
 use second::line::lent::{Lent, Operation, BUFFER};
 use second::line::sets::STATIONS;
+use second::line::spoil;
 use second::line::station::state::{self, Field, LENGTH};
 use second::line::station::Station;
 use second::line::Kind;
@@ -55,7 +56,7 @@ impl Cases {
         let random = &mut self.random;
         if random.one_in(20) {
             damage = "of a wrong length";
-            states::of_a_wrong_length(random, &mut state);
+            spoil::of_a_wrong_length::<Field>(random, &mut state);
         }
         let (roomy, room) = room(random);
         judge.tallies.states.count(damage);
@@ -114,11 +115,11 @@ impl Cases {
             }
             14 => {
                 let like = raw(crossing, line);
-                let bytes = messages::of_any_length(random, &like);
+                let bytes = spoil::of_any_length(random, &like);
                 ("message of any length", bytes)
             }
             _ => {
-                let commit = messages::commit(random, &line.world.kinds);
+                let commit = spoil::commit(random, &line.world.kinds);
                 ("commit", commit)
             }
         };
@@ -172,7 +173,7 @@ impl Cases {
     fn up_check(&mut self, line: &Line, crossing: &mut Crossing, judge: &mut Judge) -> Agreed<()> {
         let random = &mut self.random;
         let message = match random.below(4) {
-            0 | 1 => messages::commit(random, &line.world.kinds),
+            0 | 1 => spoil::commit(random, &line.world.kinds),
             2 => raw(crossing, line),
             _ => {
                 let like = raw(crossing, line);
