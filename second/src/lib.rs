@@ -12,10 +12,12 @@ pub mod generate;
 pub mod line;
 pub mod numbers;
 pub mod options;
+pub mod program;
 pub mod random;
 pub mod record;
 pub mod samples;
 pub mod show;
+pub mod tally;
 pub mod text;
 
 /// Why a call is turned back, by document 01's number.

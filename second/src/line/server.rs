@@ -159,11 +159,17 @@ impl Server {
         }
     }
 
-    pub fn step(&mut self, bytes: &[u8]) -> Result<Step, Number> {
+    /// The sender and its message, if neither number 2 to 5 nor 6 stands against it.
+    pub fn admits(&self, bytes: &[u8]) -> Result<(u8, Up), Number> {
         let (from, message) = Up::decode(bytes, &self.kinds)?;
-        if !self.expects(from, &message) {
-            return Err(Number::Unexpected);
+        match self.expects(from, &message) {
+            true => Ok((from, message)),
+            false => Err(Number::Unexpected),
         }
+    }
+
+    pub fn step(&mut self, bytes: &[u8]) -> Result<Step, Number> {
+        let (from, message) = self.admits(bytes)?;
         let mut step = Step::default();
         if let Some(transaction) = message.own_transaction() {
             self.note_transaction(from, transaction);

@@ -3,7 +3,7 @@
 use super::{Callbacks, Request, Seen, Server, Waiter, WholeLock};
 use crate::line::message::{pages_of, Commit, Up};
 use crate::line::places::Place;
-use crate::line::sets::{address, object_bit, page_bit, Addresses, ADDRESSES};
+use crate::line::sets::{address, object_bit, page_bit, rising, Addresses, ADDRESSES};
 use crate::line::sets::{OBJECTS, PAGES, STATIONS};
 use crate::line::Kind;
 use crate::record::Record;
@@ -163,6 +163,13 @@ fn apart(bytes: &[u8], counts: Field, number: Field) -> bool {
 
 /// What the bytes say; None where they are not valid, or say what a `Server` cannot hold. Leftovers are not looked at.
 pub fn decode(bytes: &[u8]) -> Option<Server> {
+    let server = near(bytes)?;
+    let holds = asked_are_held(bytes) && entries_fit(bytes, &server.waiting);
+    holds.then_some(server)
+}
+
+/// What valid bytes say beside entries of the waiting list that a `Server` cannot hold: it admits the right messages.
+pub fn near(bytes: &[u8]) -> Option<Server> {
     if !valid(bytes) {
         return None;
     }
@@ -179,9 +186,9 @@ pub fn decode(bytes: &[u8]) -> Option<Server> {
         next_age: Field::NextAge.long(bytes, 0),
         next_arrival: Field::NextArrival.long(bytes, 0),
         locks: array::from_fn(|station| locks(bytes, station as u8)),
-        whole: whole(bytes)?,
+        whole: array::from_fn(|page| whole(bytes, page)),
         listed: array::from_fn(|station| Field::Listed.word(bytes, station)),
-        waiting: waiting(bytes, &kinds)?,
+        waiting: waiting(bytes, &kinds),
     })
 }
 
@@ -199,47 +206,27 @@ fn locks(bytes: &[u8], station: u8) -> Addresses {
     (0..=u8::MAX).filter(own).collect()
 }
 
+fn whole(bytes: &[u8], page: usize) -> Option<WholeLock> {
+    let holder = station_of(Field::Whole.byte_of(bytes, page))?;
+    let asked = Field::Asked.word(bytes, 0) & page_bit(page as u8) != 0;
+    Some(WholeLock { holder, asked })
+}
+
 /// A 19 is sent for a whole lock that is there.
-fn whole(bytes: &[u8]) -> Option<[Option<WholeLock>; PAGES]> {
-    let asked = Field::Asked.word(bytes, 0);
-    let whole = array::from_fn(|page| {
-        let holder = station_of(Field::Whole.byte_of(bytes, page))?;
-        let asked = asked & page_bit(page as u8) != 0;
-        Some(WholeLock { holder, asked })
-    });
-    let fits = |page: usize| whole[page].is_some() || asked & page_bit(page as u8) == 0;
-    (0..PAGES).all(fits).then_some(whole)
+fn asked_are_held(bytes: &[u8]) -> bool {
+    rising(Field::Asked.word(bytes, 0)).all(|page| whole(bytes, page.into()).is_some())
 }
 
 /// The waiting list, by arrival.
-fn waiting(bytes: &[u8], kinds: &[Kind; STATIONS]) -> Option<Vec<Waiter>> {
-    let mut waiting = Vec::new();
-    for station in 0..STATIONS {
-        match waits(bytes, station) {
-            true => waiting.push(waiter(bytes, station, kinds[station])?),
-            false if entry_is_empty(bytes, station) => (),
-            false => return None,
-        }
-    }
-    waiting.sort_by_key(|waiter: &Waiter| waiter.arrival);
-    Some(waiting)
+fn waiting(bytes: &[u8], kinds: &[Kind; STATIONS]) -> Vec<Waiter> {
+    let waits = |station: &usize| waits(bytes, *station);
+    let waiter = |station: usize| waiter(bytes, station, kinds[station]);
+    let mut waiting: Vec<Waiter> = (0..STATIONS).filter(waits).map(waiter).collect();
+    waiting.sort_by_key(|waiter| waiter.arrival);
+    waiting
 }
 
-/// "When a station leaves the waiting list its want, arrival, request, sets, called, pend and busy become 0".
-fn entry_is_empty(bytes: &[u8], station: usize) -> bool {
-    let nothing = Addresses::default();
-    let bytes_of = [Field::Request, Field::Called, Field::Pend, Field::Busy];
-    Field::Arrival.long(bytes, station) == 0
-        && [Field::ReadSet, Field::WrittenSet]
-            .iter()
-            .all(|set| set.sets(bytes, station) == nothing)
-        && bytes_of
-            .iter()
-            .all(|field| field.byte_of(bytes, station) == 0)
-}
-
-/// A waiter is in an unfinished transaction, and wants what its request says.
-fn waiter(bytes: &[u8], station: usize, kind: Kind) -> Option<Waiter> {
+fn waiter(bytes: &[u8], station: usize, kind: Kind) -> Waiter {
     let number = station as u8;
     let requested = Field::Request.byte_of(bytes, station);
     let waiter = match Field::Want.byte_of(bytes, station) {
@@ -247,29 +234,24 @@ fn waiter(bytes: &[u8], station: usize, kind: Kind) -> Option<Waiter> {
         2 => Waiter::write(number, requested),
         _ => Waiter::commit(number, Box::new(commit(bytes, station, kind))),
     };
-    let waiter = Waiter {
-        arrival: Field::Arrival.long(bytes, station),
-        callbacks: callbacks(bytes, station)?,
-        ..waiter
-    };
-    let fits = Field::ReadSet.sets(bytes, station) == waiter.reads()
-        && Field::WrittenSet.sets(bytes, station) == waiter.writes
-        && requested == waiter.requested()
-        && Field::Unfinished.byte_of(bytes, station) != 0;
-    fits.then_some(waiter)
-}
-
-/// What is owed, if the 20s were sent; nothing before.
-fn callbacks(bytes: &[u8], station: usize) -> Option<Option<Callbacks>> {
     let callbacks = Callbacks {
         owed: Field::Pend.byte_of(bytes, station),
         busy: Field::Busy.byte_of(bytes, station),
     };
-    let nothing = Callbacks { owed: 0, busy: 0 };
-    match Field::Called.byte_of(bytes, station) {
-        0 => (callbacks == nothing).then_some(None),
-        _ => Some(Some(callbacks)),
+    Waiter {
+        arrival: Field::Arrival.long(bytes, station),
+        callbacks: (Field::Called.byte_of(bytes, station) != 0).then_some(callbacks),
+        ..waiter
     }
+}
+
+/// A `Server` holds what it would write itself: of a station that does not wait nothing, of a waiter what its request
+/// says, in an unfinished transaction.
+fn entries_fit(bytes: &[u8], waiting: &[Waiter]) -> bool {
+    let mut laid = bytes.to_vec();
+    lay_entries(waiting, &mut laid);
+    let unfinished = |waiter: &Waiter| seen(bytes, waiter.station.into()).unfinished;
+    laid == bytes && waiting.iter().all(unfinished)
 }
 
 fn commit(bytes: &[u8], station: usize, kind: Kind) -> Commit {
@@ -357,8 +339,14 @@ pub fn lay(server: &Server, bytes: &mut [u8]) {
         Field::Age.put_long(bytes, station, age);
         Field::Unfinished.put_byte_of(bytes, station, unfinished.into());
         Field::Listed.put_word(bytes, station, server.listed[station]);
+    }
+    lay_entries(&server.waiting, bytes);
+}
+
+fn lay_entries(waiting: &[Waiter], bytes: &mut [u8]) {
+    for station in 0..STATIONS {
         let waits = |waiter: &&Waiter| usize::from(waiter.station) == station;
-        lay_entry(station, server.waiting.iter().find(waits), bytes);
+        lay_entry(station, waiting.iter().find(waits), bytes);
     }
 }
 
