@@ -39,7 +39,7 @@ impl Bench {
         for call in scripts::calls(&work.script) {
             world.call(&call);
         }
-        let [call] = &scripts::calls(work.call)[..] else {
+        let [call] = &scripts::calls(&work.call)[..] else {
             panic!("{}: one call is timed", work.name)
         };
         let number = call.station().expect("a call at a station");
