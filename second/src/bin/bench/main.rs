@@ -1,5 +1,6 @@
 //! Times the proved library against the second implementation and a plain copy; prints a table for docs/PERFORMANCE.md.
 
+mod desk;
 mod library;
 mod measure;
 mod program;
@@ -138,16 +139,8 @@ impl Bench {
              Both sides check the state's bytes first: a refused begin does nothing else. The second implementation then works\n\
              on a struct with maps, and allocates each message: it is no measure of how fast Rust could be.\n",
         );
-        println!("| call | second ns | proved ns | copy ns | proved / second |");
-        println!("|---|---|---|---|---|");
-        let row = |work: &Work| {
-            let times = stations::Bench::new(work).time(turns);
-            print_call(work.name, CALLS, &times);
-            Timed {
-                name: String::from(work.name),
-                times,
-            }
-        };
+        let row = |work: &Work| row(work.name, CALLS, stations::Bench::new(work).time(turns));
+        print_head("call");
         works::works().iter().map(row).collect()
     }
 
@@ -160,23 +153,14 @@ impl Bench {
              Both sides check the state's bytes and the message first: a refused 6 does nothing else. The second implementation\n\
              then works on a struct, and allocates each message and record: it is no measure of how fast Rust could be.\n",
         );
-        println!("| step | second ns | proved ns | copy ns | proved / second |");
-        println!("|---|---|---|---|---|");
-        let row = |work: &Work| {
-            let times = server::Bench::new(work).time(turns);
-            print_call(work.name, STEPS, &times);
-            Timed {
-                name: String::from(work.name),
-                times,
-            }
-        };
-        let rows = works::server().iter().map(row).collect();
+        let time = |name: &str, work: &Work| row(name, STEPS, server::Bench::new(work).time(turns));
+        print_head("step");
+        let works = works::server();
+        let rows = works.iter().map(|work| time(work.name, work)).collect();
         println!("\nA step that changes nothing, by the number of stations that wait for a 7:\n");
-        println!("| waiters | second ns | proved ns | copy ns | proved / second |");
-        println!("|---|---|---|---|---|");
+        print_head("waiters");
         for many in 0..=8 {
-            let times = server::Bench::new(&works::waiting(many)).time(turns);
-            print_call(&many.to_string(), STEPS, &times);
+            time(&many.to_string(), &works::waiting(many));
         }
         self.mixed();
         rows
@@ -244,10 +228,20 @@ impl Timed {
     }
 }
 
-fn print_call(name: &str, calls: usize, times: &Times) {
-    let [second, proved, copy] = nanoseconds(calls, times);
-    let ratio = proved_over(times, Job::Second);
+fn print_head(what: &str) {
+    println!("| {what} | second ns | proved ns | copy ns | proved / second |");
+    println!("|---|---|---|---|---|");
+}
+
+/// Prints the row of one call.
+fn row(name: &str, calls: usize, times: Times) -> Timed {
+    let [second, proved, copy] = nanoseconds(calls, &times);
+    let ratio = proved_over(&times, Job::Second);
     println!("| {name} | {second:.0} | {proved:.0} | {copy:.0} | {ratio} |");
+    Timed {
+        name: String::from(name),
+        times,
+    }
 }
 
 fn print_playback(times: &Times) {

@@ -1,18 +1,17 @@
 //! The server's step: the second implementation, the proved library, a plain copy of the state.
 
-use crate::measure::{seconds, time, Times};
+use crate::desk::Desk;
+use crate::measure::{seconds, Times};
 use crate::works::Work;
 use second::ffi::server as proved;
 use second::line::call::Call;
 use second::line::crossing::Crossing;
-use second::line::scripts;
 use second::line::served::{Lent, MESSAGES, RECORDS, SERVED};
 use second::line::server::state;
 use second::line::server::Server;
 use second::line::world::{Reply, World};
 use second::line::Kind;
 use second::numbers::OK;
-use std::cell::RefCell;
 use std::hint::black_box;
 
 /// Steps of a timed turn, each on a state of its own: so few that all stay in the second-level cache.
@@ -22,19 +21,10 @@ pub struct Bench {
     message: Vec<u8>,
     server: Server,
     state: Vec<u8>,
-    desk: RefCell<Desk>,
-}
-
-/// What a turn works on.
-struct Desk {
-    servers: Vec<Server>,
-    states: Vec<Vec<u8>>,
-    copy: Vec<u8>,
-    results: Results,
 }
 
 /// What a step is lent beside its state.
-#[derive(Clone, PartialEq)]
+#[derive(PartialEq)]
 struct Results {
     messages: Vec<u8>,
     records: Vec<u8>,
@@ -71,21 +61,11 @@ fn second_step(message: &[u8], bytes: &[u8], server: &mut Server) -> u32 {
 
 impl Bench {
     pub fn new(work: &Work) -> Bench {
-        let mut world = World::fresh([Kind::Locking; 8]);
-        for call in scripts::calls(&work.script) {
-            world.call(&call);
-        }
-        let [call] = &scripts::calls(&work.call)[..] else {
-            panic!("{}: one call is timed", work.name)
-        };
-        let message = world.message_of(call).expect("a message is there").to_vec();
-        assert_eq!(Some(message[0]), work.takes, "{}", work.name);
-        let server = world.server;
+        let (world, call) = work.prepared();
         let bench = Bench {
-            state: state::encode(&server),
-            desk: RefCell::new(Desk::new(&server)),
-            message,
-            server,
+            message: world.message_of(&call).expect("a message").to_vec(),
+            state: state::encode(&world.server),
+            server: world.server,
         };
         bench.assert_same(work);
         bench
@@ -112,56 +92,16 @@ impl Bench {
     }
 
     pub fn time(&self, rounds: usize) -> Times {
-        time(
+        let mut results = Results::new();
+        Desk::new(&self.server, &self.state, STEPS).time(
             rounds,
-            &|| self.settle(),
-            [
-                &mut || self.desk.borrow_mut().second(&self.message),
-                &mut || self.desk.borrow_mut().proved(&self.message),
-                &mut || self.desk.borrow_mut().copy(),
-            ],
+            |bytes, server| {
+                black_box(second_step(&self.message, bytes, server));
+            },
+            |state| {
+                black_box(proved::step(&self.message, &mut results.lent(state)));
+            },
         )
-    }
-
-    /// Sets the states up anew, on both sides; not timed.
-    fn settle(&self) {
-        let desk = &mut *self.desk.borrow_mut();
-        for server in &mut desk.servers {
-            server.clone_from(&self.server);
-        }
-        for state in &mut desk.states {
-            state.copy_from_slice(&self.state);
-        }
-    }
-}
-
-impl Desk {
-    fn new(server: &Server) -> Desk {
-        Desk {
-            servers: vec![server.clone(); STEPS],
-            states: vec![state::encode(server); STEPS],
-            copy: state::encode(server),
-            results: Results::new(),
-        }
-    }
-
-    fn second(&mut self, message: &[u8]) {
-        for (bytes, server) in self.states.iter().zip(&mut self.servers) {
-            black_box(second_step(message, bytes, server));
-        }
-    }
-
-    fn proved(&mut self, message: &[u8]) {
-        for state in &mut self.states {
-            black_box(proved::step(message, &mut self.results.lent(state)));
-        }
-    }
-
-    fn copy(&mut self) {
-        for state in &self.states {
-            self.copy.copy_from_slice(black_box(state));
-            black_box(&mut self.copy);
-        }
     }
 }
 

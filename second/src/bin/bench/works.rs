@@ -2,7 +2,9 @@
 
 use second::line::call::Call;
 use second::line::message::Up;
-use second::line::scripts::{largest_transaction, seven_kept};
+use second::line::scripts::{self, largest_transaction, seven_kept};
+use second::line::world::World;
+use second::line::Kind;
 use second::numbers::OK;
 
 /// A call at a station or at the server.
@@ -16,6 +18,23 @@ pub struct Work {
     /// The number that the server answers, and the kinds of what it sends.
     pub number: u32,
     pub sends: Vec<u8>,
+}
+
+impl Work {
+    /// The line behind the script, and the call; it takes the message that the table says.
+    pub fn prepared(&self) -> (World, Call) {
+        let mut world = World::fresh([Kind::Locking; 8]);
+        for call in scripts::calls(&self.script) {
+            world.call(&call);
+        }
+        let mut calls = scripts::calls(&self.call).into_iter();
+        let (Some(call), None) = (calls.next(), calls.next()) else {
+            panic!("{}: one call is timed", self.name)
+        };
+        let kind = world.message_of(&call).map(|message| message[0]);
+        assert_eq!(kind, self.takes, "{}", self.name);
+        (world, call)
+    }
 }
 
 /// Locking 0 and 2, validating 1.
