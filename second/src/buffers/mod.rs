@@ -11,6 +11,8 @@ use std::marker::PhantomData;
 pub const GUARD: usize = 16;
 /// Alignments that bytes are lent at.
 const ALIGNMENTS: usize = 8;
+/// A buffer may be longer than it must be by less than this.
+const MORE: usize = 300;
 /// Numbers of a stock; never more than some are lent.
 const WORDS: usize = 4096;
 
@@ -79,7 +81,7 @@ impl Guarded<u8> {
 }
 
 /// Fills buffers from a stock of noise: it is drawn once, and lent from a place by chance.
-pub struct Stock {
+struct Stock {
     bytes: Vec<u8>,
     words: Vec<u64>,
     longest: usize,
@@ -87,7 +89,7 @@ pub struct Stock {
 
 impl Stock {
     /// For buffers of at most so many bytes.
-    pub fn new(random: &mut Random, longest: usize) -> Stock {
+    fn new(random: &mut Random, longest: usize) -> Stock {
         let length = 2 * (longest + ALIGNMENTS + 2 * GUARD);
         Stock {
             bytes: random.bytes(length),
@@ -141,7 +143,7 @@ impl Room {
 
     /// Enough of each, often no more than that.
     pub fn enough<F: Lends>(random: &mut Random) -> Room {
-        let more = [300, 300, 5].map(|most| random.below(2) * random.below(most));
+        let more = [MORE, MORE, 5].map(|most| random.below(2) * random.below(most));
         Room {
             lengths: std::array::from_fn(|i| F::LEAST[i] + more[i]),
             least: F::LEAST,
@@ -184,7 +186,7 @@ impl<F: Lends> Default for Buffers<F> {
 }
 
 impl<F: Lends> Buffers<F> {
-    pub fn fill(&mut self, stock: &Stock, state: &[u8], room: Room, random: &mut Random) {
+    fn fill(&mut self, stock: &Stock, state: &[u8], room: Room, random: &mut Random) {
         let [messages, bytes, numbers] = room.lengths;
         stock.fill_bytes(&mut self.state, state.len(), random);
         self.state.lent().copy_from_slice(state);
@@ -193,7 +195,7 @@ impl<F: Lends> Buffers<F> {
         stock.fill_words(&mut self.numbers, numbers, random);
     }
 
-    pub fn copy(&mut self, other: &Buffers<F>) {
+    fn copy(&mut self, other: &Buffers<F>) {
         self.state.copy(&other.state);
         self.messages.copy(&other.messages);
         self.bytes.copy(&other.bytes);
@@ -226,7 +228,7 @@ impl<F: Lends> Buffers<F> {
     }
 
     /// What was told and sent as given by another, if a call may tell that.
-    pub fn take_sent(&mut self, other: &Buffers<F>) {
+    fn take_sent(&mut self, other: &Buffers<F>) {
         if let Some((messages, bytes)) = other.sent() {
             self.numbers.take(0..F::LEAST[2], &other.numbers);
             self.messages.take(0..messages.len(), &other.messages);
@@ -243,7 +245,7 @@ impl<F: Lends> Buffers<F> {
     }
 
     /// Nothing differs, guards and what lies behind the results neither.
-    pub fn same(&self, given: &Buffers<F>) -> bool {
+    fn same(&self, given: &Buffers<F>) -> bool {
         self.state == given.state
             && self.messages == given.messages
             && self.bytes == given.bytes
@@ -251,7 +253,7 @@ impl<F: Lends> Buffers<F> {
     }
 
     /// Each buffer in which the two differ, and where first.
-    pub fn differences(&self, given: &Buffers<F>) -> Vec<String> {
+    fn differences(&self, given: &Buffers<F>) -> Vec<String> {
         let [messages, bytes, numbers] = F::NAMES;
         let all = [
             self.numbers.difference(numbers, &given.numbers),
@@ -262,6 +264,67 @@ impl<F: Lends> Buffers<F> {
         all.into_iter().flatten().collect()
     }
 }
+
+/// The buffers of a call that is made on both sides.
+pub struct Pair<F> {
+    pub expected: Buffers<F>,
+    pub given: Buffers<F>,
+    stock: Stock,
+    random: Random,
+}
+
+impl<F: Lends> Pair<F> {
+    /// For states of at most so many bytes; noise is drawn from this seed.
+    pub fn new(seed: u64, longest: usize) -> Pair<F> {
+        let mut random = Random::new(seed);
+        let [messages, bytes, _] = F::LEAST;
+        let longest = longest.max(messages + MORE).max(bytes + MORE);
+        Pair {
+            expected: Buffers::default(),
+            given: Buffers::default(),
+            stock: Stock::new(&mut random, longest),
+            random,
+        }
+    }
+
+    /// Buffers are filled anew from this seed on.
+    pub fn seed(&mut self, seed: u64) {
+        self.random = Random::new(seed);
+    }
+
+    /// Enough room for a call.
+    pub fn room(&mut self) -> Room {
+        Room::enough::<F>(&mut self.random)
+    }
+
+    /// The same in both.
+    pub fn lend(&mut self, state: &[u8], room: Room) {
+        let random = &mut self.random;
+        self.given.fill(&self.stock, state, room, random);
+        self.expected.copy(&self.given);
+    }
+
+    /// State and results as given, where these are to be taken as right.
+    pub fn take(&mut self) {
+        self.expected.take_fields(F::all(), &self.given);
+        self.expected.take_sent(&self.given);
+    }
+
+    pub fn same(&self) -> bool {
+        self.expected.same(&self.given)
+    }
+
+    /// A line for each buffer that differs.
+    pub fn differences(&self) -> String {
+        let lines = self.expected.differences(&self.given);
+        lines.iter().map(|line| format!("{line}\n")).collect()
+    }
+}
+
+/// Where two sides differ, in words.
+pub struct Difference(pub String);
+
+pub type Agreed<T> = Result<T, Difference>;
 
 /// A state in words: the fields that are not 0, word by word.
 pub fn show_state<F: Place>(state: &[u8]) -> String {

@@ -2,7 +2,7 @@
 //! leave it alone: a refused one everything, an accepted one all but its results.
 
 use super::{server, stations};
-use crate::buffers::{Buffers, Lends, Room, Stock};
+use crate::buffers::{Lends, Pair};
 use crate::line::lent::{Operation, TOLD};
 use crate::line::message::LENGTH as MESSAGE;
 use crate::line::places::Place;
@@ -18,43 +18,29 @@ use crate::record;
 /// A state and what is lent beside it.
 struct End<F> {
     state: Vec<u8>,
-    given: Buffers<F>,
-    expected: Buffers<F>,
-    stock: Stock,
-    random: Random,
+    lent: Pair<F>,
 }
 
 impl<F: Lends> End<F> {
     /// The bytes that `fresh` makes of any, which it must accept.
     fn fresh(seed: u64, fresh: impl FnOnce(&mut [u8]) -> u32) -> End<F> {
-        let mut random = Random::new(seed);
-        let mut state = random.bytes(F::LENGTH);
+        let mut state = Random::new(seed).bytes(F::LENGTH);
         assert_eq!(fresh(&mut state), OK, "a fresh state");
-        let [messages, bytes, _] = F::LEAST;
-        let longest = F::LENGTH.max(messages).max(bytes) + 300;
-        End {
-            state,
-            given: Buffers::default(),
-            expected: Buffers::default(),
-            stock: Stock::new(&mut random, longest),
-            random,
-        }
+        let lent = Pair::new(seed, F::LENGTH);
+        End { state, lent }
     }
 
     /// Makes a call; Ok if it was accepted.
     fn call(&mut self, call: impl FnOnce(&mut F::Lent<'_>) -> u32) -> Result<(), Number> {
-        let room = Room::enough::<F>(&mut self.random);
-        let random = &mut self.random;
-        self.given.fill(&self.stock, &self.state, room, random);
-        self.expected.copy(&self.given);
-        let number = call(&mut self.given.lent());
+        let room = self.lent.room();
+        self.lent.lend(&self.state, room);
+        let number = call(&mut self.lent.given.lent());
         if number == OK {
-            self.expected.take_fields(F::all(), &self.given);
-            self.expected.take_sent(&self.given);
+            self.lent.take();
         }
-        let differences = self.expected.differences(&self.given);
-        assert!(differences.is_empty(), "number {number}: {differences:?}");
-        self.state.copy_from_slice(self.given.state());
+        let differences = self.lent.differences();
+        assert!(differences.is_empty(), "number {number}: {differences}");
+        self.state.copy_from_slice(self.lent.given.state());
         match number {
             OK => Ok(()),
             _ => Err(Number::of(number).unwrap_or_else(|| panic!("number {number}"))),
@@ -63,7 +49,7 @@ impl<F: Lends> End<F> {
 
     /// The messages and the other bytes sent.
     fn sent(&self) -> (Vec<Vec<u8>>, &[u8]) {
-        let (messages, bytes) = self.given.sent().expect("what a call may send");
+        let (messages, bytes) = self.lent.given.sent().expect("what a call may send");
         let messages = messages.chunks(MESSAGE).map(<[u8]>::to_vec).collect();
         (messages, bytes)
     }
@@ -137,7 +123,7 @@ impl StationEnd for Station {
         if !commit.is_empty() {
             sent.push(commit.to_vec());
         }
-        let told = self.0.given.numbers();
+        let told = self.0.lent.given.numbers();
         let answer = answer(told).unwrap_or_else(|| panic!("told {told:?}"));
         Ok(Done { answer, sent })
     }

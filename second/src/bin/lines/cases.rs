@@ -1,9 +1,9 @@
 //! Damaged cases, each on a copy of the server's state, so that the line goes on.
 
-use crate::judge::{room, sort, Agreed, Difference, Judge};
+use crate::judge::{room, sort, Judge};
 use crate::line::Line;
 use crate::{messages, states};
-use second::buffers::GUARD;
+use second::buffers::{Agreed, Difference, GUARD};
 use second::ffi::server as proved;
 use second::line::crossing::Crossing;
 use second::line::served;

@@ -1,7 +1,7 @@
 //! Gives a damaged case to the compiled server and compares number and every byte lent with what this implementation says.
 
 use crate::tally::Tallies;
-use second::buffers::{show_state, Buffers, Lends, Room, Stock};
+use second::buffers::{show_state, Agreed, Difference, Lends, Pair, Room};
 use second::ffi::server as proved;
 use second::line::lent::BUFFER;
 use second::line::message::{Down, LENGTH as MESSAGE};
@@ -16,37 +16,25 @@ use second::show::hex;
 /// Damaged states may be twice as long as one.
 const LONGEST: usize = 2 * state::LENGTH;
 
-/// Where the two differ, in words.
-pub struct Difference(pub String);
-
-pub type Agreed<T> = Result<T, Difference>;
-
 pub struct Judge {
     pub tallies: Tallies,
     show: bool,
-    random: Random,
-    stock: Stock,
-    expected: Buffers<Field>,
-    given: Buffers<Field>,
+    lent: Pair<Field>,
 }
 
 impl Judge {
     pub fn new(show: bool) -> Judge {
-        let mut random = Random::new(0);
         Judge {
             tallies: Tallies::default(),
             show,
-            stock: Stock::new(&mut random, LONGEST),
-            random,
-            expected: Buffers::default(),
-            given: Buffers::default(),
+            lent: Pair::new(0, LONGEST),
         }
     }
 
     /// A line begins; buffers are filled anew from this seed on.
     pub fn begin(&mut self, seed: u64) {
         self.tallies.counts.runs += 1;
-        self.random = Random::new(seed);
+        self.lent.seed(seed);
     }
 
     /// A step on these bytes: compared in full where this implementation can hold the state, else as far as can be said.
@@ -54,13 +42,12 @@ impl Judge {
         if self.show {
             println!("step {} on {}, {room:?}", hex(message), sort(state));
         }
-        let random = &mut self.random;
-        self.given.fill(&self.stock, state, room, random);
-        self.expected.copy(&self.given);
-        let number = proved::step(message, &mut self.given.lent());
+        self.lent.lend(state, room);
+        let number = proved::step(message, &mut self.lent.given.lent());
         let expected = self.expect(message, number);
-        self.tallies.stepped(message, number, self.given.sent());
-        if number != expected || !self.expected.same(&self.given) {
+        let sent = self.lent.given.sent();
+        self.tallies.stepped(message, number, sent);
+        if number != expected || !self.lent.same() {
             return Err(self.differ(message, state, room, [expected, number]));
         }
         Ok(())
@@ -68,7 +55,7 @@ impl Judge {
 
     /// The number; lays what is known, or takes what may be, into the buffers expected.
     fn expect(&mut self, message: &[u8], given: u32) -> u32 {
-        let mut lent = self.expected.lent();
+        let mut lent = self.lent.expected.lent();
         if !lent.fits() {
             return BUFFER;
         }
@@ -80,8 +67,7 @@ impl Judge {
             Err(number) => number as u32,
             Ok(_) => {
                 if given == OK && self.may_leave() {
-                    self.expected.take_fields(Field::all(), &self.given);
-                    self.expected.take_sent(&self.given);
+                    self.lent.take();
                 }
                 OK
             }
@@ -90,12 +76,12 @@ impl Judge {
 
     /// A valid state with the same kinds, messages that stations take, and the next records.
     fn may_leave(&self) -> bool {
-        let (before, after) = (self.expected.state(), self.given.state());
+        let (before, after) = (self.lent.expected.state(), self.lent.given.state());
         let kinds = Field::Kind.range();
         let last = |state: &[u8]| Field::Last.word(state, 0);
         (state::valid(after) || counters_spent(after) || locks_unasked(before))
             && before[kinds.clone()] == after[kinds]
-            && self.given.sent().is_some_and(|(messages, records)| {
+            && self.lent.given.sent().is_some_and(|(messages, records)| {
                 messages.chunks(MESSAGE).all(taken_below)
                     && next_records(last(before), records) == Some(last(after))
             })
@@ -107,9 +93,7 @@ impl Judge {
             "step {}\nlent: {room:?}\nsecond: number {expected}\nproved: number {given}\n",
             hex(message)
         );
-        for line in self.expected.differences(&self.given) {
-            text += &format!("{line}\n");
-        }
+        text += &self.lent.differences();
         let shown = show_state::<Field>(state);
         text += &format!("state before ({}):\n{shown}", sort(state));
         Difference(text)

@@ -1,8 +1,8 @@
 //! One line four times over: this implementation's, the library's, and each end with the other's other end. Every call is
 //! made on all four.
 
-use crate::judge::{Agreed, Difference};
 use crate::tally::Tallies;
+use second::buffers::{Agreed, Difference};
 use second::ffi::ends;
 use second::line::call::Call;
 use second::line::server::{state as server_state, Server};

@@ -1,9 +1,10 @@
 //! Lines of eight stations run for long: demand 3 on this implementation's line, the library beside it, and the archive
 //! played back.
 
-use crate::judge::{Agreed, Difference, Judge};
+use crate::judge::Judge;
 use crate::runs::replay;
 use second::archive::Playback;
+use second::buffers::{Agreed, Difference};
 use second::line::crossing::Crossing;
 use second::line::runs;
 use second::{ffi, program, text};

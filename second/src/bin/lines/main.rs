@@ -10,7 +10,8 @@ mod runs;
 mod states;
 mod tally;
 
-use judge::{Difference, Judge};
+use judge::Judge;
+use second::buffers::Difference;
 use second::options::Options;
 use std::panic;
 use std::process;

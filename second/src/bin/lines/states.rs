@@ -1,7 +1,7 @@
 //! The server's states for damaged cases: real ones changed, random ones, and those that make a step do the most.
 
-use crate::judge::{Agreed, Judge};
-use second::buffers::Room;
+use crate::judge::Judge;
+use second::buffers::{Agreed, Room};
 use second::line::message::Up;
 use second::line::places::Place;
 use second::line::server::state::{Field, COUNTERS_END, LENGTH};

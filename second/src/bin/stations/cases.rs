@@ -1,9 +1,9 @@
 //! Damaged cases, each on a copy of a state, so that the line goes on.
 
-use crate::judge::{sort, Agreed, Difference, Judge};
+use crate::judge::{sort, Judge};
 use crate::line::{down_check, up_check, Line};
 use crate::{messages, states};
-use second::buffers::{Room, GUARD};
+use second::buffers::{Agreed, Difference, Room, GUARD};
 use second::ffi::stations as proved;
 use second::generate;
 use second::line::call::Call;

@@ -1,7 +1,7 @@
 //! A whole line beside eight compiled stations: each call at a station is made at both.
 
-use crate::judge::{Agreed, Difference, Judge};
-use second::buffers::Room;
+use crate::judge::Judge;
+use second::buffers::{Agreed, Difference, Room};
 use second::ffi::stations as proved;
 use second::line::call::Call;
 use second::line::lent::{Lent, Operation};
