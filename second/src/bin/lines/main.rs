@@ -35,41 +35,88 @@ const LONG_LINES: u64 = 4;
 /// Of the line under way, for a fault that cannot be shown as a difference.
 static SEED: AtomicU64 = AtomicU64::new(0);
 
+struct Settings {
+    seed: u64,
+    calls: u64,
+    time: Duration,
+    long: u64,
+    playback: Option<String>,
+    show: bool,
+}
+
 fn main() {
+    let settings = settings();
+    println!("seed {}", settings.seed);
+    let start = Instant::now();
+    let mut judge = Judge::new(settings.show);
+    panic::set_hook(Box::new(|cause| {
+        println!("FAULT, --seed {}: {cause}", SEED.load(Ordering::Relaxed));
+        process::exit(1)
+    }));
+    settings.limits(&mut judge);
+    settings.long_lines(&mut judge);
+    settings.random_lines(start, &mut judge);
+    print(&judge, start.elapsed().as_secs_f64());
+}
+
+fn settings() -> Settings {
     let options = Options::read(
         USAGE,
         &["--seed", "--calls", "--seconds", "--long", "--playback"],
         &["--show"],
     )
     .without_words();
-    let first = options.seed("--seed", 1);
     let timed = options.has("--seconds");
-    let calls = options.number("--calls", if timed { u64::MAX } else { 1_000_000 });
-    let time = Duration::from_secs(options.number("--seconds", u64::MAX));
-    println!("seed {first}");
-    let start = Instant::now();
-    let mut judge = Judge::new(options.has("--show"));
-    panic::set_hook(Box::new(|cause| {
-        println!("FAULT, --seed {}: {cause}", SEED.load(Ordering::Relaxed));
-        process::exit(1)
-    }));
-    states::limits(&mut judge).unwrap_or_else(|difference| report(&difference, first, ""));
-    let length = options.number("--long", 20_000) as usize;
-    for seed in first..first.saturating_add(LONG_LINES) {
-        SEED.store(seed, Ordering::Relaxed);
-        long::run(seed, length, options.text("--playback"), &mut judge)
-            .unwrap_or_else(|difference| report(&difference, seed, ""));
+    Settings {
+        seed: options.seed("--seed", 1),
+        calls: options.number("--calls", if timed { u64::MAX } else { 1_000_000 }),
+        time: Duration::from_secs(options.number("--seconds", u64::MAX)),
+        long: options.number("--long", 20_000),
+        playback: options.text("--playback").map(str::to_string),
+        show: options.has("--show"),
     }
-    let mut seed = first;
-    while judge.tallies.calls() < calls && start.elapsed() < time {
-        SEED.store(seed, Ordering::Relaxed);
-        if let Err(failed) = runs::run(seed, &mut judge) {
-            let script = failed.script(&mut Judge::new(false));
-            report(&failed.difference, seed, &script);
+}
+
+impl Settings {
+    /// The damaged cases that do the most.
+    fn limits(&self, judge: &mut Judge) {
+        let agreed = states::limits(judge);
+        agreed.unwrap_or_else(|difference| self.report(&difference, self.seed, ""));
+    }
+
+    fn long_lines(&self, judge: &mut Judge) {
+        for seed in (0..LONG_LINES).map(|i| self.seed.wrapping_add(i)) {
+            SEED.store(seed, Ordering::Relaxed);
+            let agreed = long::run(seed, self.long as usize, self.playback.as_deref(), judge);
+            agreed.unwrap_or_else(|difference| self.report(&difference, seed, ""));
         }
-        seed = seed.wrapping_add(1);
     }
-    print(&judge, start.elapsed().as_secs_f64());
+
+    fn random_lines(&self, start: Instant, judge: &mut Judge) {
+        let mut seed = self.seed;
+        loop {
+            SEED.store(seed, Ordering::Relaxed);
+            if let Err(failed) = runs::run(seed, judge) {
+                let script = failed.script(&mut Judge::new(false));
+                self.report(&failed.difference, seed, &script);
+            }
+            if judge.tallies.calls() >= self.calls || start.elapsed() >= self.time {
+                return;
+            }
+            seed = seed.wrapping_add(1);
+        }
+    }
+
+    /// Reports a difference and ends the program.
+    fn report(&self, difference: &Difference, seed: u64, script: &str) -> ! {
+        let long = self.long;
+        println!("DIFFERENCE, again by: lines --seed {seed} --long {long} --calls 1");
+        println!("{}", difference.0);
+        if !script.is_empty() {
+            println!("the line's calls, shortened:\n{script}");
+        }
+        process::exit(1)
+    }
 }
 
 fn print(judge: &Judge, seconds: f64) {
@@ -85,14 +132,4 @@ fn print(judge: &Judge, seconds: f64) {
         tallies.calls(),
         tallies.counts.runs
     );
-}
-
-/// Reports a difference and ends the program.
-fn report(difference: &Difference, seed: u64, script: &str) -> ! {
-    println!("DIFFERENCE, again by: lines --seed {seed} --calls 1");
-    println!("{}", difference.0);
-    if !script.is_empty() {
-        println!("the line's calls, shortened:\n{script}");
-    }
-    process::exit(1)
 }

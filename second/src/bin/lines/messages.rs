@@ -44,7 +44,7 @@ fn fitting(random: &mut Random, state: &[u8]) -> Vec<u8> {
     let address = some_object(random, state);
     let page = page_of(address);
     let requester = some_waiter(random, state);
-    let requesters = Field::Latest.word(state, requester.into()).max(1);
+    let requesters = latest_mostly(random, state, requester.into());
     let message = match random.below(12) {
         0 | 1 => Up::Read {
             address,
@@ -68,7 +68,7 @@ fn fitting(random: &mut Random, state: &[u8]) -> Vec<u8> {
         },
         _ => Up::WrittenSet {
             page: some_whole_page(random, state, from).unwrap_or(page),
-            transaction: Field::Latest.word(state, from).max(1),
+            transaction: latest_mostly(random, state, from),
             written: random.byte(),
         },
     };
@@ -83,6 +83,17 @@ fn next_transaction(random: &mut Random, state: &[u8], from: usize) -> u32 {
     let number = match unfinished != other {
         true => latest,
         false => latest.wrapping_add(1),
+    };
+    number.max(1)
+}
+
+/// The latest one; now and then its neighbour.
+fn latest_mostly(random: &mut Random, state: &[u8], station: usize) -> u32 {
+    let latest = Field::Latest.word(state, station);
+    let number = match random.below(8) {
+        0 => latest.wrapping_add(1),
+        1 => latest.wrapping_sub(1),
+        _ => latest,
     };
     number.max(1)
 }
