@@ -110,7 +110,8 @@ fn number_1_lengths_and_ranges() {
     assert!(!valid(&[&good[..], &[0]].concat()));
     // in a fresh state no field stands beside another
     let fresh = encode(&Server::fresh([Kind::Locking; 8], 0, [1; 8]));
-    for (field, most) in Field::RANGES {
+    for (field, entries, most) in Field::RANGES {
+        assert_eq!(field.range().len(), entries);
         let last = field.range().end - 1;
         for at in [field.start(), last] {
             for byte in 0..=255 {

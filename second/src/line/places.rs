@@ -6,6 +6,31 @@ use std::array;
 use std::fmt::Debug;
 use std::ops::Range;
 
+/// The enum `Field` of a table, each field by its first byte, in the table's order.
+macro_rules! fields {
+    ($length:ident: $($name:ident = $start:literal,)*) => {
+        /// The fields, each by its first byte.
+        #[derive(Clone, Copy, Debug, PartialEq, Eq)]
+        #[repr(usize)]
+        pub enum Field {
+            $($name = $start,)*
+        }
+
+        impl $crate::line::places::Place for Field {
+            const LENGTH: usize = $length;
+
+            fn all() -> &'static [Field] {
+                &[$(Field::$name,)*]
+            }
+
+            fn start(self) -> usize {
+                self as usize
+            }
+        }
+    };
+}
+pub(crate) use fields;
+
 /// A field of a table; "Entry i of a field stands at its first byte and i times its width".
 pub trait Place: Copy + Debug + 'static {
     /// Bytes of the whole state.

@@ -2,7 +2,7 @@
 
 use super::{Callbacks, Request, Seen, Server, Waiter, WholeLock};
 use crate::line::message::{pages_of, Commit, Up};
-use crate::line::places::Place;
+use crate::line::places::{fields, Place};
 use crate::line::sets::{address, object_bit, page_bit, rising, Addresses, ADDRESSES};
 use crate::line::sets::{OBJECTS, PAGES, STATIONS};
 use crate::line::Kind;
@@ -12,10 +12,8 @@ use std::array;
 /// "The server's state, 37,072 bytes"
 pub const LENGTH: usize = 37_072;
 
-/// The fields, each by its first byte.
-#[derive(Clone, Copy, Debug, PartialEq, Eq)]
-#[repr(usize)]
-pub enum Field {
+fields! {
+    LENGTH:
     Value = 0,
     ReadValue = 2048,
     WrittenValue = 18432,
@@ -44,55 +42,15 @@ pub enum Field {
 }
 
 impl Field {
-    pub const ALL: [Field; 25] = [
-        Field::Value,
-        Field::ReadValue,
-        Field::WrittenValue,
-        Field::Age,
-        Field::Arrival,
-        Field::NextAge,
-        Field::NextArrival,
-        Field::Version,
-        Field::SentVersion,
-        Field::Work,
-        Field::Latest,
-        Field::Listed,
-        Field::Last,
-        Field::Asked,
-        Field::Lock,
-        Field::Whole,
-        Field::ReadSet,
-        Field::WrittenSet,
-        Field::Kind,
-        Field::Want,
-        Field::Request,
-        Field::Called,
-        Field::Pend,
-        Field::Busy,
-        Field::Unfinished,
+    /// Bytes that have a range of their own: how many, and the highest that is in it.
+    pub const RANGES: [(Field, usize, u8); 6] = [
+        (Field::Lock, ADDRESSES, STATIONS as u8),
+        (Field::Whole, PAGES, STATIONS as u8),
+        (Field::Kind, STATIONS, 1),
+        (Field::Want, STATIONS, 3),
+        (Field::Called, STATIONS, 1),
+        (Field::Unfinished, STATIONS, 1),
     ];
-
-    /// Bytes that have a range of their own, each with the highest that is in it.
-    pub const RANGES: [(Field, u8); 6] = [
-        (Field::Lock, STATIONS as u8),
-        (Field::Whole, STATIONS as u8),
-        (Field::Kind, 1),
-        (Field::Want, 3),
-        (Field::Called, 1),
-        (Field::Unfinished, 1),
-    ];
-}
-
-impl Place for Field {
-    const LENGTH: usize = LENGTH;
-
-    fn all() -> &'static [Field] {
-        &Field::ALL
-    }
-
-    fn start(self) -> usize {
-        self as usize
-    }
 }
 
 /// "below 2^63"
@@ -112,10 +70,13 @@ pub fn valid(bytes: &[u8]) -> bool {
 
 fn in_range(bytes: &[u8]) -> bool {
     // one test behind the loop is faster than one in it
-    let highest = |field: Field| bytes[field.range()].iter().fold(0, |a, b| a.max(*b));
+    let highest = |field: Field, entries: usize| {
+        let bytes = &bytes[field.start()..][..entries];
+        bytes.iter().fold(0, |a, b| a.max(*b))
+    };
     Field::RANGES
         .into_iter()
-        .all(|(field, most)| highest(field) <= most)
+        .all(|(field, entries, most)| highest(field, entries) <= most)
         && Field::NextAge.long(bytes, 0) < COUNTERS_END
         && Field::NextArrival.long(bytes, 0) < COUNTERS_END
 }

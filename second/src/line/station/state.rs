@@ -1,7 +1,7 @@
 //! A station's state as bytes, from docs/STATE.md: its table of fields, number 1, and what it calls leftovers.
 
 use super::{Callback, Out, Page, Station, Transaction};
-use crate::line::places::Place;
+use crate::line::places::{fields, Place};
 use crate::line::sets::{address, object_of, page_of, rising};
 use crate::line::sets::{OBJECTS, PAGES, STATIONS};
 use crate::line::Kind;
@@ -11,10 +11,8 @@ use std::collections::BTreeMap;
 /// "A station's state, 6,713 bytes"
 pub const LENGTH: usize = 6_713;
 
-/// The fields, each by its first byte.
-#[derive(Clone, Copy, Debug, PartialEq, Eq)]
-#[repr(usize)]
-pub enum Field {
+fields! {
+    LENGTH:
     Copy = 0,
     ReadValue = 2048,
     WrittenValue = 4096,
@@ -37,28 +35,6 @@ pub enum Field {
 }
 
 impl Field {
-    pub const ALL: [Field; 19] = [
-        Field::Copy,
-        Field::ReadValue,
-        Field::WrittenValue,
-        Field::WaitingValue,
-        Field::Kept,
-        Field::Version,
-        Field::Number,
-        Field::Cached,
-        Field::Whole,
-        Field::Unavailable,
-        Field::ReadSet,
-        Field::WrittenSet,
-        Field::Locks,
-        Field::Named,
-        Field::Station,
-        Field::Kind,
-        Field::Open,
-        Field::Wait,
-        Field::Address,
-    ];
-
     /// 0 throughout while no transaction is open.
     pub const OF_TRANSACTION: [Field; 5] = [
         Field::Whole,
@@ -70,18 +46,6 @@ impl Field {
 
     /// What is known of a page beside that it is cached.
     pub const OF_COPIES: [Field; 3] = [Field::Copy, Field::Version, Field::Unavailable];
-}
-
-impl Place for Field {
-    const LENGTH: usize = LENGTH;
-
-    fn all() -> &'static [Field] {
-        &Field::ALL
-    }
-
-    fn start(self) -> usize {
-        self as usize
-    }
 }
 
 /// Not number 1: "the length is not 6,713, a field is out of the range above ..., or a callback from the station itself
