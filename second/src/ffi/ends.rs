@@ -38,8 +38,8 @@ impl<F: Lends> End<F> {
         if number == OK {
             self.lent.take();
         }
-        let differences = self.lent.differences();
-        assert!(differences.is_empty(), "number {number}: {differences}");
+        let lent = &self.lent;
+        assert!(lent.same(), "number {number}: {}", lent.differences());
         self.state.copy_from_slice(self.lent.given.state());
         match number {
             OK => Ok(()),

@@ -216,11 +216,11 @@ fn in_range(random: &mut Random) -> Vec<u8> {
     state
 }
 
-/// Steps that do the most: eight installs of 256 reads and writes, and a 19 for every page.
+/// Steps that do the most: eight installs of 256 reads and writes, and 74 messages.
 pub fn limits(judge: &mut Judge) -> Agreed<()> {
     let mut random = Random::new(1);
     let purge = Up::Purge { page: 0 }.encode(0);
-    for state in [eight_installs(&mut random), all_pages_asked(&mut random)] {
+    for state in [eight_installs(&mut random), many_messages(&mut random)] {
         let room = Room::enough::<Field>(&mut random);
         judge.step(&purge, &state, room)?;
     }
@@ -265,11 +265,22 @@ fn eight_installs(random: &mut Random) -> Vec<u8> {
     state
 }
 
-/// Station 0 has read every page, and each is locked whole by one of the others.
-fn all_pages_asked(random: &mut Random) -> Vec<u8> {
+/// Station 0 has read on every page, and each is locked whole by one of the others: 32 of kind 19. Each of those wants to
+/// write on a page of its own, which all have: six of kind 20 for each.
+fn many_messages(random: &mut Random) -> Vec<u8> {
     let mut state = committing(random, |station| station == 0);
+    Field::ReadSet.put_sets(&mut state, 0, &Addresses([0x80; PAGES]));
     for page in 0..PAGES {
-        Field::Whole.put_byte_of(&mut state, page, 2 + (page % 7) as u8);
+        let holder = if page < STATIONS { page } else { 1 + page % 7 };
+        Field::Whole.put_byte_of(&mut state, page, holder.max(1) as u8 + 1);
+    }
+    for station in 1..STATIONS {
+        let address = (OBJECTS * station) as u8;
+        Field::Want.put_byte_of(&mut state, station, 2);
+        Field::Arrival.put_long(&mut state, station, station as u64);
+        Field::Request.put_byte_of(&mut state, station, address);
+        Field::WrittenSet.put_sets(&mut state, station, &Addresses::one(address));
+        Field::Listed.put_word(&mut state, station, u32::MAX);
     }
     state
 }

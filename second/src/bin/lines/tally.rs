@@ -66,7 +66,7 @@ impl Tallies {
             (self.counts.longest_list == 8, "a full waiting list"),
             (self.long.claimed > 0, "a long line"),
             (self.most_records == RECORDS, "36,992 bytes of records"),
-            (self.most_messages >= 32, "32 messages in a step"),
+            (self.most_messages >= 74, "74 messages in a step"),
         ]
         .map(|(reached, what)| (reached, what.to_string()));
         let accepted = (1..=8).map(|kind| (self.accepted.has(&kind), format!("damaged {kind}")));
