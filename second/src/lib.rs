@@ -1,7 +1,7 @@
 //! The second implementation: the record, the archive and its playback, and the line, written from document 01.
 //!
-//! It shares no code with the proved library. `compare` runs both on the same inputs, `stations` does so with whole lines,
-//! `bench` times both; `line_runs` tries the line on random crossings.
+//! It shares no code with the proved library. `compare` runs both on the same inputs, `stations` and `lines` do so with whole
+//! lines, `bench` times both; `line_runs` tries the line on random crossings.
 
 pub mod archive;
 pub mod buffers;
