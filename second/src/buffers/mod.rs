@@ -1,113 +1,21 @@
 //! What is lent to a call of the proved library: noise in every buffer, at any alignment, between guards.
 
+mod guarded;
 mod lends;
+mod pair;
+mod show;
+
+pub use guarded::GUARD;
+pub use pair::{Agreed, Difference, Pair};
+pub use show::show_state;
 
 use crate::line::places::Place;
 use crate::random::Random;
-use std::fmt::LowerHex;
+use guarded::{Guarded, Stock};
 use std::marker::PhantomData;
 
-/// Elements before and behind a lent buffer that must stay as they are.
-pub const GUARD: usize = 16;
-/// Alignments that bytes are lent at.
-const ALIGNMENTS: usize = 8;
 /// A buffer may be longer than it must be by less than this.
 const MORE: usize = 300;
-/// Numbers of a stock; never more than some are lent.
-const WORDS: usize = 4096;
-
-/// One buffer; only what lies between the guards is lent.
-#[derive(Default, PartialEq)]
-struct Guarded<T> {
-    all: Vec<T>,
-    start: usize,
-    length: usize,
-}
-
-impl<T: Copy + PartialEq + LowerHex> Guarded<T> {
-    fn fill(&mut self, noise: &[T], start: usize, length: usize) {
-        self.all.clear();
-        self.all.extend_from_slice(&noise[..start + length + GUARD]);
-        self.start = start;
-        self.length = length;
-    }
-
-    fn copy(&mut self, other: &Guarded<T>) {
-        self.fill(&other.all, other.start, other.length);
-    }
-
-    fn lent(&mut self) -> &mut [T] {
-        &mut self.all[self.start..][..self.length]
-    }
-
-    fn seen(&self) -> &[T] {
-        &self.all[self.start..][..self.length]
-    }
-
-    /// What stands there as given by another, where that is to be taken as right.
-    fn take(&mut self, range: std::ops::Range<usize>, other: &Guarded<T>) {
-        self.lent()[range.clone()].copy_from_slice(&other.seen()[range]);
-    }
-
-    /// The first place that differs, as the caller counts it, and what stands there.
-    fn difference(&self, name: &str, given: &Guarded<T>) -> Option<String> {
-        self.difference_in(given, |at| format!("{name}, place {at}"))
-    }
-
-    fn difference_in(&self, given: &Guarded<T>, named: impl Fn(isize) -> String) -> Option<String> {
-        let at = self.all.iter().zip(&given.all).position(|(a, b)| a != b)?;
-        let (expected, given) = (self.all[at], given.all[at]);
-        let place = at as isize - self.start as isize;
-        let outside = match usize::try_from(place) {
-            Ok(place) if place < self.length => String::new(),
-            _ => format!(" OUTSIDE the {} lent", self.length),
-        };
-        let named = named(place);
-        Some(format!(
-            "{named}{outside}: {expected:x} expected, {given:x} given"
-        ))
-    }
-}
-
-impl Guarded<u8> {
-    /// With the state's field.
-    fn difference_of_state<F: Place>(&self, given: &Guarded<u8>) -> Option<String> {
-        self.difference_in(given, |at| {
-            let field = usize::try_from(at).ok().and_then(F::of);
-            let field = field.map_or(String::new(), |field| format!(" ({field:?})"));
-            format!("state, byte {at}{field}")
-        })
-    }
-}
-
-/// Fills buffers from a stock of noise: it is drawn once, and lent from a place by chance.
-struct Stock {
-    bytes: Vec<u8>,
-    words: Vec<u64>,
-    longest: usize,
-}
-
-impl Stock {
-    /// For buffers of at most so many bytes.
-    fn new(random: &mut Random, longest: usize) -> Stock {
-        let length = 2 * (longest + ALIGNMENTS + 2 * GUARD);
-        Stock {
-            bytes: random.bytes(length),
-            words: (0..WORDS).map(|_| random.number()).collect(),
-            longest,
-        }
-    }
-
-    fn fill_bytes(&self, buffer: &mut Guarded<u8>, length: usize, random: &mut Random) {
-        let noise = &self.bytes[random.below(self.longest)..];
-        buffer.fill(noise, GUARD + random.below(ALIGNMENTS), length);
-    }
-
-    fn fill_words(&self, buffer: &mut Guarded<u64>, length: usize, random: &mut Random) {
-        let noise = &self.words[random.below(WORDS / 2)..];
-        buffer.fill(noise, GUARD, length);
-    }
-}
 
 /// What a call is lent beside its state: messages, one more buffer of bytes, and numbers for what it tells.
 pub trait Lends: Place {
@@ -263,96 +171,4 @@ impl<F: Lends> Buffers<F> {
         ];
         all.into_iter().flatten().collect()
     }
-}
-
-/// The buffers of a call that is made on both sides.
-pub struct Pair<F> {
-    pub expected: Buffers<F>,
-    pub given: Buffers<F>,
-    stock: Stock,
-    random: Random,
-}
-
-impl<F: Lends> Pair<F> {
-    /// For states of at most so many bytes; noise is drawn from this seed.
-    pub fn new(seed: u64, longest: usize) -> Pair<F> {
-        let mut random = Random::new(seed);
-        let [messages, bytes, _] = F::LEAST;
-        let longest = longest.max(messages + MORE).max(bytes + MORE);
-        Pair {
-            expected: Buffers::default(),
-            given: Buffers::default(),
-            stock: Stock::new(&mut random, longest),
-            random,
-        }
-    }
-
-    /// Buffers are filled anew from this seed on.
-    pub fn seed(&mut self, seed: u64) {
-        self.random = Random::new(seed);
-    }
-
-    /// Enough room for a call.
-    pub fn room(&mut self) -> Room {
-        Room::enough::<F>(&mut self.random)
-    }
-
-    /// The same in both.
-    pub fn lend(&mut self, state: &[u8], room: Room) {
-        let random = &mut self.random;
-        self.given.fill(&self.stock, state, room, random);
-        self.expected.copy(&self.given);
-    }
-
-    /// State and results as given, where these are to be taken as right.
-    pub fn take(&mut self) {
-        self.expected.take_fields(F::all(), &self.given);
-        self.expected.take_sent(&self.given);
-    }
-
-    pub fn same(&self) -> bool {
-        self.expected.same(&self.given)
-    }
-
-    /// A line for each buffer that differs.
-    pub fn differences(&self) -> String {
-        let lines = self.expected.differences(&self.given);
-        lines.iter().map(|line| format!("{line}\n")).collect()
-    }
-}
-
-/// Where two sides differ, in words.
-pub struct Difference(pub String);
-
-pub type Agreed<T> = Result<T, Difference>;
-
-/// A state in words: the fields that are not 0, word by word.
-pub fn show_state<F: Place>(state: &[u8]) -> String {
-    if state.len() != F::LENGTH {
-        return format!("{} bytes", state.len());
-    }
-    let fields = F::all().iter().filter_map(|field| {
-        let bytes = &state[field.range()];
-        bytes.iter().any(|byte| *byte != 0).then(|| {
-            let shown = show_words(field.start(), bytes);
-            format!("  {field:?}{shown}")
-        })
-    });
-    fields.collect::<Vec<String>>().join("\n")
-}
-
-/// The words that are not 0, with their places; of many the first.
-fn show_words(start: usize, bytes: &[u8]) -> String {
-    const SHOWN: usize = 16;
-    let words = bytes.chunks(8).enumerate();
-    let words = words.filter(|(_, word)| word.iter().any(|byte| *byte != 0));
-    let mut text = String::new();
-    for (count, (i, word)) in words.enumerate() {
-        if count == SHOWN {
-            return text + " ..";
-        }
-        let word: String = word.iter().map(|byte| format!("{byte:02x}")).collect();
-        text += &format!(" {}:{word}", start + 8 * i);
-    }
-    text
 }

@@ -141,7 +141,7 @@ impl Bench {
         );
         let row = |work: &Work| row(work.name, CALLS, stations::Bench::new(work).time(turns));
         print_head("call");
-        works::works().iter().map(row).collect()
+        works::stations::works().iter().map(row).collect()
     }
 
     fn server(&self) -> Vec<Timed> {
@@ -155,12 +155,12 @@ impl Bench {
         );
         let time = |name: &str, work: &Work| row(name, STEPS, server::Bench::new(work).time(turns));
         print_head("step");
-        let works = works::server();
+        let works = works::server::works();
         let rows = works.iter().map(|work| time(work.name, work)).collect();
         println!("\nA step that changes nothing, by the number of stations that wait for a 7:\n");
         print_head("waiters");
         for many in 0..=8 {
-            time(&many.to_string(), &works::waiting(many));
+            time(&many.to_string(), &works::server::waiting(many));
         }
         self.mixed();
         rows
