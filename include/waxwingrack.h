@@ -1,5 +1,5 @@
 /*
- * Waxwingrack: the stations of a bottling line, and check, write, read and replay the records of its archive.
+ * Waxwingrack: the server and the stations of a bottling line, and check, write, read and replay the records of its archive.
  *
  * Link with libwaxwingrack.a. The functions allocate nothing and keep nothing between calls,
  * so they may run at the same time on different buffers.
@@ -22,8 +22,8 @@
  * Rules for every pointer:
  *  - it points to as many elements as the length beside it says; with length 0 it may be NULL;
  *  - bytes need no alignment, the others the alignment of their type;
- *  - what is written (out, fields, entry, values, last, playback, state, messages, commit, told) overlaps nothing
- *    else of the call;
+ *  - what is written (out, fields, entry, values, last, playback, state, messages, commit, told, records, served)
+ *    overlaps nothing else of the call;
  *  - what is only read is not changed, and nothing is kept after the call.
  *
  * Every function answers one of the numbers below. Any answer but WAX_OK leaves every lent byte
@@ -289,6 +289,54 @@ uint32_t wax_station_step(const uint8_t *message, size_t message_length, uint8_t
  */
 uint32_t wax_down_check(uint32_t station, const uint8_t *message, size_t length);
 uint32_t wax_up_check(const uint8_t *kinds, size_t kinds_length, const uint8_t *message, size_t length);
+
+/*
+ * THE SERVER
+ *
+ * The server's state is WAX_SERVER_LENGTH bytes that the host keeps and lends to every step (docs/STATE.md has their meaning).
+ * A step takes one message from a station, and two more buffers and the place for what it gives:
+ *
+ *   messages  at least WAX_SERVER_MESSAGES bytes: messages of WAX_MESSAGE_LENGTH bytes, one behind the other;
+ *             byte 1 of each is the station that it is for
+ *   records   at least WAX_SERVER_RECORDS bytes: records for the end of the archive, one behind the other
+ *   served    at least WAX_SERVED numbers:
+ *             served[WAX_SERVED_MESSAGES]  how many messages to send, in order
+ *             served[WAX_SERVED_RECORDS]   bytes of the records to archive
+ *
+ * Bytes of messages and records behind what is given stay as they are. Any answer but WAX_OK changes nothing at all.
+ */
+#define WAX_SERVER_LENGTH   37072
+#define WAX_SERVER_MESSAGES 14336 /* 128 messages */
+#define WAX_SERVER_RECORDS  36992 /* 8 records of WAX_LONGEST_RECORD */
+
+#define WAX_SERVED          2
+#define WAX_SERVED_MESSAGES 0
+#define WAX_SERVED_RECORDS  1
+
+/*
+ * A fresh state of a server whose stations have these 8 kinds, WAX_LOCKING or WAX_VALIDATING, a byte each.
+ *
+ *   WAX_BUFFER  length is not WAX_SERVER_LENGTH
+ *   WAX_RANGE   kinds_length is not 8, or a kind is neither
+ *
+ *   static const uint8_t kinds[WAX_STATIONS] = { WAX_LOCKING, WAX_VALIDATING };
+ *   wax_server_fresh(kinds, sizeof kinds, state, sizeof state);
+ */
+uint32_t wax_server_fresh(const uint8_t *kinds, size_t kinds_length, uint8_t *state, size_t length);
+
+/*
+ * The server's step on one message from a station; a commit is lent whole, its versions and record behind its 112 bytes.
+ *
+ *   WAX_BUFFER      the state is not one, or messages, records or served is too short
+ *   WAX_LENGTH, WAX_KIND, WAX_RANGE, WAX_RECORD
+ *                   the message's bytes, as wax_up_check with the state's kinds
+ *   WAX_UNEXPECTED  a message that does not fit what the server has seen of its station
+ *
+ * in this order.
+ */
+uint32_t wax_server_step(const uint8_t *message, size_t message_length, uint8_t *state, size_t state_length,
+                         uint8_t *messages, size_t messages_length, uint8_t *records, size_t records_length,
+                         uint64_t *served, size_t served_length);
 
 #ifdef __cplusplus
 }

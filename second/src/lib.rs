@@ -1,9 +1,10 @@
 //! The second implementation: the record, the archive and its playback, and the line, written from document 01.
 //!
-//! It shares no code with the proved library. `compare` runs both on the same inputs, `stations` does so with whole lines,
-//! `bench` times both; `line_runs` tries the line on random crossings.
+//! It shares no code with the proved library. `compare` runs both on the same inputs, `stations` and `lines` do so with whole
+//! lines, `bench` times both; `line_runs` tries the line on random crossings.
 
 pub mod archive;
+pub mod buffers;
 pub mod chart;
 #[cfg(feature = "proved")]
 pub mod ffi;
@@ -11,10 +12,12 @@ pub mod generate;
 pub mod line;
 pub mod numbers;
 pub mod options;
+pub mod program;
 pub mod random;
 pub mod record;
 pub mod samples;
 pub mod show;
+pub mod tally;
 pub mod text;
 
 /// Why a call is turned back, by document 01's number.

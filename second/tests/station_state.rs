@@ -1,7 +1,10 @@
 //! A station's state as bytes: docs/STATE.md's table, number 1, leftovers, and what cannot be held.
 
+mod state_table;
+
 use second::line::call::Call;
 use second::line::crossing::Crossing;
+use second::line::places::Place;
 use second::line::scripts;
 use second::line::sets::Addresses;
 use second::line::station::state::{decode, encode, lay, near, valid, Field, LENGTH};
@@ -9,8 +12,7 @@ use second::line::station::Station;
 use second::line::world::World;
 use second::line::Kind;
 use second::random::Random;
-
-const TABLE: &str = include_str!("../../docs/STATE.md");
+use state_table::{fields, rows, with};
 
 /// Station 0's state behind a script; it is locking, 1 validating.
 fn behind(script: &str) -> (Station, Vec<u8>) {
@@ -32,43 +34,9 @@ fn busy() -> Vec<u8> {
     .1
 }
 
-fn with(bytes: &[u8], at: usize, byte: u8) -> Vec<u8> {
-    let mut bytes = bytes.to_vec();
-    bytes[at] = byte;
-    bytes
-}
-
-/// The section on a station's state; the server's has a table too.
-fn section() -> &'static str {
-    let sections = &mut TABLE.split("\n## ");
-    sections
-        .find(|section| section.starts_with("A station's state"))
-        .expect("docs/STATE.md describes a station's state")
-}
-
-/// From, bytes and name of each row.
-fn rows() -> Vec<(usize, usize, String)> {
-    let cells = |line: &'static str| line.split('|').map(str::trim).collect::<Vec<_>>();
-    let row = |cells: Vec<&str>| {
-        let [_, from, bytes, name, ..] = cells[..] else {
-            return None;
-        };
-        let factors = bytes
-            .split('×')
-            .map(|factor| factor.trim().parse::<usize>());
-        let bytes = factors.product::<Result<usize, _>>().ok()?;
-        Some((from.parse().ok()?, bytes, name.replace(' ', "")))
-    };
-    section().lines().map(cells).filter_map(row).collect()
-}
-
 #[test]
 fn the_fields_are_the_tables() {
-    let fields = Field::ALL.map(|field| {
-        let name = format!("{field:?}").to_lowercase();
-        (field.start(), field.range().len(), name)
-    });
-    assert_eq!(rows(), fields);
+    assert_eq!(rows("A station's state"), fields::<Field>());
     assert_eq!(Field::Address.range().end, LENGTH);
     assert_eq!(Field::of(0), Some(Field::Copy));
     assert_eq!(Field::of(6_315), Some(Field::Number));

@@ -1,5 +1,7 @@
 //! The proved library's C interface, and safe wrappers over it. Must say the same as `include/waxwingrack.h`.
 
+pub mod ends;
+pub mod server;
 pub mod stations;
 
 use crate::archive::{Playback, ADDRESSES};

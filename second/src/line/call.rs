@@ -1,9 +1,12 @@
 //! Calls and replies as text: a command a line, exactly one reply line each.
 
+use super::server::Server;
 use super::sets::STATIONS;
-use super::world::{Outcome, Reply, World};
+use super::station::Station;
+use super::world::{Outcome, Reply, ServerEnd, StationEnd, World};
 use super::{Answer, Kind};
 use std::fmt::{self, Display, Formatter, Write};
+use std::io::{self, BufRead};
 
 /// One call on a line.
 #[derive(Clone, Debug, PartialEq, Eq)]
@@ -186,23 +189,52 @@ impl Display for Answer {
 }
 
 /// A line driven by commands; there is none before the first `fresh`.
-#[derive(Default)]
-pub struct Driver {
-    world: Option<World>,
+pub struct Driver<S = Server, T = Station> {
+    world: Option<World<S, T>>,
 }
 
-impl Driver {
+/// Of this implementation's ends.
+impl Default for Driver {
+    fn default() -> Driver {
+        Driver::new()
+    }
+}
+
+impl<S: ServerEnd, T: StationEnd> Driver<S, T> {
+    pub fn new() -> Driver<S, T> {
+        Driver { world: None }
+    }
+
+    /// A command a line, a reply line each.
+    pub fn serve(mut self, commands: impl BufRead, mut replies: impl io::Write) -> io::Result<()> {
+        for command in commands.split(b'\n') {
+            let reply = self.reply(&String::from_utf8_lossy(&command?));
+            writeln!(replies, "{reply}")?;
+            replies.flush()?;
+        }
+        Ok(())
+    }
+
+    /// The line; none before the first `fresh`.
+    pub fn world(&self) -> Option<&World<S, T>> {
+        self.world.as_ref()
+    }
+
     /// The reply to one command, without its line end.
     pub fn reply(&mut self, command: &str) -> String {
-        let reply = match (Call::parse(command), &mut self.world) {
+        self.answer(Call::parse(command).as_ref()).to_string()
+    }
+
+    /// The reply to one call; none is a malformed command.
+    pub fn answer(&mut self, call: Option<&Call>) -> Reply {
+        match (call, &mut self.world) {
             (Some(Call::Fresh(kinds)), world) => {
-                *world = Some(World::fresh(kinds));
+                *world = Some(World::with_ends(*kinds));
                 Reply::Ready
             }
-            (Some(call), Some(world)) => world.call(&call),
+            (Some(call), Some(world)) => world.call(call),
             _ => Reply::Misplaced,
-        };
-        reply.to_string()
+        }
     }
 }
 

@@ -98,7 +98,7 @@ impl<'a> Watched<'a> {
     /// One call, with all its checks.
     pub fn make(&mut self, call: &Call) -> Result<Reply, Failure> {
         let before = self.before(call);
-        let taken = self.message_of(call);
+        let taken = self.world.message_of(call).map(<[u8]>::to_vec);
         let reply = self.world.call(call);
         self.counts
             .note(call, taken.as_deref(), &reply, &self.world);
@@ -129,15 +129,6 @@ impl<'a> Watched<'a> {
         }
     }
 
-    fn message_of(&self, call: &Call) -> Option<Vec<u8>> {
-        match call {
-            Call::Server(station) => self.world.first_up(*station).map(<[u8]>::to_vec),
-            Call::Station(station) => self.world.first_down(*station).map(<[u8]>::to_vec),
-            Call::ServerRaw(bytes) | Call::StationRaw(_, bytes) => Some(bytes.clone()),
-            _ => None,
-        }
-    }
-
     /// "Refused calls answer the number, send nothing and change no state".
     fn refused(&self, call: &Call, number: Number, before: Before) -> Result<(), Failure> {
         let same = match before {
@@ -160,7 +151,7 @@ impl<'a> Watched<'a> {
         if self.honest && from_line {
             return failed(
                 "no message between rule-keeping ends is refused",
-                format!("{call}: {number:?}, {:02x?}", self.message_of(call)),
+                format!("{call}: {number:?}, {:02x?}", self.world.message_of(call)),
             );
         }
         Ok(())

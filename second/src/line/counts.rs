@@ -127,10 +127,14 @@ impl Counts {
 
 impl Display for Counts {
     fn fmt(&self, f: &mut Formatter<'_>) -> fmt::Result {
+        write!(f, "{} runs", self.runs)?;
+        if self.claimed > 0 {
+            write!(f, " ({} claiming demand 3)", self.claimed)?;
+        }
         writeln!(
             f,
-            "{} runs ({} claiming demand 3), {} calls, {} commits, {} victims ({} steps with several)",
-            self.runs, self.claimed, self.calls, self.records, self.victims, self.steps_with_victims
+            ", {} calls, {} commits, {} victims ({} steps with several)",
+            self.calls, self.records, self.victims, self.steps_with_victims
         )?;
         row(f, "sent up", &self.kinds, 1..=8)?;
         row(f, "sent down", &self.kinds, 16..=23)?;

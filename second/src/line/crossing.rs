@@ -71,6 +71,20 @@ impl Crossing {
         }
     }
 
+    /// All eight stations of a fresh line, and no raw messages.
+    pub fn of_eight(seed: u64, calls: usize) -> Crossing {
+        let crossing = Crossing::new(seed, calls);
+        Crossing {
+            numbers: None,
+            stations: damage::ALL.to_vec(),
+            habits: Habits {
+                raw: 0,
+                ..crossing.habits
+            },
+            ..crossing
+        }
+    }
+
     /// Raw messages are among the calls.
     pub fn damages(&self) -> bool {
         self.habits.raw != 0

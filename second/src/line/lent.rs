@@ -40,7 +40,7 @@ pub struct Lent<'a> {
 
 impl Operation {
     /// What a call of the line asks of its station; none where its line is empty, or no station is called.
-    pub fn of(call: &Call, world: &World) -> Option<Operation> {
+    pub fn of<S, T>(call: &Call, world: &World<S, T>) -> Option<Operation> {
         Some(match call {
             Call::Begin(_) => Operation::Begin,
             Call::Read(_, address) => Operation::Read((*address).into()),

@@ -11,11 +11,14 @@ pub mod lent;
 pub mod little;
 pub mod message;
 pub mod owner;
+pub mod places;
 pub mod runs;
 pub mod scripts;
+pub mod served;
 pub mod server;
 pub mod sets;
 pub mod shorten;
+pub mod spoil;
 pub mod station;
 pub mod truth;
 pub mod world;
@@ -34,6 +37,25 @@ pub enum Number {
     Open = 9,
     Kept = 10,
     Spent = 11,
+}
+
+impl Number {
+    pub fn of(number: u32) -> Option<Number> {
+        [
+            Number::Length,
+            Number::Kind,
+            Number::Range,
+            Number::Record,
+            Number::Unexpected,
+            Number::Waiting,
+            Number::Closed,
+            Number::Open,
+            Number::Kept,
+            Number::Spent,
+        ]
+        .into_iter()
+        .find(|one| *one as u32 == number)
+    }
 }
 
 /// "Stations 0 to 7, fixed for life as locking (0) or validating (1)".

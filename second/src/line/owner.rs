@@ -1,5 +1,6 @@
 //! What a station's owner asked for and was told: the only witness of demand 3.
 
+use super::call::Call;
 use super::Answer;
 
 /// What an owner asks its station.
@@ -11,6 +12,21 @@ pub enum Asked {
     Commit,
     Abort,
     Purge,
+}
+
+impl Asked {
+    /// None for a call that is no owner's.
+    pub fn of(call: &Call) -> Option<Asked> {
+        Some(match call {
+            Call::Begin(_) => Asked::Begin,
+            Call::Read(_, address) => Asked::Read(*address),
+            Call::Write(_, address, value) => Asked::Write(*address, *value),
+            Call::Commit(_) => Asked::Commit,
+            Call::Abort(_) => Asked::Abort,
+            Call::Purge(..) => Asked::Purge,
+            _ => return None,
+        })
+    }
 }
 
 /// What an owner knows to have happened.
@@ -33,8 +49,16 @@ pub struct Owner {
 }
 
 impl Owner {
+    /// An accepted call at its station: what it asked, unless that was a delivery.
+    pub fn told_by(&mut self, asked: Option<Asked>, answer: Answer) {
+        match asked {
+            Some(asked) => self.called(asked, answer),
+            None => self.delivered(answer),
+        }
+    }
+
     /// "Owners are told a call's answer"
-    pub fn called(&mut self, asked: Asked, answer: Answer) {
+    fn called(&mut self, asked: Asked, answer: Answer) {
         if answer == Answer::Waits {
             self.pending = Some(asked);
         } else {
@@ -43,7 +67,7 @@ impl Owner {
     }
 
     /// ", after "waits" the delivery's."
-    pub fn delivered(&mut self, answer: Answer) {
+    fn delivered(&mut self, answer: Answer) {
         if answer != Answer::Nothing {
             let asked = self.pending.take();
             self.hears(asked, answer);

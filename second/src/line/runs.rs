@@ -25,15 +25,20 @@ const MOST_DELIVERIES: usize = 20_000;
 
 /// The run of one seed.
 pub fn run(seed: u64, calls: usize, counts: &mut Counts) -> Result<(), Failed> {
-    let mut made = Vec::with_capacity(calls);
-    let mut crossing = Crossing::new(seed, calls);
-    made.push(Call::Fresh(crossing.kinds));
-    let result = caught(|| random_calls(&mut crossing, seed, &mut made, counts));
-    result.map_err(|failure| Failed {
-        seed,
-        failure,
-        calls: made,
-    })
+    run_of(Crossing::new(seed, calls), seed, counts).map(drop)
+}
+
+/// The run of a crossing; all calls made, its draining among them.
+pub fn run_of(mut crossing: Crossing, seed: u64, counts: &mut Counts) -> Result<Vec<Call>, Failed> {
+    let mut made = vec![Call::Fresh(crossing.kinds)];
+    match caught(|| random_calls(&mut crossing, seed, &mut made, counts)) {
+        Ok(()) => Ok(made),
+        Err(failure) => Err(Failed {
+            seed,
+            failure,
+            calls: made,
+        }),
+    }
 }
 
 fn random_calls(

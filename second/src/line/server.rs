@@ -1,5 +1,7 @@
 //! The server: its step on an up message, the pass over its waiting list, cycles and victims.
 
+pub mod state;
+
 use super::message::{Commit, Down, Grant, PageMessage, Up};
 use super::sets::{address, object_bit, page_bit, page_of, rising, station_bit, Addresses};
 use super::sets::{ObjectSet, PageSet, StationSet, ADDRESSES, OBJECTS, PAGES, STATIONS};
@@ -15,8 +17,9 @@ pub struct Server {
     /// "A page's version is the number of the last commit that wrote it, first 0."
     versions: [u32; PAGES],
     seen: [Seen; STATIONS],
-    /// Ages given out so far.
-    ages: u64,
+    /// The age that the next transaction gets, and the arrival that the next waiter gets.
+    next_age: u64,
+    next_arrival: u64,
     /// Object locks by holder.
     locks: [Addresses; STATIONS],
     whole: [Option<WholeLock>; PAGES],
@@ -25,11 +28,12 @@ pub struct Server {
     waiting: Vec<Waiter>,
 }
 
-/// A station's latest transaction; its age while it is unfinished.
+/// A station's latest transaction and its age, which counts while it is unfinished.
 #[derive(Clone, Copy, Debug, PartialEq, Eq)]
 struct Seen {
     latest: u32,
-    age: Option<u64>,
+    age: u64,
+    unfinished: bool,
 }
 
 #[derive(Clone, Copy, Debug, PartialEq, Eq)]
@@ -42,6 +46,8 @@ struct WholeLock {
 #[derive(Clone, Debug, PartialEq, Eq)]
 struct Waiter {
     station: u8,
+    /// Rises from waiter to waiter.
+    arrival: u64,
     request: Request,
     wants: Addresses,
     writes: Addresses,
@@ -92,6 +98,7 @@ impl Waiter {
     fn read(station: u8, address: u8) -> Waiter {
         Waiter {
             station,
+            arrival: 0,
             request: Request::Read(address),
             wants: Addresses::one(address),
             writes: Addresses::default(),
@@ -110,6 +117,7 @@ impl Waiter {
     fn commit(station: u8, commit: Box<Commit>) -> Waiter {
         Waiter {
             station,
+            arrival: 0,
             wants: commit.wanted(),
             writes: commit.written(),
             request: Request::Commit(commit),
@@ -137,8 +145,13 @@ impl Server {
             last,
             values: [0; ADDRESSES],
             versions: [0; PAGES],
-            seen: latest.map(|latest| Seen { latest, age: None }),
-            ages: 0,
+            seen: latest.map(|latest| Seen {
+                latest,
+                age: 0,
+                unfinished: false,
+            }),
+            next_age: 1,
+            next_arrival: 1,
             locks: [Addresses::default(); STATIONS],
             whole: [None; PAGES],
             listed: [0; STATIONS],
@@ -146,11 +159,17 @@ impl Server {
         }
     }
 
-    pub fn step(&mut self, bytes: &[u8]) -> Result<Step, Number> {
+    /// The sender and its message, if neither number 2 to 5 nor 6 stands against it.
+    pub fn admits(&self, bytes: &[u8]) -> Result<(u8, Up), Number> {
         let (from, message) = Up::decode(bytes, &self.kinds)?;
-        if !self.expects(from, &message) {
-            return Err(Number::Unexpected);
+        match self.expects(from, &message) {
+            true => Ok((from, message)),
+            false => Err(Number::Unexpected),
         }
+    }
+
+    pub fn step(&mut self, bytes: &[u8]) -> Result<Step, Number> {
+        let (from, message) = self.admits(bytes)?;
         let mut step = Step::default();
         if let Some(transaction) = message.own_transaction() {
             self.note_transaction(from, transaction);
@@ -186,11 +205,11 @@ impl Server {
     /// while it waits" are unexpected; readings 7 and 8.
     fn number_fits(&self, from: u8, transaction: u32) -> bool {
         let seen = self.seen[from as usize];
-        let open_locking = seen.age.is_some() && self.kinds[from as usize] == Kind::Locking;
+        let open_locking = seen.unfinished && self.kinds[from as usize] == Kind::Locking;
         !self.waits(from)
             && match transaction.cmp(&seen.latest) {
                 std::cmp::Ordering::Less => false,
-                std::cmp::Ordering::Equal => seen.age.is_some(),
+                std::cmp::Ordering::Equal => seen.unfinished,
                 std::cmp::Ordering::Greater => !open_locking,
             }
     }
@@ -215,9 +234,12 @@ impl Server {
     fn note_transaction(&mut self, from: u8, transaction: u32) {
         let seen = &mut self.seen[from as usize];
         if transaction != seen.latest {
-            seen.latest = transaction;
-            seen.age = Some(self.ages);
-            self.ages += 1;
+            *seen = Seen {
+                latest: transaction,
+                age: self.next_age,
+                unfinished: true,
+            };
+            self.next_age += 1;
         }
     }
 
@@ -228,11 +250,9 @@ impl Server {
             (Up::Read { address, .. }, Kind::Validating) => {
                 self.send_page(from, address, Grant::Page, 0, step)
             }
-            (Up::Read { address, .. }, _) => self.waiting.push(Waiter::read(from, address)),
-            (Up::Write { address, .. }, _) => self.waiting.push(Waiter::write(from, address)),
-            (Up::Commit(commit), Kind::Validating) => {
-                self.waiting.push(Waiter::commit(from, commit))
-            }
+            (Up::Read { address, .. }, _) => self.join(Waiter::read(from, address)),
+            (Up::Write { address, .. }, _) => self.join(Waiter::write(from, address)),
+            (Up::Commit(commit), Kind::Validating) => self.join(Waiter::commit(from, commit)),
             (Up::Commit(commit), _) => self.locking_commit(from, &commit, step),
             // "every transaction's end frees its locks"
             (Up::Abort { .. }, _) => self.end(from),
@@ -261,6 +281,13 @@ impl Server {
                 _,
             ) => self.written_set(from, page, transaction, written),
         }
+    }
+
+    /// "joins one waiting list by arrival"
+    fn join(&mut self, waiter: Waiter) {
+        let arrival = self.next_arrival;
+        self.next_arrival += 1;
+        self.waiting.push(Waiter { arrival, ..waiter });
     }
 
     /// "A locking commit installs without waiting"; reading 40.
@@ -311,7 +338,7 @@ impl Server {
     /// "when 8 makes it locks on its set"; reading 11.
     fn written_set(&mut self, from: u8, page: u8, transaction: u32, written: ObjectSet) {
         let seen = self.seen[from as usize];
-        let unfinished = seen.latest == transaction && seen.age.is_some();
+        let unfinished = seen.latest == transaction && seen.unfinished;
         let asked = WholeLock {
             holder: from,
             asked: true,
@@ -328,7 +355,7 @@ impl Server {
 
     /// The transaction is finished; its locks and its request go.
     fn end(&mut self, station: u8) {
-        self.seen[station as usize].age = None;
+        self.seen[station as usize].unfinished = false;
         self.locks[station as usize] = Addresses::default();
         for lock in &mut self.whole {
             if lock.is_some_and(|lock| lock.holder == station) {

@@ -1,8 +1,9 @@
 //! A whole line: server, eight stations, sixteen lines between them, the archive, and what owners were told.
 
 use super::call::Call;
+use super::lent::Operation;
 use super::owner::{Asked, Owner};
-use super::server::{Server, Victim};
+use super::server::{Server, Step, Victim};
 use super::sets::STATIONS;
 use super::station::{Done, Station};
 use super::{Answer, Kind, Number};
@@ -10,10 +11,43 @@ use std::collections::VecDeque;
 
 type Line = VecDeque<Vec<u8>>;
 
+/// The server's end of a line: this implementation's, or another that does the same.
+pub trait ServerEnd {
+    /// A fresh one, but for the last commit number and the stations' latest transactions.
+    fn fresh(kinds: [Kind; STATIONS], last: u32, latest: [u32; STATIONS]) -> Self;
+    fn step(&mut self, message: &[u8]) -> Result<Step, Number>;
+}
+
+/// A station's end of it.
+pub trait StationEnd {
+    fn fresh(number: u8, kind: Kind, latest: u32) -> Self;
+    fn call(&mut self, operation: &Operation) -> Result<Done, Number>;
+}
+
+impl ServerEnd for Server {
+    fn fresh(kinds: [Kind; STATIONS], last: u32, latest: [u32; STATIONS]) -> Server {
+        Server::fresh(kinds, last, latest)
+    }
+
+    fn step(&mut self, message: &[u8]) -> Result<Step, Number> {
+        Server::step(self, message)
+    }
+}
+
+impl StationEnd for Station {
+    fn fresh(number: u8, kind: Kind, latest: u32) -> Station {
+        Station::fresh(number, kind, latest)
+    }
+
+    fn call(&mut self, operation: &Operation) -> Result<Done, Number> {
+        operation.on(self)
+    }
+}
+
 #[derive(Clone, Debug, PartialEq, Eq)]
-pub struct World {
-    pub server: Server,
-    pub stations: [Station; STATIONS],
+pub struct World<S = Server, T = Station> {
+    pub server: S,
+    pub stations: [T; STATIONS],
     pub owners: [Owner; STATIONS],
     /// Records in the order archived.
     pub archive: Vec<Vec<u8>>,
@@ -58,16 +92,23 @@ impl From<Done> for Outcome {
 }
 
 impl World {
+    /// Of this implementation's ends.
+    pub fn fresh(kinds: [Kind; STATIONS]) -> World {
+        World::with_ends(kinds)
+    }
+}
+
+impl<S: ServerEnd, T: StationEnd> World<S, T> {
     /// "A fresh line has every value, version and last number 0, nothing open, cached, listed, locked or under way, and
     /// an empty archive."
-    pub fn fresh(kinds: [Kind; STATIONS]) -> World {
+    pub fn with_ends(kinds: [Kind; STATIONS]) -> World<S, T> {
         World::starting(kinds, 0, [0; STATIONS])
     }
 
-    fn starting(kinds: [Kind; STATIONS], last: u32, latest: [u32; STATIONS]) -> World {
+    fn starting(kinds: [Kind; STATIONS], last: u32, latest: [u32; STATIONS]) -> World<S, T> {
         World {
-            server: Server::fresh(kinds, last, latest),
-            stations: std::array::from_fn(|i| Station::fresh(i as u8, kinds[i], latest[i])),
+            server: S::fresh(kinds, last, latest),
+            stations: std::array::from_fn(|i| T::fresh(i as u8, kinds[i], latest[i])),
             owners: Default::default(),
             archive: Vec::new(),
             kinds,
@@ -82,7 +123,7 @@ impl World {
         let untouched = std::mem::replace(&mut self.untouched, false);
         match call {
             Call::Fresh(kinds) => {
-                *self = World::fresh(*kinds);
+                *self = World::with_ends(*kinds);
                 Reply::Ready
             }
             Call::Numbers(last, latest) if untouched => {
@@ -91,36 +132,9 @@ impl World {
                 Reply::Ready
             }
             Call::Numbers(..) => Reply::Misplaced,
-            Call::Begin(station) => self.owner(*station, Asked::Begin, Station::begin),
-            Call::Read(station, address) => {
-                self.owner(*station, Asked::Read(*address), |s| s.read(*address))
-            }
-            Call::Write(station, address, value) => {
-                let asked = Asked::Write(*address, *value);
-                self.owner(*station, asked, |s| s.write(*address, *value))
-            }
-            Call::Commit(station) => self.owner(*station, Asked::Commit, Station::commit),
-            Call::Abort(station) => self.owner(*station, Asked::Abort, Station::abort),
-            Call::Purge(station, page) => self.owner(*station, Asked::Purge, |s| s.purge(*page)),
             Call::Server(station) => self.server_takes(*station),
-            Call::Station(station) => self.station_takes(*station),
             Call::ServerRaw(bytes) => self.server_step(bytes),
-            Call::StationRaw(station, bytes) => self.station_step(*station, bytes),
-        }
-    }
-
-    fn owner(
-        &mut self,
-        station: u8,
-        asked: Asked,
-        operation: impl FnOnce(&mut Station) -> Result<Done, Number>,
-    ) -> Reply {
-        match operation(&mut self.stations[station as usize]) {
-            Err(number) => Reply::Refused(number),
-            Ok(done) => {
-                self.owners[station as usize].called(asked, done.answer);
-                self.station_sent(station, done)
-            }
+            _ => self.station_call(call),
         }
     }
 
@@ -132,17 +146,6 @@ impl World {
         let reply = self.server_step(&bytes);
         if let Reply::Refused(_) = reply {
             self.up[station as usize].push_front(bytes);
-        }
-        reply
-    }
-
-    fn station_takes(&mut self, station: u8) -> Reply {
-        let Some(bytes) = self.down[station as usize].pop_front() else {
-            return Reply::Empty;
-        };
-        let reply = self.station_step(station, &bytes);
-        if let Reply::Refused(_) = reply {
-            self.down[station as usize].push_front(bytes);
         }
         reply
     }
@@ -166,20 +169,36 @@ impl World {
         }
     }
 
-    fn station_step(&mut self, station: u8, bytes: &[u8]) -> Reply {
-        match self.stations[station as usize].step(bytes) {
+    /// An owner's operation, or a step on the first message of the line or on a raw one.
+    fn station_call(&mut self, call: &Call) -> Reply {
+        let (Some(station), Some(operation)) = (call.station(), Operation::of(call, self)) else {
+            return Reply::Empty;
+        };
+        let number = station as usize;
+        match self.stations[number].call(&operation) {
             Err(number) => Reply::Refused(number),
             Ok(done) => {
-                self.owners[station as usize].delivered(done.answer);
-                self.station_sent(station, done)
+                if let Call::Station(_) = call {
+                    self.down[number].pop_front();
+                }
+                self.owners[number].told_by(Asked::of(call), done.answer);
+                // "Messages sent join the back of their station's up or down line".
+                self.up[number].extend(done.sent.iter().cloned());
+                Reply::Accepted(Outcome::from(done))
             }
         }
     }
+}
 
-    /// "Messages sent join the back of their station's up or down line".
-    fn station_sent(&mut self, station: u8, done: Done) -> Reply {
-        self.up[station as usize].extend(done.sent.iter().cloned());
-        Reply::Accepted(Outcome::from(done))
+impl<S, T> World<S, T> {
+    /// The message that a step is given: the first of its line, or a raw one.
+    pub fn message_of<'a>(&'a self, call: &'a Call) -> Option<&'a [u8]> {
+        match call {
+            Call::Server(station) => self.first_up(*station),
+            Call::Station(station) => self.first_down(*station),
+            Call::ServerRaw(bytes) | Call::StationRaw(_, bytes) => Some(bytes),
+            _ => None,
+        }
     }
 
     pub fn up_length(&self, station: u8) -> usize {

@@ -1,4 +1,5 @@
-//! Scripts in the text protocol, with every message taken apart by its places and compared field by field.
+//! Scripts in the text protocol, with every message taken apart by its places and compared field by field. Where the
+//! proved library is linked, its line must reply the same to every command.
 
 use second::line::call::Driver;
 
@@ -109,23 +110,47 @@ fn list(text: &str) -> Vec<Vec<u8>> {
     }
 }
 
-/// A line under a script.
+/// What replies to commands.
+type Replies = Box<dyn FnMut(&str) -> String>;
+
+/// A line under a script: this implementation's, and the library's where it is linked.
 pub struct Line {
-    driver: Driver,
+    drivers: Vec<Replies>,
+}
+
+fn drivers() -> Vec<Replies> {
+    let mut second: Driver = Driver::default();
+    let second: Replies = Box::new(move |command| second.reply(command));
+    #[cfg(feature = "proved")]
+    {
+        use second::ffi::ends::{Server, Station};
+        let mut proved = Driver::<Server, Station>::new();
+        vec![second, Box::new(move |command| proved.reply(command))]
+    }
+    #[cfg(not(feature = "proved"))]
+    vec![second]
 }
 
 impl Line {
     pub fn fresh(kinds: &str) -> Line {
-        let mut line = Line {
-            driver: Driver::default(),
-        };
+        let mut line = Line { drivers: drivers() };
         line.replies(&format!("fresh {kinds}"), "ok");
         line
     }
 
+    /// The reply of all.
+    fn reply(&mut self, command: &str) -> String {
+        let mut replies = self.drivers.iter_mut().map(|driver| driver(command));
+        let reply = replies.next().expect("one at least");
+        for other in replies {
+            assert_eq!(other, reply, "{command}: the library replies otherwise");
+        }
+        reply
+    }
+
     /// A reply that is not taken apart.
     pub fn replies(&mut self, command: &str, expected: &str) {
-        assert_eq!(self.driver.reply(command), expected, "{command}");
+        assert_eq!(self.reply(command), expected, "{command}");
     }
 
     /// An accepted call that archives nothing.
@@ -140,7 +165,7 @@ impl Line {
         messages: &[Message],
         records: &[Record],
     ) {
-        let reply = self.driver.reply(command);
+        let reply = self.reply(command);
         let (head, rest) = reply.split_once(" msgs ").expect(&reply);
         let (sent, archived) = rest.split_once(" recs ").expect(&reply);
         assert_eq!(head, format!("ok {answer}"), "{command}");
@@ -153,7 +178,7 @@ impl Line {
     /// Accepted calls whose messages do not matter, by semicolons.
     pub fn run(&mut self, commands: &str) {
         for command in commands.split(';') {
-            let reply = self.driver.reply(command.trim());
+            let reply = self.reply(command.trim());
             assert!(reply.starts_with("ok"), "{command}: {reply}");
         }
     }

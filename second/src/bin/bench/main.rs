@@ -1,16 +1,20 @@
 //! Times the proved library against the second implementation and a plain copy; prints a table for docs/PERFORMANCE.md.
 
+mod desk;
 mod library;
 mod measure;
 mod program;
+mod server;
 mod stations;
 mod works;
 
-use measure::{nanoseconds, proved_over, rates, Job, Times};
+use measure::{nanoseconds, proved_over, rates, ratios, Job, Spread, Times};
 use second::generate::{self, Size};
+use second::line::server::state::LENGTH as SERVER_LENGTH;
 use second::line::station::state::LENGTH;
 use second::options::Options;
 use second::random::Random;
+use server::STEPS;
 use stations::CALLS;
 use std::process;
 use works::Work;
@@ -18,9 +22,11 @@ use works::Work;
 const USAGE: &str =
     "bench [--megabytes N] [--rounds N] [--seed N] [--gate] [--playback PROGRAM --file FILE]
        bench --stations [--rounds N] [--gate]
+       bench --server [--rounds N] [--seed N] [--gate]
   --gate      exit 1 if the proved library takes more than 1.3 times as long
   --playback  time the program too, on FILE, which is written anew and then removed
-  --stations  time the calls of a station, not the archive";
+  --stations  time the calls of a station, not the archive
+  --server    time the server's step";
 const MEGABYTE: usize = 1_000_000;
 const PLAYBACK_MEGABYTES: usize = 200;
 /// Where the linker puts a loop is worth up to 30 %: only more than that is a fault.
@@ -28,11 +34,15 @@ const GATE: f64 = 1.3;
 /// A turn of a station's calls is so short that a round has many.
 const TURNS: usize = 40;
 
+/// Steps of the mixed line, and the parts that are timed by themselves.
+const MIXED: usize = 100_000;
+const PARTS: usize = 10;
+
 fn main() {
     let options = Options::read(
         USAGE,
         &["--megabytes", "--rounds", "--seed", "--playback", "--file"],
-        &["--gate", "--stations"],
+        &["--gate", "--stations", "--server"],
     )
     .without_words();
     let bench = Bench {
@@ -40,9 +50,11 @@ fn main() {
         rounds: options.number("--rounds", 15).max(1) as usize,
         seed: options.seed("--seed", 1),
     };
-    let rows = match options.has("--stations") {
-        true => bench.stations(),
-        false => bench.library(),
+    let rows = match (options.has("--stations"), options.has("--server")) {
+        (true, false) => bench.stations(),
+        (false, true) => bench.server(),
+        (false, false) => bench.library(),
+        (true, true) => options.misused(),
     };
     if let Some(program) = options.text("--playback") {
         let file = options.text("--file").unwrap_or_else(|| options.misused());
@@ -127,17 +139,54 @@ impl Bench {
              Both sides check the state's bytes first: a refused begin does nothing else. The second implementation then works\n\
              on a struct with maps, and allocates each message: it is no measure of how fast Rust could be.\n",
         );
-        println!("| call | second ns | proved ns | copy ns | proved / second |");
-        println!("|---|---|---|---|---|");
-        let row = |work: &Work| {
-            let times = stations::Bench::new(work).time(turns);
-            print_call(work.name, &times);
-            Timed {
-                name: String::from(work.name),
-                times,
-            }
-        };
-        works::works().iter().map(row).collect()
+        let row = |work: &Work| row(work.name, CALLS, stations::Bench::new(work).time(turns));
+        print_head("call");
+        works::stations::works().iter().map(row).collect()
+    }
+
+    fn server(&self) -> Vec<Timed> {
+        let turns = TURNS * self.rounds;
+        println!(
+            "Medians of {turns} turns of {STEPS} steps in one process, the three taking turns, in nanoseconds a step.\n\
+             Ratios are of times in the same round, below 1 where proved is faster; in brackets the middle half of them.\n\
+             Each step has a state of its own, set up anew before the turn and not timed; copy is that of the {SERVER_LENGTH} bytes.\n\
+             Both sides check the state's bytes and the message first: a refused 6 does nothing else. The second implementation\n\
+             then works on a struct, and allocates each message and record: it is no measure of how fast Rust could be.\n",
+        );
+        let time = |name: &str, work: &Work| row(name, STEPS, server::Bench::new(work).time(turns));
+        print_head("step");
+        let works = works::server::works();
+        let rows = works.iter().map(|work| time(work.name, work)).collect();
+        println!("\nA step that changes nothing, by the number of stations that wait for a 7:\n");
+        print_head("waiters");
+        for many in 0..=8 {
+            time(&many.to_string(), &works::server::waiting(many));
+        }
+        self.mixed();
+        rows
+    }
+
+    /// A line of eight stations: its steps in the order in which they came, in ten parts.
+    fn mixed(&self) {
+        let mixed = server::Mixed::new(self.seed, MIXED);
+        println!(
+            "\nThe {MIXED} steps of a line of eight stations with {} commits, one behind the other on one core, seed {}; medians of {} rounds:\n",
+            mixed.commits, self.seed, self.rounds
+        );
+        println!("| steps | second steps/s | proved steps/s | proved / second |");
+        println!("|---|---|---|---|");
+        let part = MIXED / PARTS;
+        for (i, [second, proved]) in mixed.time(self.rounds, PARTS).iter().enumerate() {
+            let rates = [second, proved].map(|times| part as f64 / Spread::of(times).median);
+            println!(
+                "| {} to {} | {:.0} | {:.0} | {} |",
+                i * part + 1,
+                (i + 1) * part,
+                rates[0],
+                rates[1],
+                ratios(proved, second)
+            );
+        }
     }
 
     fn playback(&self, program: &str, file: &str) {
@@ -179,10 +228,20 @@ impl Timed {
     }
 }
 
-fn print_call(name: &str, times: &Times) {
-    let [second, proved, copy] = nanoseconds(CALLS, times);
-    let ratio = proved_over(times, Job::Second);
+fn print_head(what: &str) {
+    println!("| {what} | second ns | proved ns | copy ns | proved / second |");
+    println!("|---|---|---|---|---|");
+}
+
+/// Prints the row of one call.
+fn row(name: &str, calls: usize, times: Times) -> Timed {
+    let [second, proved, copy] = nanoseconds(calls, &times);
+    let ratio = proved_over(&times, Job::Second);
     println!("| {name} | {second:.0} | {proved:.0} | {copy:.0} | {ratio} |");
+    Timed {
+        name: String::from(name),
+        times,
+    }
 }
 
 fn print_playback(times: &Times) {

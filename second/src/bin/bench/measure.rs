@@ -6,6 +6,13 @@ use std::time::Instant;
 /// Seconds in each round: the second implementation, the proved library, a plain copy.
 pub type Times = [Vec<f64>; 3];
 
+/// How long a job takes.
+pub fn seconds(job: impl FnOnce()) -> f64 {
+    let start = Instant::now();
+    job();
+    start.elapsed().as_secs_f64()
+}
+
 /// Times three jobs round by round. `settle` runs before each, so that all meet the caches in the same state.
 pub fn time(rounds: usize, settle: &dyn Fn(), jobs: [&mut dyn FnMut(); 3]) -> Times {
     let mut times = Times::default();
@@ -14,9 +21,7 @@ pub fn time(rounds: usize, settle: &dyn Fn(), jobs: [&mut dyn FnMut(); 3]) -> Ti
         for turn in 0..jobs.len() {
             let job = (round + turn) % jobs.len();
             settle();
-            let start = Instant::now();
-            jobs[job]();
-            let seconds = start.elapsed().as_secs_f64();
+            let seconds = seconds(&mut *jobs[job]);
             if round > 0 {
                 times[job].push(seconds);
             }
@@ -45,7 +50,12 @@ pub fn proved_over(times: &Times, job: Job) -> Spread {
         Job::Second => &times[0],
         Job::Copy => &times[2],
     };
-    let ratios: Vec<f64> = times[1].iter().zip(other).map(|(a, b)| a / b).collect();
+    ratios(&times[1], other)
+}
+
+/// One job's time over another's, round by round.
+pub fn ratios(one: &[f64], other: &[f64]) -> Spread {
+    let ratios: Vec<f64> = one.iter().zip(other).map(|(a, b)| a / b).collect();
     Spread::of(&ratios)
 }
 
@@ -63,7 +73,7 @@ pub struct Spread {
 }
 
 impl Spread {
-    fn of(numbers: &[f64]) -> Spread {
+    pub fn of(numbers: &[f64]) -> Spread {
         let mut sorted = numbers.to_vec();
         sorted.sort_by(f64::total_cmp);
         let at = |quarter: usize| sorted[(sorted.len() - 1) * quarter / 4];

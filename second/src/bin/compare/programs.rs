@@ -3,13 +3,12 @@
 use crate::judge::{Judge, SIDES};
 use second::archive::Playback;
 use second::generate::{self, Size};
+use second::program::printed;
 use second::random::Random;
 use second::record::{ENTRY, HEADER};
 use second::show::hex;
 use second::text;
-use std::io::{self, ErrorKind, Read, Write};
-use std::process::{Command, Stdio};
-use std::thread;
+use std::io;
 
 /// How the archive goes into the pipe.
 const PIECES: [usize; 9] = [7, 16, 33, 1_000, 4_095, 4_096, 4_097, 65_537, 1_000_000];
@@ -117,36 +116,4 @@ fn from_line(text: &[u8], at: Option<usize>) -> String {
     let shown = &text[line..text.len().min(line + 80)];
     let shown = String::from_utf8_lossy(shown);
     format!("{} bytes, from byte {line}: {shown:?}", text.len())
-}
-
-/// What the program prints for the archive.
-fn printed(path: &str, archive: &[u8], piece: usize) -> io::Result<Vec<u8>> {
-    let mut child = Command::new(path)
-        .stdin(Stdio::piped())
-        .stdout(Stdio::piped())
-        .spawn()?;
-    let (stdin, stdout) = (child.stdin.take(), child.stdout.take());
-    let mut printed = Vec::new();
-    thread::scope(|scope| {
-        let feeding = scope.spawn(|| feed(stdin.expect("piped"), archive, piece));
-        stdout.expect("piped").read_to_end(&mut printed)?;
-        feeding.join().expect("does not panic")
-    })?;
-    match child.wait()?.code() {
-        Some(_) => Ok(printed),
-        None => Err(io::Error::other("ended by a signal")),
-    }
-}
-
-/// Writes the archive in pieces; a program may end before it has read all.
-fn feed(mut pipe: impl Write, archive: &[u8], piece: usize) -> io::Result<()> {
-    for piece in archive.chunks(piece) {
-        match pipe.write_all(piece) {
-            Err(error) if error.kind() == ErrorKind::BrokenPipe => break,
-            result => result?,
-        }
-        // lets the reader meet a pipe that holds one piece only
-        thread::yield_now();
-    }
-    Ok(())
 }

@@ -1,9 +1,9 @@
 //! Damaged cases, each on a copy of a state, so that the line goes on.
 
-use crate::buffers::{Room, GUARD};
-use crate::judge::{sort, Agreed, Difference, Judge};
+use crate::judge::{sort, Judge};
 use crate::line::{down_check, up_check, Line};
 use crate::{messages, states};
+use second::buffers::{Agreed, Difference, Room, GUARD};
 use second::ffi::stations as proved;
 use second::generate;
 use second::line::call::Call;
@@ -11,6 +11,7 @@ use second::line::crossing::Crossing;
 use second::line::damage;
 use second::line::lent::{Lent, Operation, BUFFER};
 use second::line::sets::STATIONS;
+use second::line::spoil;
 use second::line::station::state::{self, Field, LENGTH};
 use second::line::station::Station;
 use second::line::Kind;
@@ -55,7 +56,7 @@ impl Cases {
         let random = &mut self.random;
         if random.one_in(20) {
             damage = "of a wrong length";
-            states::of_a_wrong_length(random, &mut state);
+            spoil::of_a_wrong_length::<Field>(random, &mut state);
         }
         let (roomy, room) = room(random);
         judge.tallies.states.count(damage);
@@ -114,11 +115,11 @@ impl Cases {
             }
             14 => {
                 let like = raw(crossing, line);
-                let bytes = messages::of_any_length(random, &like);
+                let bytes = spoil::of_any_length(random, &like);
                 ("message of any length", bytes)
             }
             _ => {
-                let commit = messages::commit(random, &line.world.kinds);
+                let commit = spoil::commit(random, &line.world.kinds);
                 ("commit", commit)
             }
         };
@@ -172,7 +173,7 @@ impl Cases {
     fn up_check(&mut self, line: &Line, crossing: &mut Crossing, judge: &mut Judge) -> Agreed<()> {
         let random = &mut self.random;
         let message = match random.below(4) {
-            0 | 1 => messages::commit(random, &line.world.kinds),
+            0 | 1 => spoil::commit(random, &line.world.kinds),
             2 => raw(crossing, line),
             _ => {
                 let like = raw(crossing, line);
@@ -219,22 +220,10 @@ fn raw(crossing: &mut Crossing, line: &Line) -> Vec<u8> {
 
 /// Mostly enough; else one of them is too short, or all.
 fn room(random: &mut Random) -> (&'static str, Room) {
-    let mut room = Room::enough(random);
-    if !random.one_in(12) {
-        return ("enough", room);
+    match random.one_in(12) {
+        true => ("short", Room::short::<Field>(random)),
+        false => ("enough", Room::enough::<Field>(random)),
     }
-    let which = random.below(4);
-    let mut shorter = |least: usize| random.pick(&[0, 1, least / 2, least - 1, least - 1]);
-    if which == 0 || which == 3 {
-        room.messages = shorter(Room::LEAST.messages);
-    }
-    if which == 1 || which == 3 {
-        room.commit = shorter(Room::LEAST.commit);
-    }
-    if which == 2 || which == 3 {
-        room.told = shorter(Room::LEAST.told);
-    }
-    ("short", room)
 }
 
 /// "WAX_BUFFER length is not WAX_STATION_LENGTH", then the range.

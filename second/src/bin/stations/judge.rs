@@ -1,47 +1,38 @@
 //! Gives each call to a compiled station and compares number and every byte lent with what this implementation says.
 
-use crate::buffers::{show_state, Buffers, Room, Stock};
 use crate::tally::Tallies;
+use second::buffers::{show_state, Agreed, Difference, Pair, Room};
 use second::ffi::stations as proved;
 use second::line::lent::{Lent, Operation};
 use second::line::message::{Down, Up, LENGTH};
+use second::line::places::Place;
 use second::line::sets::STATIONS;
 use second::line::station::state::{self, Field};
 use second::line::Kind;
 use second::numbers::OK;
-use second::random::Random;
 use second::show::hex;
 
-/// Where the two differ, in words.
-pub struct Difference(pub String);
-
-pub type Agreed<T> = Result<T, Difference>;
+/// Damaged states may be twice as long as one.
+const LONGEST: usize = 2 * state::LENGTH;
 
 pub struct Judge {
     pub tallies: Tallies,
     show: bool,
-    random: Random,
-    stock: Stock,
-    expected: Buffers,
-    given: Buffers,
+    lent: Pair<Field>,
 }
 
 impl Judge {
     pub fn new(show: bool) -> Judge {
-        let mut random = Random::new(0);
         Judge {
             tallies: Tallies::default(),
             show,
-            stock: Stock::new(&mut random),
-            random,
-            expected: Buffers::default(),
-            given: Buffers::default(),
+            lent: Pair::new(0, LONGEST),
         }
     }
 
     /// Buffers are filled anew from this seed on.
     pub fn seed(&mut self, seed: u64) {
-        self.random = Random::new(seed);
+        self.lent.seed(seed);
     }
 
     /// A call whose answer this implementation knows: `answer` does it to its own copy of the buffers. An accepted one
@@ -55,15 +46,15 @@ impl Judge {
         answer: impl FnOnce(&mut Lent) -> u32,
     ) -> Agreed<u32> {
         self.lend(operation, state, room);
-        let expected = answer(&mut self.expected.lent());
+        let expected = answer(&mut self.lent.expected.lent());
         let number = self.proved(operation);
         if number == OK {
-            self.expected.take_fields(free, &self.given);
+            self.lent.expected.take_fields(free, &self.lent.given);
         }
-        if number != expected || self.expected != self.given {
+        if number != expected || !self.lent.same() {
             return self.differ(operation, state, room, &expected.to_string(), number);
         }
-        state.copy_from_slice(self.given.state());
+        state.copy_from_slice(self.lent.given.state());
         Ok(number)
     }
 
@@ -76,10 +67,9 @@ impl Judge {
             return self.differ(operation, state, room, &expected, number);
         }
         if number == OK && self.may_leave(state) {
-            self.expected.take_fields(&Field::ALL, &self.given);
-            self.expected.take_sent(&self.given);
+            self.lent.take();
         }
-        if self.expected != self.given {
+        if !self.lent.same() {
             return self.differ(operation, state, room, "any", number);
         }
         Ok(number)
@@ -108,25 +98,23 @@ impl Judge {
         if self.show {
             println!("{}", show(operation));
         }
-        let random = &mut self.random;
-        self.stock.fill(&mut self.given, state, room, random);
-        self.expected.copy(&self.given);
+        self.lent.lend(state, room);
     }
 
     fn proved(&mut self, operation: &Operation) -> u32 {
-        let number = proved::call(operation, &mut self.given.lent());
+        let number = proved::call(operation, &mut self.lent.given.lent());
         self.tallies.called(operation, number);
         if number == OK {
-            self.tallies.told(self.given.told());
+            self.tallies.told(self.lent.given.numbers());
         }
         number
     }
 
     /// A valid state of the same station, which sends what the server's checks let pass.
     fn may_leave(&self, before: &[u8]) -> bool {
-        let after = self.given.state();
+        let after = self.lent.given.state();
         let stays = |field: Field| field.byte(after) == field.byte(before);
-        let sent = self.given.sent();
+        let sent = self.lent.given.sent();
         state::valid(after)
             && [Field::Station, Field::Kind].into_iter().all(stays)
             && sent.is_some_and(|(messages, commit)| {
@@ -149,10 +137,12 @@ impl Judge {
             "call: {}\nlent: {room:?}\nsecond: number {expected}\nproved: number {number}\n",
             show(operation)
         );
-        for line in self.expected.differences(&self.given) {
-            text += &format!("{line}\n");
-        }
-        text += &format!("state before ({}):\n{}", sort(state), show_state(state));
+        text += &self.lent.differences();
+        text += &format!(
+            "state before ({}):\n{}",
+            sort(state),
+            show_state::<Field>(state)
+        );
         Err(Difference(text))
     }
 }

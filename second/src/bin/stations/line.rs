@@ -1,13 +1,14 @@
 //! A whole line beside eight compiled stations: each call at a station is made at both.
 
-use crate::buffers::Room;
-use crate::judge::{Agreed, Difference, Judge};
+use crate::judge::Judge;
+use second::buffers::{Agreed, Difference, Room};
 use second::ffi::stations as proved;
 use second::line::call::Call;
 use second::line::lent::{Lent, Operation};
 use second::line::message::{Down, Up};
+use second::line::served::kinds_of;
 use second::line::sets::STATIONS;
-use second::line::station::state::{self, LENGTH};
+use second::line::station::state::{self, Field, LENGTH};
 use second::line::station::Station;
 use second::line::world::{Reply, World};
 use second::line::Kind;
@@ -63,7 +64,7 @@ impl Line {
     ) -> Agreed<()> {
         let after = &self.world.stations[number as usize];
         let state = &mut self.states[number as usize];
-        let room = Room::enough(&mut self.random);
+        let room = Room::enough::<Field>(&mut self.random);
         judge.call(operation, state, room, &[], |lent| {
             answer(lent, reply, after)
         })?;
@@ -123,10 +124,4 @@ pub fn up_check(kinds: &[u8], message: &[u8], judge: &mut Judge) -> Agreed<()> {
     judge.check("up check", expected, given, || {
         format!("kinds {kinds:?}, {message:02x?}")
     })
-}
-
-/// "8 bytes of 0 or 1"
-fn kinds_of(bytes: &[u8]) -> Option<[Kind; STATIONS]> {
-    let kinds: Option<Vec<Kind>> = bytes.iter().map(|kind| Kind::of((*kind).into())).collect();
-    kinds?.try_into().ok()
 }

@@ -1,7 +1,6 @@
 //! Drives the compiled stations through the C interface, call by call, in whole random lines, beside this implementation's
 //! own stations and with its server; the first difference ends it.
 
-mod buffers;
 mod cases;
 mod judge;
 mod line;

@@ -1,8 +1,9 @@
 //! Runs: a random line with damaged cases in between, lines at their limits, and a failing run made short.
 
 use crate::cases::Cases;
-use crate::judge::{Difference, Judge};
+use crate::judge::Judge;
 use crate::line::Line;
+use second::buffers::Difference;
 use second::line::call::{kinds, script, Call};
 use second::line::crossing::Crossing;
 use second::line::scripts;

@@ -1,7 +1,9 @@
-//! States for damaged cases: real ones changed, random ones, and some of a wrong length.
+//! States for damaged cases: real ones changed, and random ones.
 
+use second::line::places::Place;
 use second::line::sets::{object_bit, page_bit, page_of, rising, Addresses};
 use second::line::sets::{OBJECTS, PAGES, STATIONS};
+use second::line::spoil;
 use second::line::station::state::{Field, LENGTH};
 use second::random::Random;
 use std::array;
@@ -10,41 +12,16 @@ use std::array;
 pub fn damaged(random: &mut Random, real: &[u8]) -> (&'static str, Vec<u8>) {
     match random.below(16) {
         0..=4 => ("as it is", real.to_vec()),
-        5..=8 => ("a byte changed", byte_changed(random, real)),
-        9 | 10 => ("a field changed", field_changed(random, real)),
+        5..=8 => ("a byte changed", spoil::byte_changed::<Field>(random, real)),
+        9 | 10 => (
+            "a field changed",
+            spoil::field_changed::<Field>(random, real),
+        ),
         11 | 12 => ("random by the rules", by_the_rules(random)),
         13 => ("random that decodes", decoded(random)),
         14 => ("random in range", in_range(random)),
         _ => ("random", random.bytes(LENGTH)),
     }
-}
-
-fn byte_changed(random: &mut Random, real: &[u8]) -> Vec<u8> {
-    let mut state = real.to_vec();
-    let range = random.pick(&Field::ALL).range();
-    let at = range.start + random.below(range.len());
-    state[at] = match random.below(4) {
-        0 => random.byte(),
-        1 => state[at] ^ (1 << random.below(8)),
-        2 => state[at].wrapping_add(random.pick(&[1, 255])),
-        _ => random.pick(&[0, 1, 2, 3, 4, 7, 8, 255]),
-    };
-    state
-}
-
-fn field_changed(random: &mut Random, real: &[u8]) -> Vec<u8> {
-    let mut state = real.to_vec();
-    let range = random.pick(&Field::ALL).range();
-    match random.below(3) {
-        0 => state[range].fill(random.pick(&[0, 1, 255])),
-        1 => state[range.clone()].copy_from_slice(&random.bytes(range.len())),
-        _ => {
-            for byte in &mut state[range] {
-                *byte &= random.byte();
-            }
-        }
-    }
-    state
 }
 
 /// Every field at random within its range, now and then beside it.
@@ -193,12 +170,6 @@ fn cache_held(state: &mut [u8]) {
     let used = used.map(|field| field.sets(state, 0).pages());
     let cached = Field::Cached.word(state, 0) | locked(state);
     cache_only(used[0] | used[1] | cached, state);
-}
-
-/// Cut, doubled, or longer by some.
-pub fn of_a_wrong_length(random: &mut Random, state: &mut Vec<u8>) {
-    let length = random.pick(&[0, 1, LENGTH - 1, LENGTH + 1, LENGTH + 7, 2 * LENGTH, 4_864]);
-    state.resize(length, 0);
 }
 
 #[cfg(test)]

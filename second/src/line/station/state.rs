@@ -1,21 +1,18 @@
 //! A station's state as bytes, from docs/STATE.md: its table of fields, number 1, and what it calls leftovers.
 
 use super::{Callback, Out, Page, Station, Transaction};
-use crate::line::little::{long, put_long, put_word, word};
-use crate::line::sets::{address, object_of, page_of, rising, Addresses};
+use crate::line::places::{fields, Place};
+use crate::line::sets::{address, object_of, page_of, rising};
 use crate::line::sets::{OBJECTS, PAGES, STATIONS};
 use crate::line::Kind;
 use std::array;
 use std::collections::BTreeMap;
-use std::ops::Range;
 
 /// "A station's state, 6,713 bytes"
 pub const LENGTH: usize = 6_713;
 
-/// The fields, each by its first byte.
-#[derive(Clone, Copy, Debug, PartialEq, Eq)]
-#[repr(usize)]
-pub enum Field {
+fields! {
+    LENGTH:
     Copy = 0,
     ReadValue = 2048,
     WrittenValue = 4096,
@@ -38,29 +35,6 @@ pub enum Field {
 }
 
 impl Field {
-    /// "nothing lies between the fields"
-    pub const ALL: [Field; 19] = [
-        Field::Copy,
-        Field::ReadValue,
-        Field::WrittenValue,
-        Field::WaitingValue,
-        Field::Kept,
-        Field::Version,
-        Field::Number,
-        Field::Cached,
-        Field::Whole,
-        Field::Unavailable,
-        Field::ReadSet,
-        Field::WrittenSet,
-        Field::Locks,
-        Field::Named,
-        Field::Station,
-        Field::Kind,
-        Field::Open,
-        Field::Wait,
-        Field::Address,
-    ];
-
     /// 0 throughout while no transaction is open.
     pub const OF_TRANSACTION: [Field; 5] = [
         Field::Whole,
@@ -72,58 +46,6 @@ impl Field {
 
     /// What is known of a page beside that it is cached.
     pub const OF_COPIES: [Field; 3] = [Field::Copy, Field::Version, Field::Unavailable];
-
-    pub fn start(self) -> usize {
-        self as usize
-    }
-
-    /// All its bytes.
-    pub fn range(self) -> Range<usize> {
-        let mut starts = Field::ALL.into_iter().map(Field::start);
-        let end = starts.find(|start| *start > self.start());
-        self.start()..end.unwrap_or(LENGTH)
-    }
-
-    /// The field of this byte.
-    pub fn of(place: usize) -> Option<Field> {
-        let holds = |field: &Field| field.range().contains(&place);
-        Field::ALL.into_iter().find(holds)
-    }
-
-    pub fn byte(self, bytes: &[u8]) -> u8 {
-        bytes[self.start()]
-    }
-
-    pub fn word(self, bytes: &[u8], i: usize) -> u32 {
-        word(bytes, self.start() + 4 * i)
-    }
-
-    fn long(self, bytes: &[u8], i: usize) -> u64 {
-        long(bytes, self.start() + 8 * i)
-    }
-
-    /// Object sets by page; of `Named` those of requester `i`.
-    pub fn sets(self, bytes: &[u8], i: usize) -> Addresses {
-        let start = self.start() + PAGES * i;
-        Addresses(array::from_fn(|page| bytes[start + page]))
-    }
-
-    pub fn put_byte(self, bytes: &mut [u8], byte: u8) {
-        bytes[self.start()] = byte;
-    }
-
-    pub fn put_word(self, bytes: &mut [u8], i: usize, word: u32) {
-        put_word(bytes, self.start() + 4 * i, word);
-    }
-
-    fn put_long(self, bytes: &mut [u8], i: usize, long: u64) {
-        put_long(bytes, self.start() + 8 * i, long);
-    }
-
-    pub fn put_sets(self, bytes: &mut [u8], i: usize, sets: &Addresses) {
-        let start = self.start() + PAGES * i;
-        bytes[start..start + PAGES].copy_from_slice(&sets.0);
-    }
 }
 
 /// Not number 1: "the length is not 6,713, a field is out of the range above ..., or a callback from the station itself

@@ -1,36 +1,11 @@
-//! The stations' calls that are timed, each behind a script that leads to it.
+//! Of a station.
 
+use super::{work, Work};
+use super::{
+    ANSWERED, BEGUN, COMMIT_SENT, CYCLE, FRESH, OTHER_READ_8, OTHER_READ_9, READ_8, SMALL,
+    VALIDATING_READ_8, WHOLE, WRITE_SENT,
+};
 use second::line::scripts::{largest_transaction, seven_kept};
-
-/// A call at a station.
-pub struct Work {
-    pub name: &'static str,
-    /// The kind of the message that it takes.
-    pub takes: Option<u8>,
-    pub script: String,
-    /// In the script's language.
-    pub call: &'static str,
-}
-
-/// Locking 0 and 2, validating 1.
-const FRESH: &str = "fresh 01000000; ";
-const BEGUN: &str = "begin 0; ";
-/// 8 is read, so page 1 cached, by 0, by 1, by 2.
-const READ_8: &str = "begin 0; read 0 8; server 0; station 0; ";
-const VALIDATING_READ_8: &str = "begin 1; read 1 8; server 1; station 1; ";
-const OTHER_READ_8: &str = "begin 2; read 2 8; server 2; station 2; ";
-const OTHER_READ_9: &str = "begin 2; read 2 9; server 2; station 2; ";
-/// 0 asks to write 8; with the answer it has page 1 whole.
-const WRITE_SENT: &str = "begin 0; write 0 8 5; server 0; ";
-const WHOLE: &str = "begin 0; write 0 8 5; server 0; station 0; ";
-/// Two reads and a write.
-const SMALL: &str =
-    "begin 0; read 0 8; server 0; station 0; read 0 9; write 0 8 5; server 0; station 0; ";
-const COMMIT_SENT: &str = "commit 0; server 0; ";
-/// 2 answers a 20.
-const ANSWERED: &str = "station 2; server 2; ";
-/// 0 and 2 want to write what both have read: 2 is the younger, and keeps 0's callback.
-const CYCLE: &str = "write 0 8 5; server 0; station 2; server 2; write 2 8 6; server 2; ";
 
 pub fn works() -> Vec<Work> {
     owners().into_iter().chain(steps()).collect()
@@ -133,13 +108,4 @@ fn steps() -> Vec<Work> {
         ),
         work("23 with an end", 23, "station 1", &stale),
     ]
-}
-
-fn work(name: &'static str, takes: Option<u8>, call: &'static str, scripts: &[&str]) -> Work {
-    Work {
-        name,
-        takes,
-        script: scripts.concat(),
-        call,
-    }
 }

@@ -1,0 +1,303 @@
+//! The server's states for damaged cases: real ones changed, random ones, and those that make a step do the most.
+
+use crate::judge::Judge;
+use second::buffers::{Agreed, Room};
+use second::line::message::Up;
+use second::line::places::Place;
+use second::line::server::state::{Field, COUNTERS_END, LENGTH};
+use second::line::sets::{page_bit, Addresses};
+use second::line::sets::{OBJECTS, PAGES, STATIONS};
+use second::line::spoil;
+use second::random::Random;
+use std::array;
+
+/// A state like this real one, or not, and of what sort; its length is right.
+pub fn damaged(random: &mut Random, real: &[u8]) -> (&'static str, Vec<u8>) {
+    match random.below(16) {
+        0..=3 => ("as it is", real.to_vec()),
+        4..=6 => ("a byte changed", spoil::byte_changed::<Field>(random, real)),
+        7 => (
+            "a field changed",
+            spoil::field_changed::<Field>(random, real),
+        ),
+        8 => ("at its limits", at_limits(random, real)),
+        9..=12 => ("random that decodes", decoded(random)),
+        13 | 14 => ("random in range", in_range(random)),
+        _ => ("random", random.bytes(LENGTH)),
+    }
+}
+
+/// Counters and the last commit number near their ends.
+fn at_limits(random: &mut Random, real: &[u8]) -> Vec<u8> {
+    let mut state = real.to_vec();
+    for counter in [Field::NextAge, Field::NextArrival] {
+        let near = random.pick(&[2, 1, 0]);
+        if random.one_in(2) {
+            counter.put_long(&mut state, 0, COUNTERS_END - near);
+        }
+    }
+    let last = u32::MAX - random.below(3) as u32;
+    Field::Last.put_word(&mut state, 0, last);
+    state
+}
+
+/// How much of a set there is.
+#[derive(Clone, Copy)]
+enum Density {
+    Nothing,
+    Some,
+    Half,
+}
+
+impl Density {
+    fn any(random: &mut Random) -> Density {
+        random.pick(&[
+            Density::Nothing,
+            Density::Some,
+            Density::Some,
+            Density::Half,
+        ])
+    }
+
+    fn here(self, random: &mut Random) -> bool {
+        match self {
+            Density::Nothing => false,
+            Density::Some => random.one_in(12),
+            Density::Half => random.one_in(2),
+        }
+    }
+}
+
+/// Nothing that this implementation cannot hold, and little that a run could not reach.
+fn decoded(random: &mut Random) -> Vec<u8> {
+    let mut state = random.bytes(LENGTH);
+    for field in [Field::Kind, Field::Unfinished] {
+        for byte in &mut state[field.range()] {
+            *byte &= 1;
+        }
+    }
+    for station in 0..STATIONS {
+        let latest = random.pick(&[1, 2, 3, u32::MAX - 1, u32::MAX]);
+        Field::Latest.put_word(&mut state, station, latest);
+    }
+    let last = match random.below(8) {
+        0 => u32::MAX - random.below(3) as u32,
+        _ => random.below(1_000) as u32,
+    };
+    Field::Last.put_word(&mut state, 0, last);
+    for page in 0..PAGES {
+        let version = random.below(last as usize + 1) as u32;
+        Field::Version.put_word(&mut state, page, version);
+    }
+    number(random, Field::Age, Field::NextAge, &mut state);
+    number(random, Field::Arrival, Field::NextArrival, &mut state);
+    lock(random, &mut state);
+    list(random, &mut state);
+    for station in 0..STATIONS {
+        enter(random, station, &mut state);
+    }
+    state
+}
+
+/// Different ages or arrivals below the next one.
+fn number(random: &mut Random, field: Field, next: Field, state: &mut [u8]) {
+    let first = match random.below(12) {
+        0 => COUNTERS_END - 1 - STATIONS as u64,
+        _ => random.below(1_000) as u64,
+    };
+    let turn = random.below(STATIONS);
+    for station in 0..STATIONS {
+        let place = (3 * station + turn) % STATIONS;
+        field.put_long(state, station, first + place as u64);
+    }
+    next.put_long(state, 0, first + STATIONS as u64);
+}
+
+fn lock(random: &mut Random, state: &mut [u8]) {
+    let (objects, pages) = (Density::any(random), Density::any(random));
+    let holders = 1 + random.below(STATIONS);
+    let mut asked = 0;
+    for page in 0..PAGES {
+        let mut holder = |density: Density| match density.here(random) {
+            true => 1 + random.below(holders) as u8,
+            false => 0,
+        };
+        let whole = holder(pages);
+        Field::Whole.put_byte_of(state, page, whole);
+        for object in 0..OBJECTS {
+            let lock = holder(objects);
+            // beside a whole lock only its holder's
+            let lock = if whole != 0 && lock != 0 { whole } else { lock };
+            Field::Lock.put_byte_of(state, page * OBJECTS + object, lock);
+        }
+        if whole != 0 && random.one_in(2) {
+            asked |= page_bit(page as u8);
+        }
+    }
+    Field::Asked.put_word(state, 0, asked);
+}
+
+fn list(random: &mut Random, state: &mut [u8]) {
+    for station in 0..STATIONS {
+        let [any, other] = [random.number(), random.number()].map(|number| number as u32);
+        let listed = random.pick(&[0, any, any & other]);
+        Field::Listed.put_word(state, station, listed);
+    }
+}
+
+/// A station's entry in the waiting list, or that it has none.
+fn enter(random: &mut Random, station: usize, state: &mut [u8]) {
+    let unfinished = Field::Unfinished.byte_of(state, station) != 0;
+    let want = if unfinished { random.below(4) as u8 } else { 0 };
+    Field::Want.put_byte_of(state, station, want);
+    let few = Addresses(array::from_fn(|_| {
+        random.byte() & random.byte() & random.byte()
+    }));
+    let any = random.byte();
+    let address = random.pick(&[8, 9, 10, 16, any]);
+    let one = Addresses::one(address);
+    let nothing = Addresses::default();
+    let [reads, writes] = match want {
+        0 => [nothing, nothing],
+        1 => [one, nothing],
+        2 => [nothing, one],
+        _ => random.pick(&[[one, one], [few, nothing], [few, few], [nothing, one]]),
+    };
+    Field::ReadSet.put_sets(state, station, &reads);
+    Field::WrittenSet.put_sets(state, station, &writes);
+    let requested = if want == 1 || want == 2 { address } else { 0 };
+    Field::Request.put_byte_of(state, station, requested);
+    if want == 0 {
+        Field::Arrival.put_long(state, station, 0);
+    }
+    call_back(random, station, want, state);
+    let transaction = Field::Latest.word(state, station);
+    Field::Work.put_word(state, station, transaction);
+    for page in 0..PAGES {
+        let changed = random.one_in(200);
+        let version = Field::Version
+            .word(state, page)
+            .wrapping_add(changed.into());
+        Field::SentVersion.put_word(state, PAGES * station + page, version);
+    }
+}
+
+/// What is owed to a waiter.
+fn call_back(random: &mut Random, station: usize, want: u8, state: &mut [u8]) {
+    let called = want > 1 && random.one_in(2);
+    let [any, other] = [random.byte(), random.byte()];
+    let owed = random.pick(&[0, any, any & other]);
+    let owed = if called { owed } else { 0 };
+    Field::Called.put_byte_of(state, station, called.into());
+    Field::Pend.put_byte_of(state, station, owed);
+    Field::Busy.put_byte_of(state, station, owed & random.byte());
+}
+
+/// In range, and often with what this implementation cannot hold.
+fn in_range(random: &mut Random) -> Vec<u8> {
+    let mut state = decoded(random);
+    for _ in 0..1 + random.below(4) {
+        let station = random.below(STATIONS);
+        let byte = random.byte();
+        match random.below(8) {
+            0 => Field::Called.put_byte_of(&mut state, station, byte & 1),
+            1 => Field::Unfinished.put_byte_of(&mut state, station, byte & 1),
+            2 => Field::Request.put_byte_of(&mut state, station, byte),
+            3 => Field::Pend.put_byte_of(&mut state, station, byte),
+            4 => Field::Busy.put_byte_of(&mut state, station, byte),
+            5 => Field::Asked.put_word(&mut state, 0, random.number() as u32),
+            more => {
+                let field = [Field::ReadSet, Field::WrittenSet][more - 6];
+                let sets = Addresses(array::from_fn(|_| random.byte() & random.byte()));
+                field.put_sets(&mut state, station, &sets);
+            }
+        }
+    }
+    state
+}
+
+/// Steps that do the most: eight installs of 256 reads and writes, and 74 messages.
+pub fn limits(judge: &mut Judge) -> Agreed<()> {
+    let mut random = Random::new(1);
+    let purge = Up::Purge { page: 0 }.encode(0);
+    for state in [eight_installs(&mut random), many_messages(&mut random)] {
+        let room = Room::enough::<Field>(&mut random);
+        judge.step(&purge, &state, room)?;
+    }
+    Ok(())
+}
+
+/// Stations in their first transaction, of which those of a set wait with a commit.
+fn committing(random: &mut Random, waiting: impl Fn(usize) -> bool) -> Vec<u8> {
+    let mut state = vec![0; LENGTH];
+    for counter in [Field::NextAge, Field::NextArrival] {
+        counter.put_long(&mut state, 0, STATIONS as u64);
+    }
+    for station in 0..STATIONS {
+        Field::Latest.put_word(&mut state, station, 1);
+        Field::Unfinished.put_byte_of(&mut state, station, 1);
+        Field::Age.put_long(&mut state, station, station as u64);
+        if waiting(station) {
+            Field::Want.put_byte_of(&mut state, station, 3);
+            Field::Kind.put_byte_of(&mut state, station, 1);
+            Field::Work.put_word(&mut state, station, 1);
+            Field::Arrival.put_long(&mut state, station, station as u64);
+            Field::ReadSet.put_sets(&mut state, station, &Addresses([255; PAGES]));
+        }
+    }
+    for field in [Field::ReadValue, Field::WrittenValue] {
+        let range = field.range();
+        state[range.clone()].copy_from_slice(&random.bytes(range.len()));
+    }
+    state
+}
+
+/// Each has the versions that the one before it leaves: 36,992 bytes of records.
+fn eight_installs(random: &mut Random) -> Vec<u8> {
+    let mut state = committing(random, |_| true);
+    for station in 0..STATIONS {
+        Field::WrittenSet.put_sets(&mut state, station, &Addresses([255; PAGES]));
+        Field::Listed.put_word(&mut state, station, u32::MAX);
+        for page in 0..PAGES {
+            Field::SentVersion.put_word(&mut state, PAGES * station + page, station as u32);
+        }
+    }
+    state
+}
+
+/// Station 0 has read on every page, and each is locked whole by one of the others: 32 of kind 19. Each of those wants to
+/// write on a page of its own, which all have: six of kind 20 for each.
+fn many_messages(random: &mut Random) -> Vec<u8> {
+    let mut state = committing(random, |station| station == 0);
+    Field::ReadSet.put_sets(&mut state, 0, &Addresses([0x80; PAGES]));
+    for page in 0..PAGES {
+        let holder = if page < STATIONS { page } else { 1 + page % 7 };
+        Field::Whole.put_byte_of(&mut state, page, holder.max(1) as u8 + 1);
+    }
+    for station in 1..STATIONS {
+        let address = (OBJECTS * station) as u8;
+        Field::Want.put_byte_of(&mut state, station, 2);
+        Field::Arrival.put_long(&mut state, station, station as u64);
+        Field::Request.put_byte_of(&mut state, station, address);
+        Field::WrittenSet.put_sets(&mut state, station, &Addresses::one(address));
+        Field::Listed.put_word(&mut state, station, u32::MAX);
+    }
+    state
+}
+
+#[cfg(test)]
+mod tests {
+    use super::*;
+    use second::line::server::state::{decode, valid};
+
+    #[test]
+    fn random_states_decode() {
+        let mut random = Random::new(1);
+        for _ in 0..1_000 {
+            assert!(decode(&decoded(&mut random)).is_some());
+        }
+        let states: Vec<Vec<u8>> = (0..1_000).map(|_| in_range(&mut random)).collect();
+        assert!(states.iter().all(|state| valid(state)));
+        assert!(states.iter().any(|state| decode(state).is_none()));
+    }
+}

@@ -1,0 +1,387 @@
+//! The server's state as bytes, from docs/STATE.md: its table of fields, number 1, and what it calls leftovers.
+
+use super::{Callbacks, Request, Seen, Server, Waiter, WholeLock};
+use crate::line::message::{pages_of, Commit, Up};
+use crate::line::places::{fields, Place};
+use crate::line::sets::{address, object_bit, page_bit, rising, Addresses, ADDRESSES};
+use crate::line::sets::{OBJECTS, PAGES, STATIONS};
+use crate::line::Kind;
+use crate::record::Record;
+use std::array;
+
+/// "The server's state, 37,072 bytes"
+pub const LENGTH: usize = 37_072;
+
+fields! {
+    LENGTH:
+    Value = 0,
+    ReadValue = 2048,
+    WrittenValue = 18432,
+    Age = 34816,
+    Arrival = 34880,
+    NextAge = 34944,
+    NextArrival = 34952,
+    Version = 34960,
+    SentVersion = 35088,
+    Work = 36112,
+    Latest = 36144,
+    Listed = 36176,
+    Last = 36208,
+    Asked = 36212,
+    Lock = 36216,
+    Whole = 36472,
+    ReadSet = 36504,
+    WrittenSet = 36760,
+    Kind = 37016,
+    Want = 37024,
+    Request = 37032,
+    Called = 37040,
+    Pend = 37048,
+    Busy = 37056,
+    Unfinished = 37064,
+}
+
+impl Field {
+    /// Bytes that have a range of their own: how many, and the highest that is in it.
+    pub const RANGES: [(Field, usize, u8); 6] = [
+        (Field::Lock, ADDRESSES, STATIONS as u8),
+        (Field::Whole, PAGES, STATIONS as u8),
+        (Field::Kind, STATIONS, 1),
+        (Field::Want, STATIONS, 3),
+        (Field::Called, STATIONS, 1),
+        (Field::Unfinished, STATIONS, 1),
+    ];
+}
+
+/// "below 2^63"
+pub const COUNTERS_END: u64 = 1 << 63;
+
+/// Not number 1: "the length is not 37,072; a field is out of the range above; beside a whole lock an object of the page
+/// is locked by another; two stations' unfinished transactions have one age; or two waiting stations have one arrival".
+#[inline]
+pub fn valid(bytes: &[u8]) -> bool {
+    bytes.len() == LENGTH
+        && in_range(bytes)
+        && (0..STATIONS).all(|station| station_fits(bytes, station))
+        && (0..PAGES).all(|page| whole_lock_fits(bytes, page))
+        && apart(bytes, Field::Unfinished, Field::Age)
+        && apart(bytes, Field::Want, Field::Arrival)
+}
+
+fn in_range(bytes: &[u8]) -> bool {
+    // one test behind the loop is faster than one in it
+    let highest = |field: Field, entries: usize| {
+        let bytes = &bytes[field.start()..][..entries];
+        bytes.iter().fold(0, |a, b| a.max(*b))
+    };
+    Field::RANGES
+        .into_iter()
+        .all(|(field, entries, most)| highest(field, entries) <= most)
+        && Field::NextAge.long(bytes, 0) < COUNTERS_END
+        && Field::NextArrival.long(bytes, 0) < COUNTERS_END
+}
+
+fn waits(bytes: &[u8], station: usize) -> bool {
+    Field::Want.byte_of(bytes, station) != 0
+}
+
+fn station_fits(bytes: &[u8], station: usize) -> bool {
+    let unfinished = Field::Unfinished.byte_of(bytes, station) != 0;
+    let waits = waits(bytes, station);
+    let commits = Field::Want.byte_of(bytes, station) == 3;
+    // "below the next age while that is unfinished", "below the next arrival while it waits"
+    (!unfinished || Field::Age.long(bytes, station) < Field::NextAge.long(bytes, 0))
+        && (!waits || Field::Arrival.long(bytes, station) < Field::NextArrival.long(bytes, 0))
+        // "A transaction number of 0 is out of range where a transaction must be"
+        && (!waits || Field::Latest.word(bytes, station) != 0)
+        && (!commits || Field::Work.word(bytes, station) != 0)
+}
+
+/// Its objects are "0 or the page's holder", who has a transaction.
+fn whole_lock_fits(bytes: &[u8], page: usize) -> bool {
+    let Some(holder) = station_of(Field::Whole.byte_of(bytes, page)) else {
+        return true;
+    };
+    let first = Field::Lock.start() + OBJECTS * page;
+    let locks = &bytes[first..first + OBJECTS];
+    let own = |lock: &u8| station_of(*lock).is_none_or(|other| other == holder);
+    locks.iter().all(own) && Field::Latest.word(bytes, holder.into()) != 0
+}
+
+/// "0 for none, i + 1 for station i"
+fn station_of(holder: u8) -> Option<u8> {
+    holder.checked_sub(1)
+}
+
+/// No two stations that count have one number.
+fn apart(bytes: &[u8], counts: Field, number: Field) -> bool {
+    let counted = |station: &usize| counts.byte_of(bytes, *station) != 0;
+    let equal = |a: usize, b: usize| number.long(bytes, a) == number.long(bytes, b);
+    (0..STATIONS)
+        .filter(counted)
+        .all(|a| !(0..a).filter(counted).any(|b| equal(a, b)))
+}
+
+/// What the bytes say; None where they are not valid, or say what a `Server` cannot hold. Leftovers are not looked at.
+pub fn decode(bytes: &[u8]) -> Option<Server> {
+    let server = near(bytes)?;
+    let holds = asked_are_held(bytes) && entries_fit(bytes, &server.waiting);
+    holds.then_some(server)
+}
+
+/// What valid bytes say beside entries of the waiting list that a `Server` cannot hold: it admits the right messages.
+pub fn near(bytes: &[u8]) -> Option<Server> {
+    if !valid(bytes) {
+        return None;
+    }
+    let kinds = array::from_fn(|station| match Field::Kind.byte_of(bytes, station) {
+        0 => Kind::Locking,
+        _ => Kind::Validating,
+    });
+    Some(Server {
+        kinds,
+        last: Field::Last.word(bytes, 0),
+        values: array::from_fn(|address| Field::Value.long(bytes, address)),
+        versions: array::from_fn(|page| Field::Version.word(bytes, page)),
+        seen: array::from_fn(|station| seen(bytes, station)),
+        next_age: Field::NextAge.long(bytes, 0),
+        next_arrival: Field::NextArrival.long(bytes, 0),
+        locks: array::from_fn(|station| locks(bytes, station as u8)),
+        whole: array::from_fn(|page| whole(bytes, page)),
+        listed: array::from_fn(|station| Field::Listed.word(bytes, station)),
+        waiting: waiting(bytes, &kinds),
+    })
+}
+
+fn seen(bytes: &[u8], station: usize) -> Seen {
+    Seen {
+        latest: Field::Latest.word(bytes, station),
+        age: Field::Age.long(bytes, station),
+        unfinished: Field::Unfinished.byte_of(bytes, station) != 0,
+    }
+}
+
+fn locks(bytes: &[u8], station: u8) -> Addresses {
+    let own =
+        |address: &u8| station_of(Field::Lock.byte_of(bytes, (*address).into())) == Some(station);
+    (0..=u8::MAX).filter(own).collect()
+}
+
+fn whole(bytes: &[u8], page: usize) -> Option<WholeLock> {
+    let holder = station_of(Field::Whole.byte_of(bytes, page))?;
+    let asked = Field::Asked.word(bytes, 0) & page_bit(page as u8) != 0;
+    Some(WholeLock { holder, asked })
+}
+
+/// A 19 is sent for a whole lock that is there.
+fn asked_are_held(bytes: &[u8]) -> bool {
+    rising(Field::Asked.word(bytes, 0)).all(|page| whole(bytes, page.into()).is_some())
+}
+
+/// The waiting list, by arrival.
+fn waiting(bytes: &[u8], kinds: &[Kind; STATIONS]) -> Vec<Waiter> {
+    let waits = |station: &usize| waits(bytes, *station);
+    let waiter = |station: usize| waiter(bytes, station, kinds[station]);
+    let mut waiting: Vec<Waiter> = (0..STATIONS).filter(waits).map(waiter).collect();
+    waiting.sort_by_key(|waiter| waiter.arrival);
+    waiting
+}
+
+fn waiter(bytes: &[u8], station: usize, kind: Kind) -> Waiter {
+    let number = station as u8;
+    let requested = Field::Request.byte_of(bytes, station);
+    let waiter = match Field::Want.byte_of(bytes, station) {
+        1 => Waiter::read(number, requested),
+        2 => Waiter::write(number, requested),
+        _ => Waiter::commit(number, Box::new(commit(bytes, station, kind))),
+    };
+    let callbacks = Callbacks {
+        owed: Field::Pend.byte_of(bytes, station),
+        busy: Field::Busy.byte_of(bytes, station),
+    };
+    Waiter {
+        arrival: Field::Arrival.long(bytes, station),
+        callbacks: (Field::Called.byte_of(bytes, station) != 0).then_some(callbacks),
+        ..waiter
+    }
+}
+
+/// A `Server` holds what it would write itself: of a station that does not wait nothing, of a waiter what its request
+/// says, in an unfinished transaction.
+fn entries_fit(bytes: &[u8], waiting: &[Waiter]) -> bool {
+    let mut laid = bytes.to_vec();
+    lay_entries(waiting, &mut laid);
+    let unfinished = |waiter: &Waiter| seen(bytes, waiter.station.into()).unfinished;
+    laid == bytes && waiting.iter().all(unfinished)
+}
+
+fn commit(bytes: &[u8], station: usize, kind: Kind) -> Commit {
+    let reads = values(bytes, station, Field::ReadSet, Field::ReadValue);
+    let writes = values(bytes, station, Field::WrittenSet, Field::WrittenValue);
+    Commit {
+        used: pages_of(reads.iter().chain(&writes).map(|(address, _)| *address)),
+        versions: array::from_fn(|page| Field::SentVersion.word(bytes, PAGES * station + page)),
+        record: Record {
+            reads,
+            writes,
+            commit: 0,
+            transaction: Field::Work.word(bytes, station),
+            station: station as u8,
+            kind: kind as u8,
+        },
+    }
+}
+
+/// The values that stand for the members of a station's set.
+fn values(bytes: &[u8], station: usize, set: Field, value: Field) -> Vec<(u8, u64)> {
+    let set = set.sets(bytes, station);
+    let value_of = |address: u8| value.long(bytes, ADDRESSES * station + usize::from(address));
+    (0..=u8::MAX)
+        .filter(|address| set.has(*address))
+        .map(|address| (address, value_of(address)))
+        .collect()
+}
+
+impl Waiter {
+    /// The object sets by page "what its request wants to read": beside those that it writes.
+    fn reads(&self) -> Addresses {
+        match &self.request {
+            Request::Read(address) => Addresses::one(*address),
+            Request::Write(_) => Addresses::default(),
+            Request::Commit(commit) => commit.record.reads.iter().map(|(a, _)| *a).collect(),
+        }
+    }
+
+    /// "address of the waiting read or write"
+    fn requested(&self) -> u8 {
+        match self.request {
+            Request::Read(address) | Request::Write(address) => address,
+            Request::Commit(_) => 0,
+        }
+    }
+
+    /// "0 nothing, 1 a read, 2 a write, 3 a commit"
+    fn want(&self) -> u8 {
+        match self.request {
+            Request::Read(_) => 1,
+            Request::Write(_) => 2,
+            Request::Commit(_) => 3,
+        }
+    }
+}
+
+/// The server's bytes, leftovers 0.
+pub fn encode(server: &Server) -> Vec<u8> {
+    let mut bytes = vec![0; LENGTH];
+    lay(server, &mut bytes);
+    bytes
+}
+
+/// Lays the server's bytes over others of a state: leftovers keep theirs.
+pub fn lay(server: &Server, bytes: &mut [u8]) {
+    Field::Last.put_word(bytes, 0, server.last);
+    Field::NextAge.put_long(bytes, 0, server.next_age);
+    Field::NextArrival.put_long(bytes, 0, server.next_arrival);
+    for (address, value) in server.values.into_iter().enumerate() {
+        Field::Value.put_long(bytes, address, value);
+    }
+    for (page, version) in server.versions.into_iter().enumerate() {
+        Field::Version.put_word(bytes, page, version);
+    }
+    lay_locks(server, bytes);
+    for station in 0..STATIONS {
+        let Seen {
+            latest,
+            age,
+            unfinished,
+        } = server.seen[station];
+        Field::Kind.put_byte_of(bytes, station, server.kinds[station] as u8);
+        Field::Latest.put_word(bytes, station, latest);
+        Field::Age.put_long(bytes, station, age);
+        Field::Unfinished.put_byte_of(bytes, station, unfinished.into());
+        Field::Listed.put_word(bytes, station, server.listed[station]);
+    }
+    lay_entries(&server.waiting, bytes);
+}
+
+fn lay_entries(waiting: &[Waiter], bytes: &mut [u8]) {
+    for station in 0..STATIONS {
+        let waits = |waiter: &&Waiter| usize::from(waiter.station) == station;
+        lay_entry(station, waiting.iter().find(waits), bytes);
+    }
+}
+
+fn lay_locks(server: &Server, bytes: &mut [u8]) {
+    let mut asked = 0;
+    for (page, lock) in (0..PAGES as u8).zip(&server.whole) {
+        let holder = lock.map_or(0, |lock| lock.holder + 1);
+        Field::Whole.put_byte_of(bytes, page.into(), holder);
+        if lock.is_some_and(|lock| lock.asked) {
+            asked |= page_bit(page);
+        }
+    }
+    Field::Asked.put_word(bytes, 0, asked);
+    bytes[Field::Lock.range()].fill(0);
+    for (station, locks) in (1..).zip(&server.locks) {
+        for (page, objects) in (0..).zip(&locks.0) {
+            for object in (0..OBJECTS as u8).filter(|object| objects & object_bit(*object) != 0) {
+                Field::Lock.put_byte_of(bytes, address(page, object).into(), station);
+            }
+        }
+    }
+}
+
+/// A station's entry in the waiting list, or that it has none.
+fn lay_entry(station: usize, waiter: Option<&Waiter>, bytes: &mut [u8]) {
+    let callbacks = waiter.and_then(|waiter| waiter.callbacks);
+    Field::Arrival.put_long(bytes, station, waiter.map_or(0, |waiter| waiter.arrival));
+    for (field, byte) in [
+        (Field::Want, waiter.map_or(0, Waiter::want)),
+        (Field::Request, waiter.map_or(0, Waiter::requested)),
+        (Field::Called, callbacks.is_some().into()),
+        (Field::Pend, callbacks.map_or(0, |callbacks| callbacks.owed)),
+        (Field::Busy, callbacks.map_or(0, |callbacks| callbacks.busy)),
+    ] {
+        field.put_byte_of(bytes, station, byte);
+    }
+    let reads = waiter.map_or_else(Addresses::default, Waiter::reads);
+    let writes = waiter.map_or_else(Addresses::default, |waiter| waiter.writes);
+    Field::ReadSet.put_sets(bytes, station, &reads);
+    Field::WrittenSet.put_sets(bytes, station, &writes);
+    if let Some(Request::Commit(commit)) = waiter.map(|waiter| &waiter.request) {
+        lay_commit(commit, bytes);
+    }
+}
+
+/// A commit's own: "work", "sent versions" and the values. Its sets stand in the entry.
+fn lay_commit(commit: &Commit, bytes: &mut [u8]) {
+    let Record {
+        reads,
+        writes,
+        transaction,
+        station,
+        ..
+    } = &commit.record;
+    let station = usize::from(*station);
+    Field::Work.put_word(bytes, station, *transaction);
+    for (page, version) in commit.versions.into_iter().enumerate() {
+        Field::SentVersion.put_word(bytes, PAGES * station + page, version);
+    }
+    for (entries, field) in [(reads, Field::ReadValue), (writes, Field::WrittenValue)] {
+        for (address, value) in entries {
+            field.put_long(bytes, ADDRESSES * station + usize::from(*address), *value);
+        }
+    }
+}
+
+/// Lays what a step leaves: a commit that it took has stood in its station's entry, though it may have left it since.
+pub fn lay_step(message: &[u8], server: &Server, bytes: &mut [u8]) {
+    if let Ok((from, Up::Commit(commit))) = Up::decode(message, &server.kinds) {
+        // without a number left a locking commit is turned away before
+        let spent = Field::Last.word(bytes, 0) == u32::MAX;
+        if !spent || server.kinds[usize::from(from)] == Kind::Validating {
+            lay_commit(&commit, bytes);
+        }
+    }
+    lay(server, bytes);
+}

@@ -1,0 +1,257 @@
+//! The server's state as bytes: docs/STATE.md's table, number 1, leftovers, and what cannot be held.
+
+mod state_table;
+
+use second::line::call::Call;
+use second::line::crossing::Crossing;
+use second::line::places::Place;
+use second::line::scripts;
+use second::line::server::state::{decode, encode, lay, lay_step, valid, Field, LENGTH};
+use second::line::server::Server;
+use second::line::sets::Addresses;
+use second::line::world::World;
+use second::line::Kind;
+use second::random::Random;
+use state_table::{fields, rows, with};
+
+/// Locking 0 and 2, validating 1.
+fn behind(script: &str) -> World {
+    let mut world = World::fresh([Kind::Locking; 8]);
+    for call in scripts::calls(&format!("fresh 01000000; {script}")) {
+        world.call(&call);
+    }
+    world
+}
+
+/// 0 has page 1 whole and was asked for it; 2 waits for a read of 9, 1's commit of 16 for 3's lock on it, whose holder
+/// and 4 share page 2.
+const BUSY: &str = "begin 0; write 0 8 5; server 0; station 0; \
+    begin 2; read 2 9; server 2; \
+    begin 4; read 4 17; server 4; station 4; \
+    begin 3; write 3 16 7; server 3; station 4; server 4; station 3; \
+    begin 1; read 1 16; server 1; station 1; write 1 24 9; server 1; station 1; commit 1; server 1; ";
+
+fn busy() -> Vec<u8> {
+    encode(&behind(BUSY).server)
+}
+
+#[test]
+fn the_fields_are_the_tables() {
+    assert_eq!(rows("The server's state"), fields::<Field>());
+    assert_eq!(Field::Unfinished.range().end, LENGTH);
+    assert_eq!(Field::of(0), Some(Field::Value));
+    assert_eq!(Field::of(36_215), Some(Field::Asked));
+    assert_eq!(Field::of(LENGTH), None);
+}
+
+/// "is 0 everywhere but in the kinds ..., and in the next age and the next arrival, which are 1"
+#[test]
+fn fresh() {
+    let bytes = encode(&Server::fresh([Kind::Validating; 8], 0, [0; 8]));
+    let others = bytes.iter().enumerate().filter(|(_, byte)| **byte != 0);
+    let others: Vec<(usize, u8)> = others.map(|(at, byte)| (at, *byte)).collect();
+    let kinds = (37_016..37_024).map(|at| (at, 1));
+    let expected: Vec<(usize, u8)> = [(34_944, 1), (34_952, 1)]
+        .into_iter()
+        .chain(kinds)
+        .collect();
+    assert_eq!(others, expected);
+}
+
+#[test]
+fn a_state_place_by_place() {
+    let bytes = busy();
+    // ages by first messages: 0, 2, 4, 3, 1
+    let ages = [0, 1, 2, 3, 4].map(|station| Field::Age.long(&bytes, station));
+    assert_eq!(ages, [1, 5, 2, 4, 3]);
+    assert_eq!(Field::NextAge.long(&bytes, 0), 6);
+    // five requests joined the list, of 0, 2, 4, 3 and 1
+    assert_eq!(Field::Arrival.long(&bytes, 2), 2);
+    assert_eq!(Field::Arrival.long(&bytes, 1), 5);
+    assert_eq!(Field::NextArrival.long(&bytes, 0), 6);
+    assert_eq!(Field::Whole.byte_of(&bytes, 1), 1);
+    assert_eq!(Field::Asked.word(&bytes, 0), 0b10);
+    assert_eq!(Field::Lock.byte_of(&bytes, 16), 4);
+    assert_eq!(Field::Listed.word(&bytes, 0), 0b10);
+    assert_eq!(Field::Listed.word(&bytes, 1), 0b1100);
+    assert_eq!(Field::Want.byte_of(&bytes, 2), 1);
+    assert_eq!(Field::Request.byte_of(&bytes, 2), 9);
+    assert_eq!(Field::ReadSet.sets(&bytes, 2), Addresses::one(9));
+    assert_eq!(Field::Want.byte_of(&bytes, 1), 3);
+    assert_eq!(Field::Work.word(&bytes, 1), 1);
+    assert_eq!(Field::ReadSet.sets(&bytes, 1), Addresses::one(16));
+    assert_eq!(Field::WrittenSet.sets(&bytes, 1), Addresses::one(24));
+    assert_eq!(Field::WrittenValue.long(&bytes, 256 + 24), 9);
+    assert_eq!(bytes[Field::Kind.range()], [0, 1, 0, 0, 0, 0, 0, 0]);
+    assert_eq!(bytes[Field::Unfinished.range()], [1, 1, 1, 1, 1, 0, 0, 0]);
+}
+
+/// A write that waits for a 7, and has a 6.
+#[test]
+fn called_back() {
+    let both = "begin 0; read 0 8; server 0; station 0; begin 2; read 2 8; server 2; station 2; ";
+    let sent = behind(&format!("{both}write 0 8 5; server 0")).server;
+    let bytes = encode(&sent);
+    let entry = |bytes: &[u8]| {
+        [Field::Want, Field::Called, Field::Pend, Field::Busy].map(|field| field.byte(bytes))
+    };
+    assert_eq!(entry(&bytes), [2, 1, 0b100, 0]);
+    let busy = behind(&format!("{both}write 0 8 5; server 0; station 2; server 2")).server;
+    assert_eq!(entry(&encode(&busy)), [2, 1, 0b100, 0b100]);
+}
+
+#[test]
+fn number_1_lengths_and_ranges() {
+    let good = busy();
+    assert!(valid(&good));
+    for length in [0, 1, LENGTH - 1] {
+        assert!(!valid(&good[..length]));
+    }
+    assert!(!valid(&[&good[..], &[0]].concat()));
+    // in a fresh state no field stands beside another
+    let fresh = encode(&Server::fresh([Kind::Locking; 8], 0, [1; 8]));
+    for (field, entries, most) in Field::RANGES {
+        assert_eq!(field.range().len(), entries);
+        let last = field.range().end - 1;
+        for at in [field.start(), last] {
+            for byte in 0..=255 {
+                // a want of 3 needs the transaction of a commit
+                let mut bytes = with(&fresh, at, byte);
+                bytes[Field::Work.range()].fill(1);
+                assert_eq!(valid(&bytes), byte <= most, "{field:?} {byte}");
+            }
+        }
+    }
+    for counter in [Field::NextAge, Field::NextArrival] {
+        let mut bytes = good.clone();
+        counter.put_long(&mut bytes, 0, (1 << 63) - 1);
+        assert!(valid(&bytes));
+        counter.put_long(&mut bytes, 0, 1 << 63);
+        assert!(!valid(&bytes));
+    }
+}
+
+/// "below the next age while that is unfinished", "below the next arrival while it waits", and no two equal.
+#[test]
+fn number_1_ages_and_arrivals() {
+    let good = busy();
+    let put = |field: Field, station: usize, number: u64| {
+        let mut bytes = good.clone();
+        field.put_long(&mut bytes, station, number);
+        valid(&bytes)
+    };
+    assert!(put(Field::Age, 0, 0) && !put(Field::Age, 0, 6) && !put(Field::Age, 0, 2));
+    // 7's transaction is none
+    assert!(put(Field::Age, 7, 6) && put(Field::Age, 7, 2));
+    assert!(put(Field::Arrival, 2, 0) && !put(Field::Arrival, 2, 6));
+    assert!(!put(Field::Arrival, 2, 5) && put(Field::Arrival, 0, 5));
+}
+
+/// "two holders of one lock" cannot be written down; "a whole lock beside another's lock on that page" can.
+#[test]
+fn number_1_locks_and_transactions() {
+    let good = busy();
+    let beside = Field::Lock.start() + 15;
+    assert!(valid(&with(&good, beside, 1)));
+    assert!(!valid(&with(&good, beside, 2)));
+    let word = |field: Field, station: usize| {
+        let mut bytes = good.clone();
+        field.put_word(&mut bytes, station, 0);
+        valid(&bytes)
+    };
+    // 0 holds page 1 whole, 1 and 2 wait, 3 has a lock on an object
+    assert!(!word(Field::Latest, 0) && !word(Field::Latest, 1) && !word(Field::Latest, 2));
+    assert!(word(Field::Latest, 3) && word(Field::Latest, 7));
+    assert!(!word(Field::Work, 1) && word(Field::Work, 2));
+}
+
+/// Valid, and more than a `Server` holds.
+#[test]
+fn not_decoded() {
+    let good = busy();
+    assert!(decode(&good).is_some());
+    let not_held = |bytes: Vec<u8>| valid(&bytes) && decode(&bytes).is_none();
+    // 7 does not wait
+    for (field, width) in [
+        (Field::Arrival, 8),
+        (Field::ReadSet, 32),
+        (Field::WrittenSet, 32),
+        (Field::Request, 1),
+        (Field::Called, 1),
+        (Field::Pend, 1),
+        (Field::Busy, 1),
+    ] {
+        let at = field.start() + 7 * width;
+        assert!(not_held(with(&good, at, 1)), "{field:?}");
+    }
+    // 2 wants to read 9; its 20s are not sent
+    assert!(not_held(with(&good, Field::Request.start() + 2, 10)));
+    assert!(not_held(with(&good, Field::ReadSet.start() + 2 * 32, 1)));
+    assert!(not_held(with(&good, Field::WrittenSet.start() + 2 * 32, 1)));
+    assert!(not_held(with(&good, Field::Pend.start() + 2, 1)));
+    assert!(not_held(with(&good, Field::Unfinished.start() + 2, 0)));
+    // nobody holds page 0 whole
+    assert!(not_held(with(&good, Field::Asked.start(), 0b11)));
+    assert!(decode(&good[1..]).is_none());
+}
+
+/// Each state of many runs comes back from its bytes, whatever the leftovers.
+#[test]
+fn states_of_runs() {
+    let noise = Random::new(3).bytes(LENGTH);
+    let mut seen = 0;
+    for seed in 1..=60 {
+        let mut crossing = Crossing::new(seed, 300);
+        let mut world = World::fresh(crossing.kinds);
+        while let Some(call) = crossing.next(&world) {
+            let reply = world.call(&call);
+            crossing.saw(&call, &reply);
+            if let Call::Server(_) | Call::ServerRaw(_) = call {
+                check(&world.server, &noise, &call);
+                seen += 1;
+            }
+        }
+    }
+    assert!(seen > 4_000, "{seen}");
+}
+
+fn check(server: &Server, noise: &[u8], call: &Call) {
+    let mut bytes = encode(server);
+    assert!(valid(&bytes), "{call}: {server:?}");
+    assert_eq!(decode(&bytes).as_ref(), Some(server), "{call}");
+    bytes.copy_from_slice(noise);
+    lay(server, &mut bytes);
+    assert_eq!(decode(&bytes).as_ref(), Some(server), "{call}");
+}
+
+/// "read and written values, sent versions and work keep their bytes", those of a commit that installs at once too.
+#[test]
+fn leftovers() {
+    let mut world = behind("begin 0; write 0 8 5; server 0; station 0; commit 0");
+    let mut bytes = encode(&world.server);
+    let message = world.first_up(0).expect("a commit is under way").to_vec();
+    world.call(&Call::Server(0));
+    lay_step(&message, &world.server, &mut bytes);
+    assert_eq!(Field::Work.word(&bytes, 0), 1);
+    assert_eq!(Field::WrittenValue.long(&bytes, 8), 5);
+    assert_eq!(Field::Value.long(&bytes, 8), 5);
+    assert_eq!(Field::WrittenSet.sets(&bytes, 0), Addresses::default());
+    assert_eq!(Field::Age.long(&bytes, 0), 1);
+    assert_eq!(decode(&bytes), Some(world.server));
+}
+
+/// "number 4,294,967,295 already used": a locking commit is turned away and leaves nothing behind, a validating one has
+/// joined the list.
+#[test]
+fn leftovers_without_a_number() {
+    for (station, work) in [(0, 0), (1, 1)] {
+        let script =
+            format!("numbers 4294967295 0 0 0 0 0 0 0 0; begin {station}; commit {station}");
+        let mut world = behind(&script);
+        let mut bytes = encode(&world.server);
+        let message = world.first_up(station).expect("a commit").to_vec();
+        world.call(&Call::Server(station));
+        lay_step(&message, &world.server, &mut bytes);
+        assert_eq!(Field::Work.word(&bytes, station.into()), work);
+    }
+}
