@@ -6,6 +6,7 @@ ghost use Rattle.le.specs.Le.{setU64};
 ghost use Rattle.message.specs.Commit.{entriesOf};
 ghost use Rattle.server_state.specs.Layout.{agesOf, arrivalsOf, lastOf};
 ghost use Rattle.server_changes.specs.Changes.{noticeB, freePageB, freePagesTo, freeOneB, freeTo, finishB, leaveB, joinB, joinReadB, joinWriteB, unpackOne, unpackTo, versionsIn, unpackB, joinCommitB, listB, unlistB, markBusyB, answeredB, lockOneB, lockTo, loosenB, askedB, calledB, lockPageB, lockObjectB, versionOneB, versionsTo, valueOneB, valuesTo, writeB};
+ghost use Rattle.server_changes.specs.Frees.{freeFrom};
 use server_state::Ages;
 
 // The byte that names station i as a lock's holder: 0 is for none.
@@ -76,14 +77,29 @@ fn free_one(s: &mut [u8], i: usize, a: usize)
     }
 }
 
+// The locks of i on the objects of page p. A page without locks is passed over.
+fn free_on(s: &mut [u8], i: usize, p: usize)
+    requires { ⌜ (length (now s) ≡ 37072) × (i < 8) × (p < 32) ⌝ }
+    ensures { λ _. ⌜ now (s .exit) ≡ freeFrom i (now (s .entry)) (p * 8) 8 ⌝ }
+{
+    if le::get_u64(s, 36216 + p * 8) == 0 {
+        return;
+    }
+    let mut o = 0;
+    while o < 8 {
+        free_one(s, i, p * 8 + o);
+        o += 1;
+    }
+}
+
 fn free(s: &mut [u8], i: usize)
     requires { ⌜ (length (now s) ≡ 37072) × (i < 8) ⌝ }
     ensures { λ _. ⌜ now (s .exit) ≡ freeTo i (now (s .entry)) 256 ⌝ }
 {
-    let mut a = 0;
-    while a < 256 {
-        free_one(s, i, a);
-        a += 1;
+    let mut p = 0;
+    while p < 32 {
+        free_on(s, i, p);
+        p += 1;
     }
 }
 

@@ -1,6 +1,6 @@
 -- What number 1 tells of a state that passes.
 use Prim.Native.Nat.{ℕ, _+_, _*_, _≤_, _<_}
-use mathlib.Core.Path.{_≡_}
+use mathlib.Core.Path.{_≡_, refl, sym}
 use mathlib.Core.List.{List}
 use mathlib.Core.Logic.{_≢_}
 use mathlib.Core.Bool.{Bool, true, false, not, _&&_, _||_}
@@ -8,7 +8,7 @@ use lib.ListN.{length, getD}
 use lib.Dec.{eqb, ltb, leb}
 use native.Mathlib.Omega.{arith}
 use borrow.Author.Tests.{eqb-true, eqb-false, ltb-true, leb-true, not-true, eq-eqb, ne-eqb}
-use Rattle.lists.specs.Tests.{allTo, allTo-at, and-l, and-r}
+use Rattle.lists.specs.Tests.{allTo, allTo-at, allTo-of, and-l, and-r}
 use Rattle.server_state.specs.Layout.{serverLength, ageOf, arrivalOf, agesOf, arrivalsOf, workNumber, latestOf, lockOf, wholeOf, kindOf, wantOf, calledOf, unfinishedOf}
 use Rattle.server_state.specs.Valid.{mostAt, most, rangesOk, countersOk, stationOk, besideAt, namesOk, pageOk, apartAt, apartOk, valid, kindsOk}
 
@@ -175,3 +175,24 @@ valid-ranged s h =
 pub kinds-length : (kinds : List ℕ) → kindsOk kinds ≡ true → length kinds ≡ 8
 unfolding kindsOk
 kinds-length kinds h = eqb-true (length kinds) 8 (and-l (eqb (length kinds) 8) (most kinds 0 1 8) h)
+
+-- a page that nobody holds whole, a station that neither works nor waits
+
+pub page-free : (s : List ℕ) (p : ℕ) → wholeOf s p ≡ 0 → true ≡ pageOk s p
+unfolding pageOk
+page-free s p e = rw e
+
+pub page-held : (s : List ℕ) (p : ℕ) → wholeOf s p ≢ 0 → pageOk s p ≡ (allTo (besideAt s p) 8 && allTo (namesOk s p) 8)
+unfolding pageOk
+page-held s p n = rw (ne-eqb (wholeOf s p) 0 n)
+
+pub apart-idle : (s : List ℕ) (i : ℕ) → (eqb (unfinishedOf s i) 0 && eqb (wantOf s i) 0) ≡ true → true ≡ apartOk s i
+unfolding apartOk apartAt
+apart-idle s i e =
+    let a = and-l (eqb (unfinishedOf s i) 0) (eqb (wantOf s i) 0) e in
+    let b = and-r (eqb (unfinishedOf s i) 0) (eqb (wantOf s i) 0) e in
+    sym (allTo-of (apartAt s i) 8 (λ j l. rw (a, b) (or-true (eqb i j))))
+  where
+    or-true : (b : Bool) → (b || true) ≡ true
+    or-true true = refl
+    or-true false = refl

@@ -125,7 +125,10 @@ fn page_ok(s: &[u8], p: usize) -> bool
     requires { ⌜ (length (now s) ≡ serverLength) × (p < 32) ⌝ }
     ensures { λ r. ⌜ r ≡ pageOk (now (s .entry)) p ⌝ }
 {
-    (s[36472 + p] == 0) | (besides_ok(s, p) & holders_ok(s, p))
+    if s[36472 + p] == 0 {
+        return true;
+    }
+    besides_ok(s, p) & holders_ok(s, p)
 }
 
 fn pages_ok(s: &[u8]) -> bool
@@ -155,10 +158,14 @@ fn apart_at(s: &[u8], i: usize, j: usize) -> bool
                 | (le::get_u64(s, 34880 + i * 8) != le::get_u64(s, 34880 + j * 8))))
 }
 
+// A station that neither works nor waits is passed over.
 fn apart_ok(s: &[u8], i: usize) -> bool
     requires { ⌜ (length (now s) ≡ serverLength) × (i < 8) ⌝ }
     ensures { λ r. ⌜ r ≡ apartOk (now (s .entry)) i ⌝ }
 {
+    if (s[37064 + i] == 0) & (s[37024 + i] == 0) {
+        return true;
+    }
     let mut ok = true;
     let mut j = 0;
     while j < 8 {
