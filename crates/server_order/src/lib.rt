@@ -78,14 +78,18 @@ fn spread(e: &[u8; 8], r: u8) -> u8
     x
 }
 
-// What at most eight edges reach.
+// What at most eight edges reach: once an edge more reaches no more, none does.
 fn grown(e: &[u8; 8], r: u8) -> u8
     ensures { λ x. ⌜ x ≡ grownTo (now (e .entry)) r 8 ⌝ }
 {
     let mut x = r;
     let mut n: usize = 0;
     while n < 8 {
-        x = spread(e, x);
+        let y = spread(e, x);
+        if y == x {
+            return x;
+        }
+        x = y;
         n += 1;
     }
     x
@@ -95,6 +99,9 @@ fn on_cycle(e: &[u8; 8], i: usize) -> bool
     requires { ⌜ i < 8 ⌝ }
     ensures { λ r. ⌜ r ≡ onCycleB (now (e .entry)) i ⌝ }
 {
+    if e[i] == 0 {
+        return false;
+    }
     station_state::has_bit8(grown(e, e[i]), i)
 }
 
