@@ -1,4 +1,5 @@
 -- `server_tests::holder_at` meets its contract.
+use mathlib.Core.Path.{_∙_}
 use Rattle.server_tests.specs.Blockers.{holderAt}
 use borrow.Author.Needs.{needs}
 use Rattle.server_tests.proofs.holder_at.Statement.{statement}
@@ -45,7 +46,7 @@ bit-if-requires c κs = search needs
 
 returns : tie.Need-returns
 unfolding holderAt
-returns c = cc
+returns c = c .bit-if .ensures ∙ rw (c .before .byte .ensures .0, c .before .before .other .ensures, c .before .before .before .has-bit8 .ensures, c .before .before .before .before .wanted .ensures)
 
 pub holder-at-spec : {M : Type 1} → statement M
 holder-at-spec =
