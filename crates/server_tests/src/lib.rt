@@ -8,7 +8,8 @@ ghost use Rattle.le.specs.Le.{u16At};
 ghost use Rattle.message.specs.Layout.{kindOf, stationOf, pageOf};
 ghost use Rattle.message.specs.Commit.{entriesOf};
 ghost use Rattle.server_state.specs.Layout.{wantedOn};
-ghost use Rattle.server_tests.specs.Tests.{lockAtB, lockOnB, badNumberB, unlockedAt, unlockedB, dropsLockedB, dropsOwnB, unexpectedB, openCallB, openAskB, staleAt, staleB, lockedAtB, lockedOnB, lockedB, faultB, earlierB, blocksB, blockedAtB, blockedOnB, blockedB, shutB, shutOutB, concernsAt, concernedB, concernedSet, hindersB, hinderedB, waitsToWriteB, unavailableAt, unavailableB, informedB, edgeAtB, edgeOnB, edgeB, edgeSet};
+ghost use Rattle.server_tests.specs.Tests.{lockAtB, lockOnB, badNumberB, unlockedAt, unlockedB, dropsLockedB, dropsOwnB, unexpectedB, openCallB, openAskB, staleAt, staleB, lockedAtB, lockedOnB, lockedB, faultB, earlierB, blockedB, shutB, shutOutB, concernsAt, concernedB, concernedSet, hindersB, hinderedB, waitsToWriteB, unavailableAt, unavailableB, informedB, edgeSet};
+ghost use Rattle.server_tests.specs.Blockers.{meetOn, meetSet, aheadB, aheadSet, holderAt, holdersOn, holderSet, blockersB};
 
 // A byte as a number that compares with a station and finds a place.
 fn byte(s: &[u8], k: usize) -> usize
@@ -239,48 +240,101 @@ fn earlier(s: &[u8], j: usize, i: usize) -> bool
     (s[37024 + j] != 0) & (le::get_u64(s, 34880 + j * 8) < le::get_u64(s, 34880 + i * 8))
 }
 
-// Whether j blocks i at object o of page p: by its lock, or earlier in the list.
-fn blocks(s: &[u8], i: usize, p: usize, o: usize, j: usize) -> bool
-    requires { ⌜ (length (now s) ≡ 37072) × (i < 8) × (p < 32) × (o < 8) × (j < 8) ⌝ }
-    ensures { λ r. ⌜ r ≡ blocksB (now (s .entry)) i p o j ⌝ }
+// The objects of page p that i and j want and one of the two writes.
+fn meet_on(s: &[u8], i: usize, j: usize, p: usize) -> u8
+    requires { ⌜ (length (now s) ≡ 37072) × (i < 8) × (j < 8) × (p < 32) ⌝ }
+    ensures { λ r. ⌜ r ≡ meetOn (now (s .entry)) i j p ⌝ }
 {
-    let wants = station_state::has_bit8(wanted(s, j, p), o);
-    let writes = station_state::has_bit8(s[36760 + j * 32 + p], o)
-        | station_state::has_bit8(s[36760 + i * 32 + p], o);
-    ((byte(s, 36216 + (p * 8 + o)) == j + 1) & (j != i)) | (earlier(s, j, i) & wants & writes)
+    wanted(s, i, p) & wanted(s, j, p) & (s[36760 + j * 32 + p] | s[36760 + i * 32 + p])
 }
 
-fn blocked_at(s: &[u8], i: usize, p: usize, o: usize) -> bool
-    requires { ⌜ (length (now s) ≡ 37072) × (i < 8) × (p < 32) × (o < 8) ⌝ }
-    ensures { λ r. ⌜ r ≡ blockedAtB (now (s .entry)) i p o ⌝ }
+// Those of all pages, laid over each other.
+fn meet(s: &[u8], i: usize, j: usize) -> u8
+    requires { ⌜ (length (now s) ≡ 37072) × (i < 8) × (j < 8) ⌝ }
+    ensures { λ r. ⌜ r ≡ meetSet (now (s .entry)) i j ⌝ }
 {
-    if !station_state::has_bit8(wanted(s, i, p), o) {
+    let mut r: u8 = 0;
+    let mut p = 0;
+    while p < 32 {
+        r |= meet_on(s, i, j, p);
+        p += 1;
+    }
+    r
+}
+
+// Whether j stands before i as an earlier waiter.
+fn ahead(s: &[u8], i: usize, j: usize) -> bool
+    requires { ⌜ (length (now s) ≡ 37072) × (i < 8) × (j < 8) ⌝ }
+    ensures { λ r. ⌜ r ≡ aheadB (now (s .entry)) i j ⌝ }
+{
+    if !earlier(s, j, i) {
         return false;
     }
-    let mut r = false;
+    meet(s, i, j) != 0
+}
+
+fn ahead_set(s: &[u8], i: usize) -> u8
+    requires { ⌜ (length (now s) ≡ 37072) × (i < 8) ⌝ }
+    ensures { λ r. ⌜ r ≡ aheadSet (now (s .entry)) i ⌝ }
+{
+    let mut d: u8 = 0;
     let mut j = 0;
     while j < 8 {
-        r |= blocks(s, i, p, o, j);
+        d |= bit_if(ahead(s, i, j), j);
         j += 1;
     }
-    r
+    d
 }
 
-// Most pages are not wanted, and cost one test.
-fn blocked_on(s: &[u8], i: usize, p: usize) -> bool
-    requires { ⌜ (length (now s) ≡ 37072) × (i < 8) × (p < 32) ⌝ }
-    ensures { λ r. ⌜ r ≡ blockedOnB (now (s .entry)) i p ⌝ }
+// The bit of another station's lock on object o of page p, if i wants the object.
+fn holder_at(s: &[u8], i: usize, p: usize, o: usize) -> u8
+    requires { ⌜ (length (now s) ≡ 37072) × (i < 8) × (p < 32) × (o < 8) ⌝ }
+    ensures { λ r. ⌜ r ≡ holderAt (now (s .entry)) i p o ⌝ }
 {
-    if wanted(s, i, p) == 0 {
-        return false;
+    let h = s[36216 + (p * 8 + o)];
+    let held = station_state::has_bit8(wanted(s, i, p), o) & server_state::other(h, i) & (h <= 8);
+    bit_if(held, (byte(s, 36216 + (p * 8 + o)) + 7) % 8)
+}
+
+// Most pages are without locks or not wanted, and cost a test.
+fn holders_on(s: &[u8], i: usize, p: usize) -> u8
+    requires { ⌜ (length (now s) ≡ 37072) × (i < 8) × (p < 32) ⌝ }
+    ensures { λ r. ⌜ r ≡ holdersOn (now (s .entry)) i p ⌝ }
+{
+    if le::get_u64(s, 36216 + p * 8) == 0 {
+        return 0;
     }
-    let mut r = false;
+    if wanted(s, i, p) == 0 {
+        return 0;
+    }
+    let mut d: u8 = 0;
     let mut o = 0;
     while o < 8 {
-        r |= blocked_at(s, i, p, o);
+        d |= holder_at(s, i, p, o);
         o += 1;
     }
-    r
+    d
+}
+
+fn holder_set(s: &[u8], i: usize) -> u8
+    requires { ⌜ (length (now s) ≡ 37072) × (i < 8) ⌝ }
+    ensures { λ r. ⌜ r ≡ holderSet (now (s .entry)) i ⌝ }
+{
+    let mut d: u8 = 0;
+    let mut p = 0;
+    while p < 32 {
+        d |= holders_on(s, i, p);
+        p += 1;
+    }
+    d
+}
+
+// The stations that block i: by a lock, or as earlier waiters.
+fn blockers(s: &[u8], i: usize) -> u8
+    requires { ⌜ (length (now s) ≡ 37072) × (i < 8) ⌝ }
+    ensures { λ r. ⌜ r ≡ blockersB (now (s .entry)) i ⌝ }
+{
+    holder_set(s, i) | ahead_set(s, i)
 }
 
 // Whether another's lock or an earlier waiter stands before i.
@@ -288,13 +342,7 @@ pub fn blocked(s: &[u8], i: usize) -> bool
     requires { ⌜ (length (now s) ≡ 37072) × (i < 8) ⌝ }
     ensures { λ r. ⌜ r ≡ blockedB (now (s .entry)) i ⌝ }
 {
-    let mut r = false;
-    let mut p = 0;
-    while p < 32 {
-        r |= blocked_on(s, i, p);
-        p += 1;
-    }
-    r
+    blockers(s, i) != 0
 }
 
 // Whether i wants something of page p and another has it whole.
@@ -418,57 +466,13 @@ pub fn informed(s: &[u8], i: usize, d: u32, j: usize) -> bool
     (j != i) & (s[37016 + j] != 0) & (le::get_u32(s, 36176 + j * 4) & d != 0)
 }
 
-fn edge_at(s: &[u8], i: usize, j: usize, p: usize, o: usize) -> bool
-    requires { ⌜ (length (now s) ≡ 37072) × (i < 8) × (j < 8) × (p < 32) × (o < 8) ⌝ }
-    ensures { λ r. ⌜ r ≡ edgeAtB (now (s .entry)) i j p o ⌝ }
-{
-    station_state::has_bit8(wanted(s, i, p), o) & blocks(s, i, p, o, j)
-}
-
-// As blocked_on, for one station j.
-fn edge_on(s: &[u8], i: usize, j: usize, p: usize) -> bool
-    requires { ⌜ (length (now s) ≡ 37072) × (i < 8) × (j < 8) × (p < 32) ⌝ }
-    ensures { λ r. ⌜ r ≡ edgeOnB (now (s .entry)) i j p ⌝ }
-{
-    if wanted(s, i, p) == 0 {
-        return false;
-    }
-    let mut r = false;
-    let mut o = 0;
-    while o < 8 {
-        r |= edge_at(s, i, j, p, o);
-        o += 1;
-    }
-    r
-}
-
-// Whether a waits-for edge runs from i to j. A station that does not wait costs one test.
-fn edge(s: &[u8], i: usize, j: usize) -> bool
-    requires { ⌜ (length (now s) ≡ 37072) × (i < 8) × (j < 8) ⌝ }
-    ensures { λ r. ⌜ r ≡ edgeB (now (s .entry)) i j ⌝ }
-{
-    if s[37024 + i] == 0 {
-        return false;
-    }
-    let mut r = false;
-    let mut p = 0;
-    while p < 32 {
-        r |= edge_on(s, i, j, p);
-        p += 1;
-    }
-    station_state::has_bit8(s[37056 + i], j) | r
-}
-
-// The stations that i waits for.
+// The stations that i waits for. A station that does not wait costs one test.
 pub fn edge_set(s: &[u8], i: usize) -> u8
     requires { ⌜ (length (now s) ≡ 37072) × (i < 8) ⌝ }
     ensures { λ r. ⌜ r ≡ edgeSet (now (s .entry)) i ⌝ }
 {
-    let mut d: u8 = 0;
-    let mut j = 0;
-    while j < 8 {
-        d |= bit_if(edge(s, i, j), j);
-        j += 1;
+    if s[37024 + i] == 0 {
+        return 0;
     }
-    d
+    s[37056 + i] | blockers(s, i)
 }

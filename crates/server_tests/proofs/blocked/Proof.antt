@@ -1,42 +1,16 @@
--- `server_tests::blocked` meets its contract. The loop's invariant: the answer is the definition's at the count of pages passed.
-use Prim.Native.Nat.{_≤_, _-_}
-use mathlib.Core.Path.{_≡_, ap, _∙_}
-use native.Mathlib.Numerals.{add-one}
+-- `server_tests::blocked` meets its contract.
 use native.Mathlib.Omega.{arith}
+use mathlib.Core.Path.{sym}
+use Rattle.server_tests.specs.Blockers.{blocked-is}
 use borrow.Author.Needs.{needs}
-use Rattle.server_tests.specs.Tests.{blockedOnB, blockedB}
-use Rattle.cells.specs.Loops.{anyTo}
 use Rattle.server_tests.proofs.blocked.Statement.{statement}
 use Rattle.server_tests.proofs.blocked.Tie as tie
 
-abbrev Inv-loop : tie.InvT-loop
-Inv-loop s i r₀ p₀ r p = (p ≤ 32) × (r ≡ anyTo (blockedOnB s i) p)
+blockers-requires : tie.Need-blockers-requires
+blockers-requires c κs = search needs
 
-abbrev μ-loop : tie.MeasureT-loop
-μ-loop s i r₀ p₀ r p = 32 - p
-
-loop-holds : tie.Need-loop-holds Inv-loop μ-loop
-unfolding anyTo
-loop-holds c = search needs
-
-blocked-on-requires : tie.Need-blocked-on-requires Inv-loop μ-loop
-blocked-on-requires c κs = search needs
-
-add-p : tie.Need-add-p Inv-loop μ-loop
-add-p c = search needs
-
-loop-less : tie.Need-loop-less Inv-loop μ-loop
-loop-less c = search needs
-
-loop-again : tie.Need-loop-again Inv-loop μ-loop
-unfolding anyTo
-loop-again c = (search needs, rw add-one (cc))
-
-returns : tie.Need-returns Inv-loop μ-loop
-unfolding blockedB
-returns c = c .before .loop .inv .1 ∙ ap (anyTo _) (omega arith)
+returns : tie.Need-returns
+returns c = let a = c .before .before .args in rw (blocked-is (a .s .now) (λ k. omega (arith, c .before .shared-slice-known .given k)) (a .i), sym (c .blockers .ensures))
 
 pub blocked-spec : {M : Type 1} → statement M
-blocked-spec =
-    tie.close
-    (tie.spec Inv-loop μ-loop loop-holds blocked-on-requires add-p loop-less loop-again returns)
+blocked-spec = tie.close (tie.spec blockers-requires returns)

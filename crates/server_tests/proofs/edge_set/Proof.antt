@@ -1,54 +1,41 @@
--- `server_tests::edge_set` meets its contract. The loop's invariant: the mask is the definition's at the count of stations passed.
-use Prim.Native.Nat.{_≤_, _-_}
-use mathlib.Core.Path.{_≡_, ap, _∙_}
-use native.Mathlib.Numerals.{add-one}
+-- `server_tests::edge_set` meets its contract.
 use native.Mathlib.Omega.{arith}
+use mathlib.Core.Path.{sym}
+use borrow.Author.Tests.{eq-eqb, ne-eqb}
+use Rattle.server_tests.specs.Blockers.{edges-are}
 use borrow.Author.Needs.{needs}
-use Rattle.server_tests.specs.Tests.{edgeB, edgeSet}
-use Rattle.cells.specs.Loops.{maskTo}
 use Rattle.server_tests.proofs.edge_set.Statement.{statement}
 use Rattle.server_tests.proofs.edge_set.Tie as tie
 
-abbrev Inv-loop : tie.InvT-loop
-Inv-loop s i d₀ j₀ d j = (j ≤ 8) × (d ≡ maskTo (edgeB s i) j)
+add-if1 : tie.Need-add-if1
+add-if1 c = search needs
 
-abbrev μ-loop : tie.MeasureT-loop
-μ-loop s i d₀ j₀ d j = 8 - j
+shared-slice-read-if1 : tie.Need-shared-slice-read-if1
+shared-slice-read-if1 c = search needs
 
-loop-holds : tie.Need-loop-holds Inv-loop μ-loop
-unfolding maskTo
-loop-holds c = search needs
+returns : tie.Need-returns
+returns c = let a = c .before .before .before .args in rw (edges-are (a .s .now) (λ k. omega (arith, c .before .before .shared-slice-known .given k)) (a .i), eq-eqb _ _ (c .if1 .taken))
 
-edge-requires : tie.Need-edge-requires Inv-loop μ-loop
-edge-requires c κs = search needs
+add-result : tie.Need-add-result
+add-result c = search needs
 
-bit-if-requires : tie.Need-bit-if-requires Inv-loop μ-loop
-bit-if-requires c κs = search needs
+shared-slice-read-result : tie.Need-shared-slice-read-result
+shared-slice-read-result c = search needs
 
-add-j : tie.Need-add-j Inv-loop μ-loop
-add-j c = search needs
+blockers-requires : tie.Need-blockers-requires
+blockers-requires c κs = search needs
 
-loop-less : tie.Need-loop-less Inv-loop μ-loop
-loop-less c = search needs
-
-loop-again : tie.Need-loop-again Inv-loop μ-loop
-unfolding maskTo
-loop-again c = (search needs, rw add-one (cc))
-
-returns : tie.Need-returns Inv-loop μ-loop
-unfolding edgeSet
-returns c = c .before .loop .inv .1 ∙ ap (maskTo _) (omega arith)
+returns-2 : tie.Need-returns-2
+returns-2 c = let a = c .before .before .before .before .before .args in rw (edges-are (a .s .now) (λ k. omega (arith, c .before .before .before .before .shared-slice-known .given k)) (a .i), ne-eqb _ _ (c .before .before .if1 .left), sym (c .blockers .ensures))
 
 pub edge-set-spec : {M : Type 1} → statement M
 edge-set-spec =
     tie.close
     (tie.spec
-    Inv-loop
-    μ-loop
-    loop-holds
-    edge-requires
-    bit-if-requires
-    add-j
-    loop-less
-    loop-again
-    returns)
+    add-if1
+    shared-slice-read-if1
+    returns
+    add-result
+    shared-slice-read-result
+    blockers-requires
+    returns-2)
