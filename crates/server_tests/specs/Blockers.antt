@@ -63,7 +63,7 @@ none : (n : ℕ) → any n (λ k. false) ≡ false
 none zero = refl
 none (suc n) = none n
 
-any-none : (n : ℕ) (f : ℕ → Bool) → ((k : ℕ) → k < n → f k ≡ false) → any n f ≡ false
+pub any-none : (n : ℕ) (f : ℕ → Bool) → ((k : ℕ) → k < n → f k ≡ false) → any n f ≡ false
 any-none n f h = any-same f (λ k. false) n h ∙ none n
 
 any-or : (n : ℕ) (f g : ℕ → Bool) → any n (λ k. f k || g k) ≡ (any n f || any n g)
@@ -89,11 +89,11 @@ any-swap (suc m) n f =
 
 -- bits
 
-bit-is : (x k : ℕ) → hasBit x k ≡ tb x k
+pub bit-is : (x k : ℕ) → hasBit x k ≡ tb x k
 unfolding hasBit
 bit-is x k = tb-test k x
 
-join-is : (f : ℕ → ℕ) (n k : ℕ) → tb (joinTo f n) k ≡ any n (λ i. tb (f i) k)
+pub join-is : (f : ℕ → ℕ) (n k : ℕ) → tb (joinTo f n) k ≡ any n (λ i. tb (f i) k)
 unfolding joinTo
 join-is f zero k = tb-zero k
 join-is f (suc n) k = rw (tb-or k (joinTo f n) (f n), join-is f n k) (sym (any-suc n (λ i. tb (f i) k)))
@@ -121,7 +121,7 @@ no-four s a (suc (suc zero)) l e = omega arith
 no-four s a (suc (suc (suc zero))) l e = omega arith
 no-four s a (suc (suc (suc (suc o)))) l e = absurd (omega arith)
 
-no-locks : (s : List ℕ) (a o : ℕ) → o < 8 → u64At s a ≡ 0 → getD s (a + o) 0 ≡ 0
+pub no-locks : (s : List ℕ) (a o : ℕ) → o < 8 → u64At s a ≡ 0 → getD s (a + o) 0 ≡ 0
 unfolding u64At
 no-locks s a o l e = byB (ltb o 4)
     (λ t. no-four s a o (ltb-yes o 4 t) (omega arith))

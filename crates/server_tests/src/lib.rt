@@ -2,14 +2,16 @@
 // Where each field stands is in server_state's specs/Layout.antt and docs/STATE.md.
 ghost use mathlib.Core.Path.{_≡_};
 ghost use mathlib.Core.Bool.{cond};
-ghost use Prim.Native.Nat.{_+_, _^_, _≤_, _<_};
+ghost use Prim.Native.Nat.{_+_, _/_, _^_, _≤_, _<_};
 ghost use lib.ListN.{length, getD};
 ghost use Rattle.le.specs.Le.{u16At};
 ghost use Rattle.message.specs.Layout.{kindOf, stationOf, pageOf};
 ghost use Rattle.message.specs.Commit.{entriesOf};
 ghost use Rattle.server_state.specs.Layout.{wantedOn};
-ghost use Rattle.server_tests.specs.Tests.{lockAtB, lockOnB, badNumberB, unlockedAt, unlockedB, dropsLockedB, dropsOwnB, unexpectedB, openCallB, openAskB, staleAt, staleB, lockedAtB, lockedOnB, lockedB, faultB, earlierB, blockedB, shutB, shutOutB, concernsAt, concernedB, concernedSet, hindersB, hinderedB, waitsToWriteB, unavailableAt, unavailableB, informedB, edgeSet};
-ghost use Rattle.server_tests.specs.Blockers.{meetOn, meetSet, aheadB, aheadSet, holderAt, holdersOn, holderSet, blockersB};
+ghost use Rattle.server_tests.specs.Tests.{lockAtB, lockOnB, badNumberB, unlockedAt, unlockedB, dropsLockedB, dropsOwnB, unexpectedB, openCallB, openAskB, staleAt, staleB, lockedAtB, lockedOnB, lockedB, faultB, earlierB, blockedB, shutB, shutOutB, concernsAt, concernedB, concernedSet, hindersB, hinderedB, unavailableAt, unavailableB, informedB, edgeSet};
+ghost use Rattle.cells.specs.Loops.{anyTo};
+ghost use Rattle.server_tests.specs.Shorter.{writtenBy};
+ghost use Rattle.server_tests.specs.Blockers.{joinTo, meetOn, meetSet, aheadB, aheadSet, holderAt, holdersOn, holderSet, blockersB};
 
 // A byte as a number that compares with a station and finds a place.
 fn byte(s: &[u8], k: usize) -> usize
@@ -45,18 +47,22 @@ fn lock_at(s: &[u8], i: usize, p: usize, o: usize) -> bool
     byte(s, 36216 + (p * 8 + o)) == i + 1
 }
 
-// Whether station i has a lock on page p, whole or on an object.
+// Whether station i has a lock on page p, whole or on an object. A page without locks on objects is seen at once.
 pub fn lock_on(s: &[u8], i: usize, p: usize) -> bool
     requires { ⌜ (length (now s) ≡ 37072) × (i < 8) × (p < 32) ⌝ }
     ensures { λ r. ⌜ r ≡ lockOnB (now (s .entry)) i p ⌝ }
 {
+    let whole = byte(s, 36472 + p) == i + 1;
+    if le::get_u64(s, 36216 + p * 8) == 0 {
+        return whole;
+    }
     let mut r = false;
     let mut o = 0;
     while o < 8 {
         r |= lock_at(s, i, p, o);
         o += 1;
     }
-    (byte(s, 36472 + p) == i + 1) | r
+    whole | r
 }
 
 // Whether 1 to 4 of transaction t come out of turn.
@@ -97,7 +103,10 @@ fn drops_locked(s: &[u8], i: usize, d: u32, p: usize) -> bool
     requires { ⌜ (length (now s) ≡ 37072) × (i < 8) × (p < 32) ⌝ }
     ensures { λ r. ⌜ r ≡ dropsLockedB (now (s .entry)) i d p ⌝ }
 {
-    station_state::has_bit32(d, p) & lock_on(s, i, p)
+    if station_state::has_bit32(d, p) {
+        return lock_on(s, i, p);
+    }
+    false
 }
 
 // Whether i has a lock on one of the pages d.
@@ -375,9 +384,9 @@ fn concerns_at(s: &[u8], i: usize, j: usize, p: usize) -> bool
 }
 
 // Whether j is another locking station, listed for a page that i is to write.
-fn concerned(s: &[u8], i: usize, j: usize) -> bool
+fn concerns(s: &[u8], i: usize, j: usize) -> bool
     requires { ⌜ (length (now s) ≡ 37072) × (i < 8) × (j < 8) ⌝ }
-    ensures { λ r. ⌜ r ≡ concernedB (now (s .entry)) i j ⌝ }
+    ensures { λ r. ⌜ r ≡ anyTo (concernsAt (now (s .entry)) i j) 32 ⌝ }
 {
     let mut r = false;
     let mut p = 0;
@@ -385,7 +394,17 @@ fn concerned(s: &[u8], i: usize, j: usize) -> bool
         r |= concerns_at(s, i, j, p);
         p += 1;
     }
-    (j != i) & (s[37016 + j] == 0) & r
+    r
+}
+
+fn concerned(s: &[u8], i: usize, j: usize) -> bool
+    requires { ⌜ (length (now s) ≡ 37072) × (i < 8) × (j < 8) ⌝ }
+    ensures { λ r. ⌜ r ≡ concernedB (now (s .entry)) i j ⌝ }
+{
+    if (j != i) & (s[37016 + j] == 0) {
+        return concerns(s, i, j);
+    }
+    false
 }
 
 // The stations that i's 20s go to.
@@ -424,24 +443,37 @@ pub fn hindered(s: &[u8], i: usize, p: usize) -> bool
     r
 }
 
-fn waits_to_write(s: &[u8], i: usize, p: usize, o: usize, j: usize) -> bool
-    requires { ⌜ (length (now s) ≡ 37072) × (i < 8) × (p < 32) × (o < 8) × (j < 8) ⌝ }
-    ensures { λ r. ⌜ r ≡ waitsToWriteB (now (s .entry)) i p o j ⌝ }
+fn written_by(s: &[u8], i: usize, p: usize, j: usize) -> u8
+    requires { ⌜ (length (now s) ≡ 37072) × (i < 8) × (p < 32) × (j < 8) ⌝ }
+    ensures { λ r. ⌜ r ≡ writtenBy (now (s .entry)) i p j ⌝ }
 {
-    (j != i) & station_state::has_bit8(s[36760 + j * 32 + p], o)
+    if j == i {
+        return 0;
+    }
+    s[36760 + j * 32 + p]
 }
 
-fn unavailable_at(s: &[u8], i: usize, a: usize, o: usize) -> bool
-    requires { ⌜ (length (now s) ≡ 37072) × (i < 8) × (a < 256) × (o < 8) ⌝ }
-    ensures { λ r. ⌜ r ≡ unavailableAt (now (s .entry)) i a o ⌝ }
+// The objects of page p that others than i wait to write.
+fn others_write(s: &[u8], i: usize, p: usize) -> u8
+    requires { ⌜ (length (now s) ≡ 37072) × (i < 8) × (p < 32) ⌝ }
+    ensures { λ r. ⌜ r ≡ joinTo (writtenBy (now (s .entry)) i p) 8 ⌝ }
 {
-    let mut r = false;
+    let mut w: u8 = 0;
     let mut j = 0;
     while j < 8 {
-        r |= waits_to_write(s, i, a / 8, o, j);
+        w |= written_by(s, i, p, j);
         j += 1;
     }
-    (o != a % 8) & (server_state::other(s[36216 + (a / 8 * 8 + o)], i) | r)
+    w
+}
+
+// w is what others wait to write there.
+fn unavailable_at(s: &[u8], i: usize, a: usize, w: u8, o: usize) -> bool
+    requires { ⌜ (length (now s) ≡ 37072) × (i < 8) × (a < 256) × (o < 8) × (w ≡ joinTo (writtenBy (now s) i (a / 8)) 8) ⌝ }
+    ensures { λ r. ⌜ r ≡ unavailableAt (now (s .entry)) i a o ⌝ }
+{
+    let other = server_state::other(s[36216 + (a / 8 * 8 + o)], i);
+    (o != a % 8) & (other | station_state::has_bit8(w, o))
 }
 
 // The unavailable set that goes to i with the page of a.
@@ -449,10 +481,11 @@ pub fn unavailable(s: &[u8], i: usize, a: usize) -> u8
     requires { ⌜ (length (now s) ≡ 37072) × (i < 8) × (a < 256) ⌝ }
     ensures { λ r. ⌜ r ≡ unavailableB (now (s .entry)) i a ⌝ }
 {
+    let w = others_write(s, i, a / 8);
     let mut d: u8 = 0;
     let mut o = 0;
     while o < 8 {
-        d |= bit_if(unavailable_at(s, i, a, o), o);
+        d |= bit_if(unavailable_at(s, i, a, w, o), o);
         o += 1;
     }
     d

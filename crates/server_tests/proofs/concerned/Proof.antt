@@ -1,58 +1,32 @@
--- `server_tests::concerned` meets its contract. The loop's invariant: the answer is the definition's at the count of pages passed.
-use Prim.Native.Nat.{_≤_, _-_}
-use mathlib.Core.Path.{_≡_}
-use native.Mathlib.Numerals.{add-one}
-use native.Mathlib.Omega.{arith}
+use mathlib.Core.Path.{sym, _∙_}
+use Rattle.server_tests.specs.Shorter.{concerned-yes, concerned-no}
 use borrow.Author.Needs.{needs}
-use Rattle.server_tests.specs.Tests.{concernsAt, concernedB}
-use Rattle.cells.specs.Loops.{anyTo}
 use Rattle.server_tests.proofs.concerned.Statement.{statement}
 use Rattle.server_tests.proofs.concerned.Tie as tie
+use Rattle.server_tests.proofs.concerned.Reads as reads
+use Rattle.server_tests.proofs.concerned.Lts as lts
+use Rattle.server_tests.proofs.concerns.Reads as concerns-reads
 
-abbrev Inv-loop : tie.InvT-loop
-Inv-loop s i j r₀ p₀ r p = (p ≤ 32) × (r ≡ anyTo (concernsAt s i j) p)
+-- src/lib.rt:404:22
+add-if1 : tie.Need-add-if1
+add-if1 c = search needs
 
-abbrev μ-loop : tie.MeasureT-loop
-μ-loop s i j r₀ p₀ r p = 32 - p
+-- src/lib.rt:404:20
+shared-slice-read-if1 : tie.Need-shared-slice-read-if1
+shared-slice-read-if1 c = search needs
 
-loop-holds : tie.Need-loop-holds Inv-loop μ-loop
-unfolding anyTo
-loop-holds c = search needs
+-- src/lib.rt:405:9
+concerns-requires : tie.Need-concerns-requires
+concerns-requires c κs = search needs
 
-concerns-at-requires : tie.Need-concerns-at-requires Inv-loop μ-loop
-concerns-at-requires c κs = search needs
+-- src/lib.rt:405:9
+returns : tie.Need-returns
+returns c = c .concerns .ensures ∙ sym (concerned-yes _ _ _ (c .before .if1 .taken))
 
-add-p : tie.Need-add-p Inv-loop μ-loop
-add-p c = search needs
-
-loop-less : tie.Need-loop-less Inv-loop μ-loop
-loop-less c = search needs
-
-loop-again : tie.Need-loop-again Inv-loop μ-loop
-unfolding anyTo
-loop-again c = (search needs, rw add-one (cc))
-
-add-result : tie.Need-add-result Inv-loop μ-loop
-add-result c = search needs
-
-shared-slice-read-result : tie.Need-shared-slice-read-result Inv-loop μ-loop
-shared-slice-read-result c = search needs
-
-returns : tie.Need-returns Inv-loop μ-loop
-unfolding concernedB
-returns c = let e : c .before .before .loop .p ≡ 32 = omega arith in cc
+-- src/lib.rt:400:1
+returns-2 : tie.Need-returns-2
+returns-2 c = sym (concerned-no _ _ _ (c .if1 .left))
 
 pub concerned-spec : {M : Type 1} → statement M
 concerned-spec =
-    tie.close
-    (tie.spec
-    Inv-loop
-    μ-loop
-    loop-holds
-    concerns-at-requires
-    add-p
-    loop-less
-    loop-again
-    add-result
-    shared-slice-read-result
-    returns)
+    tie.close (tie.spec add-if1 shared-slice-read-if1 concerns-requires returns returns-2)

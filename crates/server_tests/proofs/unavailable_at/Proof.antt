@@ -1,70 +1,50 @@
--- `server_tests::unavailable_at` meets its contract. The loop's invariant: the answer is the definition's at the count of stations passed.
-use Prim.Native.Nat.{_/_, _≤_, _-_}
-use mathlib.Core.Path.{_≡_}
-use native.Mathlib.Numerals.{add-one}
-use native.Mathlib.Omega.{arith}
+use Rattle.server_tests.specs.Tests.{unavailableAt}
+use Rattle.server_tests.specs.Shorter.{others-wait}
 use borrow.Author.Needs.{needs}
-use Rattle.server_tests.specs.Tests.{waitsToWriteB, unavailableAt}
-use Rattle.cells.specs.Loops.{anyTo}
 use Rattle.server_tests.proofs.unavailable_at.Statement.{statement}
 use Rattle.server_tests.proofs.unavailable_at.Tie as tie
+use Rattle.server_tests.proofs.unavailable_at.Reads as reads
+use Rattle.server_tests.proofs.unavailable_at.Lts as lts
+use Rattle.server_state.proofs.other.Reads as other-reads
+use Rattle.station_state.proofs.has_bit8.Reads as has-bit8-reads
 
-abbrev Inv-loop : tie.InvT-loop
-Inv-loop s i a o r₀ j₀ r j = (j ≤ 8) × (r ≡ anyTo (waitsToWriteB s i (a / 8) o) j)
-
-abbrev μ-loop : tie.MeasureT-loop
-μ-loop s i a o r₀ j₀ r j = 8 - j
-
-loop-holds : tie.Need-loop-holds Inv-loop μ-loop
-unfolding anyTo
-loop-holds c = search needs
-
-waits-to-write-requires : tie.Need-waits-to-write-requires Inv-loop μ-loop
-waits-to-write-requires c κs = search needs
-
-add-j : tie.Need-add-j Inv-loop μ-loop
-add-j c = search needs
-
-loop-less : tie.Need-loop-less Inv-loop μ-loop
-loop-less c = search needs
-
-loop-again : tie.Need-loop-again Inv-loop μ-loop
-unfolding anyTo
-loop-again c = (search needs, rw add-one (cc))
-
-mul-other : tie.Need-mul-other Inv-loop μ-loop
+-- src/lib.rt:475:48
+mul-other : tie.Need-mul-other
 mul-other c = search needs
 
-add-other : tie.Need-add-other Inv-loop μ-loop
+-- src/lib.rt:475:48
+add-other : tie.Need-add-other
 add-other c = search needs
 
-add-other-2 : tie.Need-add-other-2 Inv-loop μ-loop
+-- src/lib.rt:475:39
+add-other-2 : tie.Need-add-other-2
 add-other-2 c = search needs
 
-shared-slice-read-other : tie.Need-shared-slice-read-other Inv-loop μ-loop
+-- src/lib.rt:475:37
+shared-slice-read-other : tie.Need-shared-slice-read-other
 shared-slice-read-other c = search needs
 
-other-requires : tie.Need-other-requires Inv-loop μ-loop
+-- src/lib.rt:475:9
+other-requires : tie.Need-other-requires
 other-requires c κs = search needs
 
-returns : tie.Need-returns Inv-loop μ-loop
+-- src/lib.rt:476:29
+has-bit8-requires : tie.Need-has-bit8-requires
+has-bit8-requires c κs = search needs
+
+-- src/lib.rt:471:1
+returns : tie.Need-returns
 unfolding unavailableAt
-returns c = let e : c .before .before .before .loop .j ≡ 8 = omega arith in cc
+returns c = rw (← others-wait _ _ _ _, ← c .before .before .before .before .pre .4) (cc)
 
 pub unavailable-at-spec : {M : Type 1} → statement M
 unavailable-at-spec =
     tie.close
     (tie.spec
-    Inv-loop
-    μ-loop
-    loop-holds
-    waits-to-write-requires
-    add-j
-    loop-less
-    loop-again
     mul-other
     add-other
     add-other-2
     shared-slice-read-other
     other-requires
+    has-bit8-requires
     returns)

@@ -1,0 +1,59 @@
+-- Questions answered by the bytes of a page at once.
+use Prim.Native.Nat.{ℕ, _+_, _*_, _<_}
+use mathlib.Core.Path.{_≡_, refl, sym, ap, _∙_}
+use mathlib.Core.Bool.{Bool, true, false, not, _&&_, _||_, cond, or-false}
+use mathlib.Core.List.{List}
+use native.Mathlib.Omega.{arith}
+use lib.ListN.{getD}
+use lib.Dec.{eqb}
+use borrow.Author.Tests.{ne-eqb}
+use Rattle.sets.specs.Base.{any}
+use Rattle.sets.specs.Laws.{byB, and-l, and-r}
+use Rattle.le.specs.Le.{u64At}
+use Rattle.cells.specs.Bits.{tb, tb-zero}
+use Rattle.cells.specs.Loops.{anyTo, any-to}
+use Rattle.station_state.specs.Layout.{hasBit}
+use Rattle.server_state.specs.Layout.{lockOf, wholeOf, writtenSet, lockingB}
+use Rattle.server_tests.specs.Tests.{lockAtB, lockOnB, dropsLockedB, concernsAt, concernedB, waitsToWriteB}
+use Rattle.server_tests.specs.Blockers.{joinTo, join-is, bit-is, any-none, no-locks}
+
+-- a page without locks on objects
+pub lock-whole : (s : List ℕ) (i p : ℕ) → u64At s (36216 + p * 8) ≡ 0 → lockOnB s i p ≡ eqb (wholeOf s p) (i + 1)
+unfolding lockOnB lockAtB
+lock-whole s i p e =
+    rw (any-to (lockAtB s i p) (λ k. false) 8 (λ o l. free o l), any-none 8 (λ k. false) (λ k l. refl)) (or-false (eqb (wholeOf s p) (i + 1)))
+  where
+    free : (o : ℕ) → o < 8 → eqb (lockOf s (p * 8 + o)) (i + 1) ≡ false
+    free o l =
+        let at : 36216 + (p * 8 + o) ≡ 36216 + p * 8 + o = omega arith in
+        rw (at, no-locks s (36216 + p * 8) o l e, ne-eqb 0 (i + 1) (λ z. omega arith))
+
+-- what station j waits to write on page p, if it is another than i
+unfoldable pub writtenBy : List ℕ → ℕ → ℕ → ℕ → ℕ
+writtenBy s i p j = cond (eqb j i) 0 (writtenSet s j p)
+
+pub others-wait : (s : List ℕ) (i p o : ℕ) → hasBit (joinTo (writtenBy s i p) 8) o ≡ anyTo (waitsToWriteB s i p o) 8
+unfolding waitsToWriteB writtenBy
+others-wait s i p o =
+    bit-is (joinTo (writtenBy s i p) 8) o ∙ join-is (writtenBy s i p) 8 o ∙ sym (any-to (waitsToWriteB s i p o) (λ j. tb (writtenBy s i p j) o) 8 (λ j l. one j))
+  where
+    one : (j : ℕ) → waitsToWriteB s i p o j ≡ tb (writtenBy s i p j) o
+    one j = byB (eqb j i) (λ e. rw (e, tb-zero o)) (λ e. rw e (bit-is (writtenSet s j p) o))
+
+-- only another locking station is called back
+pub concerned-yes : (s : List ℕ) (i j : ℕ) → (not (eqb j i) && lockingB s j) ≡ true → concernedB s i j ≡ anyTo (concernsAt s i j) 32
+unfolding concernedB
+concerned-yes s i j e = rw (and-l (not (eqb j i)) (lockingB s j) e, and-r (not (eqb j i)) (lockingB s j) e)
+
+pub concerned-no : (s : List ℕ) (i j : ℕ) → (not (eqb j i) && lockingB s j) ≡ false → concernedB s i j ≡ false
+unfolding concernedB
+concerned-no s i j e = byB (not (eqb j i)) (λ y. let z : lockingB s j ≡ false = rw y at e in rw (y, z)) (λ n. rw n)
+
+-- a page that is not dropped
+pub drops-yes : (s : List ℕ) (i d p : ℕ) → hasBit d p ≡ true → dropsLockedB s i d p ≡ lockOnB s i p
+unfolding dropsLockedB
+drops-yes s i d p e = rw e
+
+pub drops-no : (s : List ℕ) (i d p : ℕ) → hasBit d p ≡ false → dropsLockedB s i d p ≡ false
+unfolding dropsLockedB
+drops-no s i d p e = rw e
