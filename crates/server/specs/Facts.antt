@@ -2,33 +2,30 @@
 use Prim.Native.Nat.{ℕ, suc, _+_, _*_, _≤_, _<_}
 use mathlib.Core.Path.{_≡_, refl, sym, ap, _∙_}
 use mathlib.Core.Logic.{_≢_}
-use mathlib.Core.Bool.{Bool, true, false, _&&_, cond}
+use mathlib.Core.Bool.{true, false, _&&_}
 use mathlib.Core.List.{List, [], _∷_}
 use native.Mathlib.Omega.{arith}
 use lib.ListN.{length, drop}
-use lib.Dec.{eqb, leb}
+use lib.Dec.{leb}
 use borrow.Author.Tests.{leb-true, ne-eqb}
-use Rattle.sets.specs.Base.{turned}
-use Rattle.sets.specs.Laws.{byEq, byB, eqb-same, eqb-yes, eqb-no, and-l, and-r}
+use Rattle.sets.specs.Laws.{byEq, eqb-same, eqb-yes, eqb-no, and-l, and-r}
 use Rattle.le.specs.Le.{u16At}
 use Rattle.cells.specs.Num.{AllBytes, bytes-all}
 use Rattle.line.specs.Messages.{Sent, Rec}
-use Rattle.line.specs.Server.{Server, Waiter, noWaiter, start, accept, serverStep}
+use Rattle.line.specs.Server.{noWaiter, start, accept, serverStep}
 use Rattle.line.specs.Bounds.{step-128, step-8}
-use Rattle.message.specs.Layout.{kindOf, stationOf, pageOf, requesterOf, objectOf, transactionOf}
+use Rattle.message.specs.Layout.{kindOf, stationOf, pageOf, requesterOf, transactionOf}
 use Rattle.message.specs.Commit.{entriesOf}
 use Rattle.message.specs.Number.{upNumber}
 use Rattle.message.specs.Accepted.{fields-fit}
 use Rattle.message_meaning.specs.Meant.{upOf}
 use Rattle.message_meaning.specs.CommitRead.{u16-behind}
 use Rattle.message_meaning.specs.UpAccepted.{CommitFields, UpAccepted, up-accepted}
-use Rattle.server_state.specs.Layout.{agesOf, arrivalsOf, lastOf}
 use Rattle.server_state.specs.Valid.{valid}
 use Rattle.server_state.specs.Facts.{valid-ranged}
 use Rattle.server_tests.specs.Tests.{unexpectedB}
-use Rattle.server_changes.specs.Changes.{noticeB, leaveB, unpackB}
-use Rattle.server_actions.specs.declared.Counts.{Counts}
-use Rattle.server_actions.specs.Actions.{addressOf, acceptB}
+use Rattle.server_changes.specs.Changes.{noticeB}
+use Rattle.server_actions.specs.Actions.{acceptB}
 use Rattle.server_actions.specs.Pass.{serverStepB}
 use Rattle.server_actions.specs.Step.{ready, kindsOf, checkStepB}
 use Rattle.server_actions.specs.Posting.{from, counts, Room, Whole}
@@ -38,7 +35,7 @@ use Rattle.server_meaning.specs.Tests.{wanting, last-at}
 use Rattle.server_meaning.specs.Changes.{notice-is}
 use Rattle.server_meaning.specs.Waiting.{leave-is}
 use Rattle.server_meaning.specs.Commit.{unpack-is}
-use Rattle.step_meaning.specs.Relation.{ReadAs, AllSent, AllRecs, Serves}
+use Rattle.step_meaning.specs.Relation.{AllSent, AllRecs, Serves}
 use Rattle.step_meaning.specs.Accept.{accept-means}
 use Rattle.step_meaning.specs.Pass.{step-means, sent-length}
 use Rattle.line_bytes.specs.Served.{sound-of}

@@ -1,26 +1,23 @@
 -- The calls of the step, one after the other, leave what its definition gives; and there is room for each.
-use Prim.Native.Nat.{ℕ, _+_, _*_, _≤_}
+use Prim.Native.Nat.{ℕ, _+_}
 use mathlib.Core.Path.{_≡_, refl, sym, ap, _∙_}
-use mathlib.Core.Bool.{Bool, true, false, cond}
+use mathlib.Core.Bool.{true, false}
 use mathlib.Core.Logic.{_≢_}
 use mathlib.Core.List.{List}
 use native.Mathlib.Omega.{arith}
 use lib.ListN.{length}
-use lib.Seq.{sets}
-use lib.Dec.{eqb}
-use borrow.Author.Tests.{ne-eqb, eq-eqb}
+use borrow.Author.Tests.{ne-eqb}
 use Rattle.cells.specs.Num.{AllBytes}
 use Rattle.station_callbacks.specs.Callbacks.{flat}
 use Rattle.server_state.specs.Valid.{valid}
 use Rattle.server_actions.specs.declared.Counts.{Counts}
 use Rattle.server_actions.specs.Actions.{Serving, acceptB}
 use Rattle.server_actions.specs.Pass.{settleB, serverStepB}
-use Rattle.server_actions.specs.Step.{ready, checkStepB, Outcome, laid, refused, serverCalled}
+use Rattle.server_actions.specs.Step.{ready, checkStepB, laid, serverCalled}
 use Rattle.server_actions.specs.Posting.{from, counts, Posted, posted, post, posted-then, Whole, mailed-flat, Room, room-first, room-next}
 use Rattle.server_actions.specs.Parts.{acts-accept}
 use Rattle.server_pass.specs.Sane.{Sane, state-of}
 use Rattle.server_pass.specs.Rounds.{acts-settle}
-use Rattle.server.specs.declared.Served.{Served}
 use Rattle.server.specs.declared.Served.the-variants.{Refused, Sent}
 use Rattle.server.specs.Outcome.{outcome}
 use Rattle.server.specs.Facts.{ready-valid, sane-accepted, step-room, step-whole}

@@ -1,6 +1,6 @@
 -- The calls of an action, one after the other, leave what its definition gives; and there is room for each.
 use Prim.Native.Nat.{ℕ, _+_, _*_, _/_, _≤_}
-use mathlib.Core.Path.{_≡_, refl, sym, ap, _∙_}
+use mathlib.Core.Path.{_≡_, sym, ap, _∙_}
 use mathlib.Core.Bool.{true, false}
 use mathlib.Core.List.{List, [], _∷_}
 use native.Mathlib.Omega.{arith}
@@ -12,7 +12,7 @@ use Rattle.server_tests.specs.Tests.{informedB}
 use Rattle.server_changes.specs.Changes.{finishB, leaveB, listB, unlistB, writeB}
 use Rattle.server_actions.specs.Actions.{serving, pageB, abortedB, committedB, invalidateB, recordB, sendPageB, abortB, writtenPagesB, informB, informTo, installB}
 use Rattle.server_actions.specs.declared.Counts.{Counts}
-use Rattle.server_actions.specs.Posting.{from, Acts, counts, Posted, posted, post, post-none, post-one, post-both, posted-then, Room, room-first, room-next, acts-turns}
+use Rattle.server_actions.specs.Posting.{from, counts, Posted, posted, post, post-none, post-one, post-both, posted-then, Room, room-first, room-next, acts-turns}
 use Rattle.server_actions.specs.Parts.{turns-informs, installedB, acts-installed, install-is}
 
 -- a record

@@ -1,5 +1,5 @@
 -- Each action of the server adds to what was sent and archived, and depends on the state alone.
-use Prim.Native.Nat.{ℕ, zero, suc, _+_, _-_, _*_, _/_, _^_, _≤_}
+use Prim.Native.Nat.{ℕ, _-_, _/_, _^_, _≤_}
 use mathlib.Core.Path.{_≡_, refl}
 use mathlib.Core.Bool.{Bool, not, _&&_, cond}
 use mathlib.Core.List.{List, [], _∷_}
@@ -7,7 +7,6 @@ use native.Mathlib.Omega.{arith}
 use lib.ListN.{length}
 use lib.Dec.{eqb}
 use Rattle.sets.specs.Base.{snoc}
-use Rattle.layout.specs.Record.{Record, bytesOf, recordLength}
 use Rattle.entries.specs.Entries.{entries-count}
 use Rattle.record_meaning.specs.Layout.{length-bytesOf}
 use Rattle.message.specs.Layout.{stationOf, pageOf, requesterOf, transactionOf, pagesOf, setOf}

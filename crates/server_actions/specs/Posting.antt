@@ -2,17 +2,15 @@
 -- there, its records behind the bytes of those there.
 use Prim.Native.Nat.{ℕ, zero, suc, _+_, _*_, _-_, _≤_, _<_}
 use mathlib.Core.Path.{_≡_, refl, sym, ap, _∙_}
-use mathlib.Core.Bool.{Bool, true, false, cond}
+use mathlib.Core.Bool.{Bool, cond}
 use mathlib.Core.List.{List, [], _∷_, _++_, append-assoc, append-nil}
 use native.Mathlib.Numerals.{add-one}
 use native.Mathlib.Omega.{arith}
 use lib.ListN.{length, length-append}
 use lib.Seq.{sets, length-sets}
-use lib.Dec.{leb}
-use borrow.Author.Tests.{le-leb}
 use Rattle.lists.specs.Stores.{sets-join}
 use Rattle.sets.specs.Base.{snoc}
-use Rattle.sets.specs.Laws.{byB, byEq, eqb-yes, eqb-no}
+use Rattle.sets.specs.Laws.{byB}
 use Rattle.station_callbacks.specs.Callbacks.{flat}
 use Rattle.server_actions.specs.Actions.{Serving, serving, onState, send}
 use Rattle.server_actions.specs.declared.Counts.{Counts}

@@ -1,9 +1,9 @@
 -- What the server's step answers, as numbers for C: "Where an answer is an enum, the promises use a definition that gives this paper's
 -- number and values for each of its cases."
 use Prim.Native.Nat.{ℕ}
-use mathlib.Core.Path.{_≡_, refl, ap, _∙_}
+use mathlib.Core.Path.{_≡_, ap}
 use mathlib.Core.List.{List, [], _∷_}
-use mathlib.Core.Bool.{cond, true, false}
+use mathlib.Core.Bool.{cond, false}
 use lib.ListN.{length}
 use lib.Dec.{ltb}
 use lib.Seq.{sets}

@@ -1,12 +1,12 @@
 -- Where an edge more reaches no more stations, none does; and no edge leads from no station.
 use Prim.Native.Nat.{ℕ, zero, suc, _+_, _-_, _^_, _≤_}
 use mathlib.Core.Path.{_≡_, refl, sym, ap, _∙_}
-use mathlib.Core.Bool.{Bool, false, not, cond}
+use mathlib.Core.Bool.{false, not}
 use lib.Dec.{eqb}
 use mathlib.Core.List.{List}
 use native.Mathlib.Omega.{arith}
 use lib.ListN.{getD}
-use lib.Bits.{bitOr, and-zero-l}
+use lib.Bits.{and-zero-l}
 use Rattle.station_state.specs.Layout.{hasBit}
 use Rattle.server_order.specs.Order.{spreadTo, grownTo, onCycleB}
 

@@ -4,10 +4,8 @@ use mathlib.Core.Path.{_≡_, refl, sym, ap, _∙_}
 use mathlib.Core.Bool.{Bool, true, false, not, cond, false≢true}
 use mathlib.Core.List.{List}
 use native.Mathlib.Omega.{arith}
-use lib.ListN.{length}
 use lib.Dec.{eqb}
-use borrow.Author.Tests.{eq-eqb, ne-eqb}
-use Rattle.sets.specs.Laws.{byB, byEq, eqb-yes, eqb-no}
+use Rattle.sets.specs.Laws.{byB}
 use Rattle.line.specs.Fuel.{cost, cost-56}
 use Rattle.server_actions.specs.declared.Counts.{Counts}
 use Rattle.server_actions.specs.Actions.{Serving}

@@ -1,30 +1,29 @@
 -- A round: a pass, and the victim of a cycle if the pass sent nothing. "until nothing changes" is rounds until one sends nothing; what they
 -- cost falls with each (Fuel.antt of crate line), so that they end.
-use Prim.Native.Nat.{ℕ, zero, suc, _+_, _*_, _≤_, _<_}
+use Prim.Native.Nat.{ℕ, zero, suc, _+_, _≤_}
 use mathlib.Core.Path.{_≡_, refl, sym, ap, subst, _∙_}
-use mathlib.Core.Bool.{Bool, true, false, not, cond, false≢true}
-use mathlib.Core.List.{List, [], _∷_, _++_}
+use mathlib.Core.Bool.{true, false, not, cond, false≢true}
+use mathlib.Core.List.{List, [], _∷_}
 use native.Mathlib.Omega.{arith}
 use lib.ListN.{length, length-append}
 use lib.Dec.{eqb}
 use borrow.Author.Tests.{eq-eqb, ne-eqb}
-use Rattle.sets.specs.Laws.{byB, byEq, eqb-same, eqb-yes, eqb-no, not-yes, not-no}
+use Rattle.sets.specs.Laws.{byB, byEq, eqb-yes, eqb-no, not-no}
 use Rattle.cells.specs.Upd.{cond-rel, branch-rel}
-use Rattle.line.specs.Server.{Server, start, pass, order, victim, moved, abort}
+use Rattle.line.specs.Server.{start, pass, order, victim, moved, abort}
 use Rattle.line.specs.Server as Model
 use Rattle.line.specs.Pass.{order-8, victim-waits}
 use Rattle.line.specs.Fuel.{cost, Falls, pass-falls, abort-less}
 use Rattle.server_order.specs.Order.{victimB}
-use Rattle.server_actions.specs.declared.Counts.{Counts}
 use Rattle.server_actions.specs.Actions.{Serving, abortB}
 use Rattle.server_actions.specs.Pass.{orderB, passB, movedB, settleB}
-use Rattle.server_actions.specs.Posting.{from, behind, Acts, acts-not, acts-cond, acts-with, acts-then, acts-same, Posted, posted, post, posted-then, Room, room-first, room-next}
+use Rattle.server_actions.specs.Posting.{from, Acts, acts-not, acts-cond, acts-with, acts-then, acts-same}
 use Rattle.server_actions.specs.Parts.{acts-abort, acts-pass}
 use Rattle.server_meaning.specs.Meant.{meant}
 use Rattle.server_meaning.specs.Order.{victim-at}
 use Rattle.step_meaning.specs.Relation.{Serves}
 use Rattle.step_meaning.specs.Pass.{order-at, pass-means, moved-at, victim-means}
-use Rattle.server_pass.specs.Sane.{Sane, begun, after, state-of}
+use Rattle.server_pass.specs.Sane.{Sane, begun, after}
 
 abbrev pub passedB : Serving → Serving
 passedB x = passB (orderB (x .state) 8 0) x

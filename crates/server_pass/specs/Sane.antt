@@ -1,7 +1,7 @@
 -- What a state must be for a waiter's turn to be taken on it: it means a server that is sound. Every turn leaves such a state.
 use Prim.Native.Nat.{ℕ, zero, suc, _≤_, _<_}
 use mathlib.Core.Path.{_≡_, refl, ap}
-use mathlib.Core.List.{List, []}
+use mathlib.Core.List.{List}
 use native.Mathlib.Omega.{arith}
 use Rattle.line.specs.Server.{Server, start}
 use Rattle.line.specs.Server as Model

@@ -1,14 +1,13 @@
 -- The order of the waiting list in eight places: the stations that wait, then places of no station. A pass over the places is a pass over
 -- the list.
-use Prim.Native.Nat.{ℕ, zero, suc, _+_, _-_, _≤_, _<_}
+use Prim.Native.Nat.{ℕ, zero, suc, _+_, _-_, _<_}
 use mathlib.Core.Path.{_≡_, refl, sym, ap, _∙_}
-use mathlib.Core.Bool.{Bool, true, false, cond}
-use mathlib.Core.Logic.{_≢_}
+use mathlib.Core.Bool.{cond}
 use mathlib.Core.List.{List, [], _∷_, _++_, append-assoc, append-nil}
 use native.Mathlib.Omega.{arith}
 use native.Mathlib.Numerals.{add-one}
-use lib.ListN.{length, drop, getD, set, replicate, length-set, length-drop}
-use lib.Dec.{eqb, ltb}
+use lib.ListN.{length, drop, getD, set, replicate, length-set}
+use lib.Dec.{ltb}
 use borrow.Author.Tests.{lt-ltb, ne-eqb}
 use Rattle.sets.specs.Laws.{byB, ltb-yes}
 use Rattle.server_state.specs.Layout.{arrivalOf}
@@ -16,7 +15,7 @@ use Rattle.server_order.specs.Order.{firstTo}
 use Rattle.server_actions.specs.declared.Counts.{Counts}
 use Rattle.server_actions.specs.Actions.{Serving}
 use Rattle.server_actions.specs.Pass.{visitB, orderB, passB}
-use Rattle.server_actions.specs.Posting.{from, acts-not, Acts, acts-cond, Posted, posted, post, post-none, Room, Turns}
+use Rattle.server_actions.specs.Posting.{from, acts-not, Acts, acts-cond, posted, post, Turns}
 use Rattle.server_actions.specs.Parts.{acts-visit}
 use Rattle.server_pass.specs.Sane.{Sane, sane-visit, state-of}
 

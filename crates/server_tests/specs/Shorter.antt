@@ -1,13 +1,11 @@
 -- Questions answered by the bytes of a page at once.
 use Prim.Native.Nat.{ℕ, _+_, _*_, _<_}
-use mathlib.Core.Path.{_≡_, refl, sym, ap, _∙_}
-use mathlib.Core.Bool.{Bool, true, false, not, _&&_, _||_, cond, or-false}
+use mathlib.Core.Path.{_≡_, refl, sym, _∙_}
+use mathlib.Core.Bool.{true, false, not, _&&_, cond, or-false}
 use mathlib.Core.List.{List}
 use native.Mathlib.Omega.{arith}
-use lib.ListN.{getD}
 use lib.Dec.{eqb}
 use borrow.Author.Tests.{ne-eqb}
-use Rattle.sets.specs.Base.{any}
 use Rattle.sets.specs.Laws.{byB, and-l, and-r}
 use Rattle.le.specs.Le.{u64At}
 use Rattle.cells.specs.Bits.{tb, tb-zero}

@@ -1,25 +1,25 @@
 -- The calls of a waiter's turn, one after the other, leave what its definition gives; and there is room for each.
 use Prim.Native.Nat.{ℕ, _+_, _-_, _*_, _/_, _≤_, _<_}
 use mathlib.Core.Path.{_≡_, refl, sym, ap, _∙_}
-use mathlib.Core.Logic.{_≢_, inl, inr}
+use mathlib.Core.Logic.{_≢_, inr}
 use mathlib.Core.Bool.{Bool, true, false, not, _&&_, cond}
-use mathlib.Core.List.{List, [], _∷_}
+use mathlib.Core.List.{List, []}
 use native.Mathlib.Omega.{arith}
-use lib.ListN.{length, getD, set}
+use lib.ListN.{length, set}
 use lib.Seq.{sets, getD-set-other}
 use lib.Dec.{eqb}
-use borrow.Author.Tests.{eq-eqb, ne-eqb}
-use Rattle.sets.specs.Laws.{byB, byEq, eqb-yes, eqb-no, and-l, and-r, not-yes}
+use borrow.Author.Tests.{ne-eqb}
+use Rattle.sets.specs.Laws.{byB, byEq, eqb-no, and-l, and-r, not-yes}
 use Rattle.le.specs.Laws.{u32At-is, setU32-is}
 use Rattle.cells.specs.Num.{AllBytes, num-lt, num-frame, put-other}
 use Rattle.station_state.specs.Layout.{hasBit}
 use Rattle.station_state.specs.Changes.{pageOn}
-use Rattle.server_state.specs.Layout.{latestOf, lastOf, askedOf, wholeOf, wantOf, requestOf, calledOf, pendOf, otherB, wantedOn}
-use Rattle.server_tests.specs.Tests.{faultB, blockedB, shutB, shutOutB, concernedSet, hinderedB, unavailableB}
+use Rattle.server_state.specs.Layout.{latestOf, lastOf, askedOf, wholeOf, wantOf, requestOf, calledOf, otherB, wantedOn}
+use Rattle.server_tests.specs.Tests.{faultB, shutB, concernedSet, unavailableB}
 use Rattle.server_changes.specs.Changes.{leaveB, askedB, calledB, lockPageB, lockObjectB}
 use Rattle.server_actions.specs.declared.Counts.{Counts}
-use Rattle.server_actions.specs.Actions.{Serving, serving, onState, plain, deescalateB, callbackB, sendPageB, abortB, installB}
-use Rattle.server_actions.specs.Pass.{askB, askTo, serveReadB, callOneB, callTo, callB, callOnceB, grantPageB, grantObjectB, grantB, afterCallsB, proceedB, gatesB, visitB}
+use Rattle.server_actions.specs.Actions.{Serving, plain, deescalateB, callbackB, sendPageB, abortB}
+use Rattle.server_actions.specs.Pass.{askB, serveReadB, callOneB, callTo, callB, callOnceB, grantPageB, grantObjectB, afterCallsB, proceedB, gatesB, visitB}
 use Rattle.server_actions.specs.Posting.{from, acts-state, counts, Posted, posted, post, post-none, posted-then, Room, room-first, room-next}
 use Rattle.server_actions.specs.Parts.{acts-callOnce, acts-afterCalls}
 use Rattle.server_actions.specs.Chains.{one-fits, sent-chain}

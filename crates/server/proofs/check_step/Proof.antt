@@ -1,3 +1,4 @@
+-- `server::check_step` meets its contract.
 use mathlib.Core.Path.{sym, _∙_}
 use native.Mathlib.Omega.{arith}
 use Rattle.server_actions.specs.Step.{kindsOf}
@@ -5,40 +6,28 @@ use Rattle.server.specs.Facts.{readable, check-up, check-6, check-0}
 use borrow.Author.Needs.{needs}
 use Rattle.server.proofs.check_step.Statement.{statement}
 use Rattle.server.proofs.check_step.Tie as tie
-use Rattle.server.proofs.check_step.Reads as reads
-use Rattle.server.proofs.check_step.Lts as lts
-use Rattle.message.proofs.up_check.Reads as up-check-reads
-use Rattle.server_tests.proofs.unexpected.Reads as unexpected-reads
 
--- src/lib.rt:29:31
 sub-up-check : tie.Need-sub-up-check
 sub-up-check c = search needs
 
--- src/lib.rt:29:31
 part-up-check-start : tie.Need-part-up-check-start
 part-up-check-start c = search needs
 
--- src/lib.rt:29:31
 part-up-check-end : tie.Need-part-up-check-end
 part-up-check-end c = search needs
 
--- src/lib.rt:29:9
 up-check-requires : tie.Need-up-check-requires
 up-check-requires c κs = search needs
 
--- src/lib.rt:31:9
 returns : tie.Need-returns
 returns c = check-up _ _ (c .before .up-check .ensures) (c .if1 .taken)
 
--- src/lib.rt:33:8
 unexpected-requires : tie.Need-unexpected-requires
 unexpected-requires c κs = let r = readable (kindsOf (c .before .before .before .before .before .args .s .now)) _ (sym (c .before .up-check .ensures) ∙ c .if1 .left) in (c .before .before .before .before .before .pre, r .length-is, r .station, λ k. omega (arith, (r .commit k) .entries), r .page)
 
--- src/lib.rt:34:9
 returns-2 : tie.Need-returns-2
 returns-2 c = check-6 _ _ (c .before .before .before .up-check .ensures) (c .before .before .if1 .left) (sym (c .before .unexpected .ensures) ∙ c .if2 .taken)
 
--- src/lib.rt:25:1
 returns-3 : tie.Need-returns-3
 returns-3 c = check-0 _ _ (c .before .before .before .up-check .ensures) (c .before .before .if1 .left) (sym (c .before .unexpected .ensures) ∙ c .if2 .left)
 

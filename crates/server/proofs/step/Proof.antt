@@ -1,3 +1,4 @@
+-- `server::step` meets its contract.
 use mathlib.Core.Path.{sym, _∙_}
 use native.Mathlib.Omega.{arith}
 use borrow.Author.Tests.{not-true, not-false}
@@ -6,69 +7,49 @@ use Rattle.server.specs.Stepped.{call-1, call-n, call-sent}
 use borrow.Author.Needs.{needs}
 use Rattle.server.proofs.step.Statement.{statement}
 use Rattle.server.proofs.step.Tie as tie
-use Rattle.server.proofs.step.Reads as reads
-use Rattle.server.proofs.step.Lts as lts
-use Rattle.server.proofs.check_step.Reads as check-step-reads
-use Rattle.server.proofs.ready.Reads as ready-reads
-use Rattle.server.proofs.serve.Reads as serve-reads
 
--- src/lib.rt:56:9
 ready-requires : tie.Need-ready-requires
 ready-requires c κs = search needs
 
--- src/lib.rt:57:9
 same-length : tie.Need-same-length
 same-length c = search needs
 
--- src/lib.rt:57:9
 same-length-2 : tie.Need-same-length-2
 same-length-2 c = search needs
 
--- src/lib.rt:57:9
 same-length-3 : tie.Need-same-length-3
 same-length-3 c = search needs
 
--- src/lib.rt:57:9
 returns : tie.Need-returns
 returns c = call-1 _ _ _ _ (sym (c .before .ready .ensures) ∙ not-true (c .before .ready .result) (c .if1 .taken))
 
--- src/lib.rt:59:9
 check-step-requires : tie.Need-check-step-requires
 check-step-requires c κs = ready-size _ _ _ (sym (c .before .before .ready .ensures) ∙ not-false (c .before .before .ready .result) (c .before .if1 .left))
 
--- src/lib.rt:61:9
 same-length-4 : tie.Need-same-length-4
 same-length-4 c = search needs
 
--- src/lib.rt:61:9
 same-length-5 : tie.Need-same-length-5
 same-length-5 c = search needs
 
--- src/lib.rt:61:9
 same-length-6 : tie.Need-same-length-6
 same-length-6 c = search needs
 
--- src/lib.rt:61:9
 returns-2 : tie.Need-returns-2
 returns-2 c = call-n _ _ _ _ (sym (c .before .before .before .before .ready .ensures) ∙ not-false (c .before .before .before .before .ready .result) (c .before .before .before .if1 .left)) (c .before .check-step .ensures) (c .if2 .taken)
 
--- src/lib.rt:63:9
 serve-requires : tie.Need-serve-requires
 serve-requires c κs = ((sym (c .before .before .before .before .before .before .before .ready .ensures) ∙ not-false (c .before .before .before .before .before .before .before .ready .result) (c .before .before .before .before .before .before .if1 .left)), sym (c .before .before .before .before .check-step .ensures) ∙ c .before .before .before .if2 .left)
 
--- src/lib.rt:53:1
 same-length-7 : tie.Need-same-length-7
 same-length-7 c = search needs
 
--- src/lib.rt:53:1
 same-length-8 : tie.Need-same-length-8
 same-length-8 c = search needs
 
--- src/lib.rt:53:1
 same-length-9 : tie.Need-same-length-9
 same-length-9 c = search needs
 
--- src/lib.rt:53:1
 returns-3 : tie.Need-returns-3
 returns-3 c = call-sent _ _ _ _ (sym (c .before .before .before .before .before .before .before .before .before .before .before .before .before .before .ready .ensures) ∙ not-false (c .before .before .before .before .before .before .before .before .before .before .before .before .before .before .ready .result) (c .before .before .before .before .before .before .before .before .before .before .before .before .before .if1 .left)) (sym (c .before .before .before .before .before .before .before .before .before .before .before .check-step .ensures) ∙ c .before .before .before .before .before .before .before .before .before .before .if2 .left) (λ j. omega (arith, c .before .before .before .before .before .before .before .before .before .before .before .before .before .before .before .before .before .before .before .before .slice-known .given j)) (λ j. omega (arith, c .before .before .before .before .before .before .before .before .before .before .before .before .before .before .before .before .before .before .before .before .before .shared-slice-known .given j)) (c .before .before .before .before .before .before .serve .ensures)
 

@@ -1,5 +1,6 @@
+-- `server_actions::inform_all` meets its contract. The loop's invariant: what is posted is the definition's at the count of turns taken.
 use Prim.Native.Nat.{_≤_, _-_}
-use mathlib.Core.Path.{_≡_, ap, _∙_}
+use mathlib.Core.Path.{_≡_}
 use native.Mathlib.Omega.{arith}
 use borrow.Author.Needs.{needs}
 use lib.ListN.{length}
@@ -8,9 +9,6 @@ use Rattle.server_actions.specs.Posting.{from, posted, post, turn-none, 
 use Rattle.server_actions.specs.Parts.{turns-informs}
 use Rattle.server_actions.proofs.inform_all.Statement.{statement}
 use Rattle.server_actions.proofs.inform_all.Tie as tie
-use Rattle.server_actions.proofs.inform_all.Reads as reads
-use Rattle.server_actions.proofs.inform_all.Lts as lts
-use Rattle.server_actions.proofs.inform.Reads as inform-reads
 
 abbrev Inv-loop : tie.InvT-loop
 Inv-loop s₀ o₀ q₀ i d b₀ j₀ s o q b j = (j ≤ 8) × (length s ≡ length s₀) × (length o ≡ length o₀) × (length q ≡ length q₀) × (posted s o q b ≡ post o₀ q₀ b₀ (informTo i d (from s₀) j))
@@ -18,39 +16,30 @@ Inv-loop s₀ o₀ q₀ i d b₀ j₀ s o q b j = (j ≤ 8) × (length s ≡ len
 abbrev μ-loop : tie.MeasureT-loop
 μ-loop s₀ o₀ q₀ i d b₀ j₀ s o q b j = 8 - j
 
--- src/lib.rt:144:5
 loop-holds : tie.Need-loop-holds Inv-loop μ-loop
 loop-holds c = (search needs, search needs, search needs, search needs, turn-none (turns-informs _ _) _ _ _ _)
 
--- src/lib.rt:145:13
 inform-requires : tie.Need-inform-requires Inv-loop μ-loop
 inform-requires c κs = (search needs, search needs, search needs, turn-room (turns-informs _ _) _ _ _ _ 8 _ (c .before .before .before .before .loop .inv .4) (search needs) (c .before .before .before .before .before .before .before .before .pre .2))
 
--- src/lib.rt:147:9
 add-j : tie.Need-add-j Inv-loop μ-loop
 add-j c = search needs
 
--- src/lib.rt:144:5
 loop-less : tie.Need-loop-less Inv-loop μ-loop
 loop-less c = search needs
 
--- src/lib.rt:144:5
 loop-again : tie.Need-loop-again Inv-loop μ-loop
 loop-again c = (search needs, search needs, search needs, search needs, turn-posted (turns-informs _ _) _ _ _ _ 8 _ (c .before .before .before .before .before .before .before .before .before .before .before .loop .inv .4) (c .before .before .before .before .before .before .inform .ensures))
 
--- src/lib.rt:138:1
 same-length : tie.Need-same-length Inv-loop μ-loop
 same-length c = search needs
 
--- src/lib.rt:138:1
 same-length-2 : tie.Need-same-length-2 Inv-loop μ-loop
 same-length-2 c = search needs
 
--- src/lib.rt:138:1
 same-length-3 : tie.Need-same-length-3 Inv-loop μ-loop
 same-length-3 c = search needs
 
--- src/lib.rt:138:1
 returns : tie.Need-returns Inv-loop μ-loop
 returns c = turn-end (turns-informs _ _) _ _ _ _ 8 _ (c .before .loop .inv .4) (omega arith)
 

@@ -1,3 +1,4 @@
+-- `server_actions::put_installed` meets its contract.
 use mir.Val.{Fits}
 use mir.Syntax.{w64}
 use Prim.Native.Nat.{_*_, _<_}
@@ -7,77 +8,52 @@ use Rattle.server_actions.specs.Chains.{installed-fits, installed-chain}
 use borrow.Author.Needs.{needs}
 use Rattle.server_actions.proofs.put_installed.Statement.{statement}
 use Rattle.server_actions.proofs.put_installed.Tie as tie
-use Rattle.server_actions.proofs.put_installed.Reads as reads
-use Rattle.server_actions.proofs.put_installed.Lts as lts
-use Rattle.le.proofs.get_u32.Reads as get-u32-reads
-use Rattle.message.proofs.put_message.Reads as put-message-reads
-use Rattle.server_actions.proofs.archive.Reads as archive-reads
-use Rattle.server_actions.proofs.one_more.Reads as one-more-reads
-use Rattle.server_changes.proofs.finish.Reads as finish-reads
-use Rattle.server_changes.proofs.leave.Reads as leave-reads
-use Rattle.server_changes.proofs.write.Reads as write-reads
 
--- src/lib.rt:184:36
 mul-get-u32 : tie.Need-mul-get-u32
 mul-get-u32 c = search needs
 
--- src/lib.rt:184:28
 add-get-u32 : tie.Need-add-get-u32
 add-get-u32 c = search needs
 
--- src/lib.rt:184:9
 get-u32-requires : tie.Need-get-u32-requires
 get-u32-requires c κs = search needs
 
--- src/lib.rt:185:5
 write-requires : tie.Need-write-requires
 write-requires c κs = search needs
 
--- src/lib.rt:186:9
 archive-requires : tie.Need-archive-requires
 archive-requires c κs = (search needs, search needs, installed-fits _ _ _ _ _ (c .before .before .before .before .before .before .before .before .before .before .before .pre .3) .1)
 
--- src/lib.rt:187:5
 leave-requires : tie.Need-leave-requires
 leave-requires c κs = search needs
 
--- src/lib.rt:188:5
 finish-requires : tie.Need-finish-requires
 finish-requires c κs = search needs
 
--- src/lib.rt:189:9
 get-u32-requires-2 : tie.Need-get-u32-requires-2
 get-u32-requires-2 c κs = search needs
 
--- src/lib.rt:190:29
 mul-put-message : tie.Need-mul-put-message
 mul-put-message c = let h = installed-fits _ _ _ _ _ (c .before .before .before .before .before .before .before .before .before .before .before .before .before .before .before .before .before .before .before .before .before .before .before .before .before .before .pre .3) .0 in let k = ap (λ p. p .messages) (c .before .before .before .before .before .before .before .before .before .before .before .before .before .before .archive .ensures .1) in omega (arith, h, k)
 
--- src/lib.rt:190:51
 cast-put-message : tie.Need-cast-put-message
 cast-put-message c = search needs
 
--- src/lib.rt:190:5
 put-message-requires : tie.Need-put-message-requires
 put-message-requires c κs = let h = installed-fits _ _ _ _ _ (c .before .before .before .before .before .before .before .before .before .before .before .before .before .before .before .before .before .before .before .before .before .before .before .before .before .before .pre .3) .0 in let k = ap (λ p. p .messages) (c .before .before .before .before .before .before .before .before .before .before .before .before .before .before .archive .ensures .1) in omega (arith, h, k)
 
--- src/lib.rt:191:5
 one-more-requires : tie.Need-one-more-requires
 one-more-requires c κs = let b : Fits w64 (c .before .before .before .before .before .before .before .before .before .before .before .before .before .before .before .before .before .archive .result .messages * 112) = mul-put-message (c .before .before .before) in let g : c .before .before .before .before .before .before .before .before .before .before .before .before .before .before .before .before .before .archive .result .messages < 9223372036854775808 = omega (arith, b) in g
 
--- src/lib.rt:180:1
 same-length : tie.Need-same-length
 same-length c = search needs
 
--- src/lib.rt:180:1
 same-length-2 : tie.Need-same-length-2
 same-length-2 c = search needs
 
--- src/lib.rt:180:1
 same-length-3 : tie.Need-same-length-3
 same-length-3 c = search needs
 
--- src/lib.rt:180:1
 returns : tie.Need-returns
 returns c = installed-chain _ _ _ _ _ (c .before .before .before .before .before .before .before .before .before .before .before .before .before .before .before .before .before .before .before .before .before .before .before .before .before .get-u32 .ensures) (c .before .before .before .before .before .before .before .before .before .before .before .before .before .before .before .before .before .before .before .before .before .before .before .write .ensures) (c .before .before .before .before .before .before .before .before .before .before .before .before .before .before .before .before .before .before .archive .ensures) (c .before .before .before .before .before .before .before .before .before .before .before .before .before .before .leave .ensures) (c .before .before .before .before .before .before .before .before .before .before .finish .ensures) (c .before .before .before .before .before .before .get-u322 .ensures) (c .before .before .before .put-message .ensures) (c .one-more .ensures)
 

@@ -1,38 +1,27 @@
+-- `server_actions::send_page` meets its contract.
 use Rattle.server_actions.specs.Chains.{page-fits, page-chain}
 use borrow.Author.Needs.{needs}
 use Rattle.server_actions.proofs.send_page.Statement.{statement}
 use Rattle.server_actions.proofs.send_page.Tie as tie
-use Rattle.server_actions.proofs.send_page.Reads as reads
-use Rattle.server_actions.proofs.send_page.Lts as lts
-use Rattle.server_actions.proofs.one_more.Reads as one-more-reads
-use Rattle.server_actions.proofs.put_page.Reads as put-page-reads
-use Rattle.server_changes.proofs.list.Reads as list-reads
 
--- src/lib.rt:76:17
 mul-put-page : tie.Need-mul-put-page
 mul-put-page c = search needs
 
--- src/lib.rt:76:5
 put-page-requires : tie.Need-put-page-requires
 put-page-requires c κs = let h = page-fits _ _ _ _ _ _ _ _ (c .before .before .before .before .before .before .pre .3) in search needs
 
--- src/lib.rt:77:5
 list-requires : tie.Need-list-requires
 list-requires c κs = search needs
 
--- src/lib.rt:78:5
 one-more-requires : tie.Need-one-more-requires
 one-more-requires c κs = search needs
 
--- src/lib.rt:63:1
 same-length : tie.Need-same-length
 same-length c = search needs
 
--- src/lib.rt:63:1
 same-length-2 : tie.Need-same-length-2
 same-length-2 c = search needs
 
--- src/lib.rt:63:1
 returns : tie.Need-returns
 returns c = page-chain _ _ _ _ _ _ _ _ (c .before .before .before .before .before .before .before .put-page .ensures) (c .before .before .before .list .ensures) (c .one-more .ensures)
 

@@ -1,27 +1,21 @@
+-- `server_actions::written_page` meets its contract.
 use Rattle.server_actions.specs.Actions.{writtenPageB}
 use borrow.Author.Needs.{needs}
 use Rattle.server_actions.proofs.written_page.Statement.{statement}
 use Rattle.server_actions.proofs.written_page.Tie as tie
-use Rattle.server_actions.proofs.written_page.Reads as reads
-use Rattle.server_actions.proofs.written_page.Lts as lts
 
--- src/lib.rt:107:15
 mul-result : tie.Need-mul-result
 mul-result c = search needs
 
--- src/lib.rt:107:7
 add-result : tie.Need-add-result
 add-result c = search needs
 
--- src/lib.rt:107:7
 add-result-2 : tie.Need-add-result-2
 add-result-2 c = search needs
 
--- src/lib.rt:107:5
 shared-slice-read-result : tie.Need-shared-slice-read-result
 shared-slice-read-result c = search needs
 
--- src/lib.rt:103:1
 returns : tie.Need-returns
 unfolding writtenPageB
 returns c = search needs

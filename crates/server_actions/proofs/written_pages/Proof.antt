@@ -1,3 +1,4 @@
+-- `server_actions::written_pages` meets its contract. The loop's invariant: the mask is the definition's at the count of pages passed.
 use Prim.Native.Nat.{_≤_, _-_}
 use mathlib.Core.Path.{_≡_, ap, _∙_}
 use native.Mathlib.Numerals.{add-one}
@@ -7,10 +8,6 @@ use Rattle.server_actions.specs.Actions.{writtenPageB, writtenPagesB}
 use Rattle.cells.specs.Loops.{maskTo}
 use Rattle.server_actions.proofs.written_pages.Statement.{statement}
 use Rattle.server_actions.proofs.written_pages.Tie as tie
-use Rattle.server_actions.proofs.written_pages.Reads as reads
-use Rattle.server_actions.proofs.written_pages.Lts as lts
-use Rattle.server_actions.proofs.page_if.Reads as page-if-reads
-use Rattle.server_actions.proofs.written_page.Reads as written-page-reads
 
 abbrev Inv-loop : tie.InvT-loop
 Inv-loop s i d₀ p₀ d p = (p ≤ 32) × (d ≡ maskTo (writtenPageB s i) p)
@@ -18,33 +15,26 @@ Inv-loop s i d₀ p₀ d p = (p ≤ 32) × (d ≡ maskTo (writtenPageB s i) p)
 abbrev μ-loop : tie.MeasureT-loop
 μ-loop s i d₀ p₀ d p = 32 - p
 
--- src/lib.rt:117:5
 loop-holds : tie.Need-loop-holds Inv-loop μ-loop
 unfolding maskTo
 loop-holds c = search needs
 
--- src/lib.rt:118:22
 written-page-requires : tie.Need-written-page-requires Inv-loop μ-loop
 written-page-requires c κs = search needs
 
--- src/lib.rt:118:14
 page-if-requires : tie.Need-page-if-requires Inv-loop μ-loop
 page-if-requires c κs = search needs
 
--- src/lib.rt:119:9
 add-p : tie.Need-add-p Inv-loop μ-loop
 add-p c = search needs
 
--- src/lib.rt:117:5
 loop-less : tie.Need-loop-less Inv-loop μ-loop
 loop-less c = search needs
 
--- src/lib.rt:117:5
 loop-again : tie.Need-loop-again Inv-loop μ-loop
 unfolding maskTo
 loop-again c = (search needs, rw add-one (cc))
 
--- src/lib.rt:111:1
 returns : tie.Need-returns Inv-loop μ-loop
 unfolding writtenPagesB
 returns c = c .before .loop .inv .1 ∙ ap (maskTo _) (omega arith)

@@ -1,3 +1,4 @@
+-- `server_changes::free_on` meets its contract. The loop's invariant: the state is the definition's at the count of objects passed.
 use Prim.Native.Nat.{_≤_, _-_, _*_}
 use mathlib.Core.Path.{_≡_, sym, ap, _∙_}
 use native.Mathlib.Numerals.{add-one}
@@ -7,10 +8,6 @@ use lib.ListN.{length}
 use Rattle.server_changes.specs.Frees.{freeFrom, nothing-locked}
 use Rattle.server_changes.proofs.free_on.Statement.{statement}
 use Rattle.server_changes.proofs.free_on.Tie as tie
-use Rattle.server_changes.proofs.free_on.Reads as reads
-use Rattle.server_changes.proofs.free_on.Lts as lts
-use Rattle.le.proofs.get_u64.Reads as get-u64-reads
-use Rattle.server_changes.proofs.free_one.Reads as free-one-reads
 
 abbrev Inv-loop : tie.InvT-loop
 Inv-loop s₀ i p o₀ s o = (o ≤ 8) × (length s ≡ length s₀) × (s ≡ freeFrom i s₀ (p * 8) o)
@@ -18,61 +15,47 @@ Inv-loop s₀ i p o₀ s o = (o ≤ 8) × (length s ≡ length s₀) × (s ≡ f
 abbrev μ-loop : tie.MeasureT-loop
 μ-loop s₀ i p o₀ s o = 8 - o
 
--- src/lib.rt:85:31
 mul-get-u64 : tie.Need-mul-get-u64 Inv-loop μ-loop
 mul-get-u64 c = search needs
 
--- src/lib.rt:85:23
 add-get-u64 : tie.Need-add-get-u64 Inv-loop μ-loop
 add-get-u64 c = search needs
 
--- src/lib.rt:85:8
 get-u64-requires : tie.Need-get-u64-requires Inv-loop μ-loop
 get-u64-requires c κs = search needs
 
--- src/lib.rt:86:9
 same-length : tie.Need-same-length Inv-loop μ-loop
 same-length c = search needs
 
--- src/lib.rt:86:9
 returns : tie.Need-returns Inv-loop μ-loop
 returns c = nothing-locked _ _ _ (sym (c .before .get-u64 .ensures) ∙ c .if1 .taken)
 
--- src/lib.rt:89:5
 loop-holds : tie.Need-loop-holds Inv-loop μ-loop
 unfolding freeFrom
 loop-holds c = search needs
 
--- src/lib.rt:90:24
 mul-free-one : tie.Need-mul-free-one Inv-loop μ-loop
 mul-free-one c = search needs
 
--- src/lib.rt:90:24
 add-free-one : tie.Need-add-free-one Inv-loop μ-loop
 add-free-one c = search needs
 
--- src/lib.rt:90:9
 free-one-requires : tie.Need-free-one-requires Inv-loop μ-loop
 free-one-requires c κs = search needs
 
--- src/lib.rt:91:9
 add-o : tie.Need-add-o Inv-loop μ-loop
 add-o c = search needs
 
--- src/lib.rt:89:5
 loop-less : tie.Need-loop-less Inv-loop μ-loop
 loop-less c = search needs
 
--- src/lib.rt:89:5
 loop-again : tie.Need-loop-again Inv-loop μ-loop
 unfolding freeFrom
 loop-again c = (search needs, search needs, rw (add-one (c .before .before .before .before .before .loop .o)) (cc))
 
--- src/lib.rt:81:1
 same-length-2 : tie.Need-same-length-2 Inv-loop μ-loop
 same-length-2 c = search needs
 
--- src/lib.rt:81:1
 returns-2 : tie.Need-returns-2 Inv-loop μ-loop
 returns-2 c = c .before .loop .inv .2 ∙ ap (freeFrom _ _ _) (omega arith)
 

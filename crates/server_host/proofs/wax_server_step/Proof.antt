@@ -1,43 +1,32 @@
+-- `server_host::wax_server_step` meets its contract.
 use borrow.Author.Tests.{lt-ltb, le-ltb}
 use Rattle.server_host.specs.Host.{hostOf, host-made}
 use borrow.Author.Needs.{needs}
 use Rattle.server_host.proofs.wax_server_step.Statement.{statement}
 use Rattle.server_host.proofs.wax_server_step.Tie as tie
-use Rattle.server_host.proofs.wax_server_step.Reads as reads
-use Rattle.server_host.proofs.wax_server_step.Lts as lts
-use Rattle.server.proofs.step.Reads as step-reads
-use Rattle.server_host.proofs.tell.Reads as tell-reads
 
--- src/lib.rt:48:9
 returns : tie.Need-returns
 unfolding hostOf
 returns c = simp (lt-ltb _ _ (c .if1 .taken))
 
--- src/lib.rt:50:9
 step-requires : tie.Need-step-requires
 step-requires c κs = search needs
 
--- src/lib.rt:51:5
 tell-requires : tie.Need-tell-requires
 tell-requires c κs = search needs
 
--- src/lib.rt:37:1
 same-length : tie.Need-same-length
 same-length c = search needs
 
--- src/lib.rt:37:1
 same-length-2 : tie.Need-same-length-2
 same-length-2 c = search needs
 
--- src/lib.rt:37:1
 same-length-3 : tie.Need-same-length-3
 same-length-3 c = search needs
 
--- src/lib.rt:37:1
 same-length-4 : tie.Need-same-length-4
 same-length-4 c = search needs
 
--- src/lib.rt:37:1
 returns-2 : tie.Need-returns-2
 returns-2 c = host-made _ _ _ _ (c .before .before .before .before .before .before .before .before .before .before .step .result) (le-ltb _ _ (c .before .before .before .before .before .before .before .before .before .before .before .before .before .before .if1 .left)) (c .before .before .before .before .before .before .before .before .before .before .step .ensures) (c .before .before .tell .ensures)
 

@@ -1,3 +1,4 @@
+-- `server_order::grown` meets its contract. The loop's invariant: the set is the definition's at the count of edges.
 use Prim.Native.Nat.{_≤_, _-_}
 use mathlib.Core.Path.{_≡_, ap, _∙_}
 use native.Mathlib.Numerals.{add-one}
@@ -7,9 +8,6 @@ use Rattle.server_order.specs.Order.{grownTo}
 use Rattle.server_order.specs.Still.{grown-still}
 use Rattle.server_order.proofs.grown.Statement.{statement}
 use Rattle.server_order.proofs.grown.Tie as tie
-use Rattle.server_order.proofs.grown.Reads as reads
-use Rattle.server_order.proofs.grown.Lts as lts
-use Rattle.server_order.proofs.spread.Reads as spread-reads
 
 abbrev Inv-loop : tie.InvT-loop
 Inv-loop e r x₀ n₀ x n = (n ≤ 8) × (x ≡ grownTo e r n)
@@ -17,33 +15,26 @@ Inv-loop e r x₀ n₀ x n = (n ≤ 8) × (x ≡ grownTo e r n)
 abbrev μ-loop : tie.MeasureT-loop
 μ-loop e r x₀ n₀ x n = 8 - n
 
--- src/lib.rt:87:5
 loop-holds : tie.Need-loop-holds Inv-loop μ-loop
 unfolding grownTo
 loop-holds c = search needs
 
--- src/lib.rt:88:13
 spread-requires : tie.Need-spread-requires Inv-loop μ-loop
 spread-requires c κs = search needs
 
--- src/lib.rt:90:13
 returns : tie.Need-returns Inv-loop μ-loop
 returns c = grown-still _ _ _ _ (c .before .before .before .loop .inv .0) (c .before .before .before .loop .inv .1) (c .before .spread .ensures) (c .if1 .taken)
 
--- src/lib.rt:93:9
 add-n : tie.Need-add-n Inv-loop μ-loop
 add-n c = search needs
 
--- src/lib.rt:87:5
 loop-less : tie.Need-loop-less Inv-loop μ-loop
 loop-less c = search needs
 
--- src/lib.rt:87:5
 loop-again : tie.Need-loop-again Inv-loop μ-loop
 unfolding grownTo
 loop-again c = (search needs, rw (add-one (c .before .before .before .loop .n)) (cc))
 
--- src/lib.rt:82:1
 returns-2 : tie.Need-returns-2 Inv-loop μ-loop
 returns-2 c = c .before .loop .inv .1 ∙ ap (grownTo _ _) (omega arith)
 

@@ -1,47 +1,36 @@
+-- `server_pass::break_cycle` meets its contract.
 use Rattle.server_visit.specs.Visits.{yes-post}
 use Rattle.server_pass.specs.Calls.{victim-room, victim-posted}
-use mathlib.Core.Path.{_≡_, sym, ap, _∙_}
-use borrow.Author.Tests.{eq-eqb, ne-eqb, lt-ltb, le-ltb}
+use mathlib.Core.Path.{sym, _∙_}
+use borrow.Author.Tests.{eq-eqb}
 use Rattle.server_actions.specs.Posting.{post-none}
 use Rattle.server_pass.specs.Rounds.{brokenB}
 use borrow.Author.Needs.{needs}
 use Rattle.server_pass.proofs.break_cycle.Statement.{statement}
 use Rattle.server_pass.proofs.break_cycle.Tie as tie
-use Rattle.server_pass.proofs.break_cycle.Reads as reads
-use Rattle.server_pass.proofs.break_cycle.Lts as lts
-use Rattle.server_actions.proofs.abort.Reads as abort-reads
-use Rattle.server_order.proofs.victim.Reads as victim-reads
 
--- src/lib.rt:74:9
 victim-requires : tie.Need-victim-requires
 victim-requires c κs = search needs
 
--- src/lib.rt:76:9
 same-length : tie.Need-same-length
 same-length c = search needs
 
--- src/lib.rt:76:9
 returns : tie.Need-returns
 unfolding brokenB
 returns c = yes-post _ _ _ _ _ _ (eq-eqb _ _ (sym (c .before .victim .ensures .0) ∙ c .if1 .taken)) (post-none _ _ _ _)
 
--- src/lib.rt:78:5
 abort-requires : tie.Need-abort-requires
 abort-requires c κs = (search needs, search needs, victim-room _ _ _ _ (c .before .before .before .before .victim .ensures .0) (c .before .before .before .if1 .left) (c .before .before .before .before .before .before .before .before .before .pre .1))
 
--- src/lib.rt:70:1
 same-length-2 : tie.Need-same-length-2
 same-length-2 c = search needs
 
--- src/lib.rt:70:1
 same-length-3 : tie.Need-same-length-3
 same-length-3 c = search needs
 
--- src/lib.rt:70:1
 same-length-4 : tie.Need-same-length-4
 same-length-4 c = search needs
 
--- src/lib.rt:70:1
 returns-2 : tie.Need-returns-2
 returns-2 c = victim-posted _ _ _ _ (c .before .before .before .before .before .before .before .before .before .before .before .victim .ensures .0) (c .before .before .before .before .before .before .before .before .before .before .if1 .left) (c .before .before .before .before .before .before .abort .ensures)
 

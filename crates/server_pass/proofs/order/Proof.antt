@@ -1,16 +1,12 @@
+-- `server_pass::order` meets its contract. The loop's invariant: so many places are taken, in order.
 use Prim.Native.Nat.{_≤_, _-_, _+_}
 use mathlib.Core.Bool.{cond}
-use mathlib.Core.Path.{_≡_, sym, ap, _∙_}
+use mathlib.Core.Path.{sym, _∙_}
 use native.Mathlib.Omega.{arith}
 use borrow.Author.Needs.{needs}
-use lib.ListN.{length}
 use Rattle.server_pass.specs.Seats.{Placed, placed-none, placed-next, placed-end, placed-all}
 use Rattle.server_pass.proofs.order.Statement.{statement}
 use Rattle.server_pass.proofs.order.Tie as tie
-use Rattle.server_pass.proofs.order.Reads as reads
-use Rattle.server_pass.proofs.order.Lts as lts
-use Rattle.le.proofs.get_u64.Reads as get-u64-reads
-use Rattle.server_order.proofs.first.Reads as first-reads
 
 abbrev Inv-loop : tie.InvT-loop
 Inv-loop s l₀ any₀ a₀ n₀ l any a n = (n ≤ 8) × Placed s n (cond any 0 (a + 1)) l
@@ -18,51 +14,39 @@ Inv-loop s l₀ any₀ a₀ n₀ l any a n = (n ≤ 8) × Placed s n (cond any 0
 abbrev μ-loop : tie.MeasureT-loop
 μ-loop s l₀ any₀ a₀ n₀ l any a n = 8 - n
 
--- src/lib.rt:22:5
 loop-holds : tie.Need-loop-holds Inv-loop μ-loop
 loop-holds c = (search needs, placed-none _)
 
--- src/lib.rt:23:13
 first-requires : tie.Need-first-requires Inv-loop μ-loop
 first-requires c κs = search needs
 
--- src/lib.rt:25:13
 returns : tie.Need-returns Inv-loop μ-loop
 returns c = (c .before .before .before .loop .inv .1 .length-is, placed-end _ _ _ _ (c .before .before .before .loop .inv .1) (search needs) (sym (c .before .first .ensures .0) ∙ c .if1 .taken))
 
--- src/lib.rt:27:16
 cast-l : tie.Need-cast-l Inv-loop μ-loop
 cast-l c = search needs
 
--- src/lib.rt:27:9
 array-write-l : tie.Need-array-write-l Inv-loop μ-loop
 array-write-l c = omega (arith, c .before .before .before .loop .inv .1 .length-is)
 
--- src/lib.rt:28:36
 mul-get-u64 : tie.Need-mul-get-u64 Inv-loop μ-loop
 mul-get-u64 c = search needs
 
--- src/lib.rt:28:28
 add-get-u64 : tie.Need-add-get-u64 Inv-loop μ-loop
 add-get-u64 c = search needs
 
--- src/lib.rt:28:9
 get-u64-requires : tie.Need-get-u64-requires Inv-loop μ-loop
 get-u64-requires c κs = search needs
 
--- src/lib.rt:30:9
 add-n : tie.Need-add-n Inv-loop μ-loop
 add-n c = search needs
 
--- src/lib.rt:22:5
 loop-less : tie.Need-loop-less Inv-loop μ-loop
 loop-less c = search needs
 
--- src/lib.rt:22:5
 loop-again : tie.Need-loop-again Inv-loop μ-loop
 loop-again c = (search needs, rw (c .get-u64 .ensures) (placed-next _ _ _ _ (c .before .before .before .before .loop .inv .1) (search needs) (c .before .before .first .ensures .0) (search needs)))
 
--- src/lib.rt:14:1
 returns-2 : tie.Need-returns-2 Inv-loop μ-loop
 returns-2 c = (c .before .loop .inv .1 .length-is, placed-all _ _ _ _ (c .before .loop .inv .1) (omega arith))
 

@@ -1,35 +1,26 @@
-use mathlib.Core.Path.{_≡_, sym, ap, _∙_}
+-- `server_pass::pass` meets its contract.
+use mathlib.Core.Path.{ap, _∙_}
 use Rattle.server_actions.specs.Posting.{post}
 use Rattle.server_pass.specs.Calls.{passed-is}
 use borrow.Author.Needs.{needs}
 use Rattle.server_pass.proofs.pass.Statement.{statement}
 use Rattle.server_pass.proofs.pass.Tie as tie
-use Rattle.server_pass.proofs.pass.Reads as reads
-use Rattle.server_pass.proofs.pass.Lts as lts
-use Rattle.server_pass.proofs.order.Reads as order-reads
-use Rattle.server_pass.proofs.pass_places.Reads as pass-places-reads
 
--- src/lib.rt:65:13
 order-requires : tie.Need-order-requires
 order-requires c κs = search needs
 
--- src/lib.rt:66:5
 pass-places-requires : tie.Need-pass-places-requires
 pass-places-requires c κs = (search needs, c .before .before .before .before .before .before .before .before .before .pre .1, rw (passed-is _ _ (c .before .before .before .before .order .ensures .0) (c .before .before .before .before .order .ensures .1)) (c .before .before .before .before .before .before .before .before .before .pre .2))
 
--- src/lib.rt:61:1
 same-length : tie.Need-same-length
 same-length c = search needs
 
--- src/lib.rt:61:1
 same-length-2 : tie.Need-same-length-2
 same-length-2 c = search needs
 
--- src/lib.rt:61:1
 same-length-3 : tie.Need-same-length-3
 same-length-3 c = search needs
 
--- src/lib.rt:61:1
 returns : tie.Need-returns
 returns c = c .before .before .before .before .before .before .pass-places .ensures ∙ ap (post _ _ _) (passed-is _ _ (c .before .before .before .before .before .before .before .before .before .before .before .order .ensures .0) (c .before .before .before .before .before .before .before .before .before .before .before .order .ensures .1))
 

@@ -1,5 +1,6 @@
+-- `server_pass::pass_places` meets its contract. The loop's invariant: what is posted is the definition's at the count of turns taken.
 use Prim.Native.Nat.{_≤_, _-_}
-use mathlib.Core.Path.{_≡_, sym, ap, _∙_}
+use mathlib.Core.Path.{_≡_}
 use native.Mathlib.Omega.{arith}
 use borrow.Author.Needs.{needs}
 use lib.ListN.{length}
@@ -8,9 +9,6 @@ use Rattle.server_pass.specs.Sane.{Sane}
 use Rattle.server_pass.specs.Seats.{passTo, turns-places, turn-sane}
 use Rattle.server_pass.proofs.pass_places.Statement.{statement}
 use Rattle.server_pass.proofs.pass_places.Tie as tie
-use Rattle.server_pass.proofs.pass_places.Reads as reads
-use Rattle.server_pass.proofs.pass_places.Lts as lts
-use Rattle.server_pass.proofs.turn.Reads as turn-reads
 
 abbrev Inv-loop : tie.InvT-loop
 Inv-loop s₀ o₀ q₀ l b₀ n₀ s o q b n = (n ≤ 8) × (length s ≡ length s₀) × (length o ≡ length o₀) × (length q ≡ length q₀) × Sane s × (posted s o q b ≡ post o₀ q₀ b₀ (passTo l (from s₀) n))
@@ -18,43 +16,33 @@ Inv-loop s₀ o₀ q₀ l b₀ n₀ s o q b n = (n ≤ 8) × (length s ≡ lengt
 abbrev μ-loop : tie.MeasureT-loop
 μ-loop s₀ o₀ q₀ l b₀ n₀ s o q b n = 8 - n
 
--- src/lib.rt:52:5
 loop-holds : tie.Need-loop-holds Inv-loop μ-loop
 loop-holds c = (search needs, search needs, search needs, search needs, c .before .before .before .pre .1, turn-none (turns-places _) _ _ _ _)
 
--- src/lib.rt:53:34
 element-copy-out-turn : tie.Need-element-copy-out-turn Inv-loop μ-loop
 element-copy-out-turn c = search needs
 
--- src/lib.rt:53:13
 turn-requires : tie.Need-turn-requires Inv-loop μ-loop
 turn-requires c κs = (search needs, c .before .before .before .before .before .loop .inv .4, turn-room (turns-places _) _ _ _ _ 8 _ (c .before .before .before .before .before .loop .inv .5) (search needs) (c .before .before .before .before .before .before .before .before .before .pre .2))
 
--- src/lib.rt:55:9
 add-n : tie.Need-add-n Inv-loop μ-loop
 add-n c = search needs
 
--- src/lib.rt:52:5
 loop-less : tie.Need-loop-less Inv-loop μ-loop
 loop-less c = search needs
 
--- src/lib.rt:52:5
 loop-again : tie.Need-loop-again Inv-loop μ-loop
 loop-again c = (search needs, search needs, search needs, search needs, turn-sane _ _ _ _ _ (c .before .before .before .before .before .before .turn .ensures) (c .before .before .before .before .before .before .before .before .before .before .before .before .loop .inv .4), turn-posted (turns-places _) _ _ _ _ 8 _ (c .before .before .before .before .before .before .before .before .before .before .before .before .loop .inv .5) (c .before .before .before .before .before .before .turn .ensures))
 
--- src/lib.rt:46:1
 same-length : tie.Need-same-length Inv-loop μ-loop
 same-length c = search needs
 
--- src/lib.rt:46:1
 same-length-2 : tie.Need-same-length-2 Inv-loop μ-loop
 same-length-2 c = search needs
 
--- src/lib.rt:46:1
 same-length-3 : tie.Need-same-length-3 Inv-loop μ-loop
 same-length-3 c = search needs
 
--- src/lib.rt:46:1
 returns : tie.Need-returns Inv-loop μ-loop
 returns c = turn-end (turns-places _) _ _ _ _ 8 _ (c .before .loop .inv .5) (omega arith)
 

@@ -1,49 +1,36 @@
+-- `server_pass::round` meets its contract.
 use Rattle.server_pass.specs.Calls.{round-passes, round-sends, round-breaks, round-broken}
 use borrow.Author.Needs.{needs}
 use Rattle.server_pass.proofs.round.Statement.{statement}
 use Rattle.server_pass.proofs.round.Tie as tie
-use Rattle.server_pass.proofs.round.Reads as reads
-use Rattle.server_pass.proofs.round.Lts as lts
-use Rattle.server_pass.proofs.break_cycle.Reads as break-cycle-reads
-use Rattle.server_pass.proofs.pass.Reads as pass-reads
 
--- src/lib.rt:86:9
 pass-requires : tie.Need-pass-requires
 pass-requires c κs = (search needs, c .before .before .before .before .before .before .pre .1, round-passes _ _ _ _ (c .before .before .before .before .before .before .pre .2))
 
--- src/lib.rt:88:9
 same-length : tie.Need-same-length
 same-length c = search needs
 
--- src/lib.rt:88:9
 same-length-2 : tie.Need-same-length-2
 same-length-2 c = search needs
 
--- src/lib.rt:88:9
 same-length-3 : tie.Need-same-length-3
 same-length-3 c = search needs
 
--- src/lib.rt:88:9
 returns : tie.Need-returns
 returns c = round-sends _ _ _ _ (c .before .before .before .before .before .before .before .before .before .pass .ensures) (c .if1 .taken)
 
--- src/lib.rt:90:5
 break-cycle-requires : tie.Need-break-cycle-requires
 break-cycle-requires c κs = (search needs, round-breaks _ _ _ _ (c .before .before .before .before .before .before .before .before .before .before .before .before .pass .ensures) (c .before .before .before .if1 .left) (c .before .before .before .before .before .before .before .before .before .before .before .before .before .before .before .before .before .before .before .pre .2))
 
--- src/lib.rt:82:1
 same-length-4 : tie.Need-same-length-4
 same-length-4 c = search needs
 
--- src/lib.rt:82:1
 same-length-5 : tie.Need-same-length-5
 same-length-5 c = search needs
 
--- src/lib.rt:82:1
 same-length-6 : tie.Need-same-length-6
 same-length-6 c = search needs
 
--- src/lib.rt:82:1
 returns-2 : tie.Need-returns-2
 returns-2 c = round-broken _ _ _ _ (c .before .before .before .before .before .before .before .before .before .before .before .before .before .before .before .before .before .before .before .pass .ensures) (c .before .before .before .before .before .before .before .before .before .before .if1 .left) (c .before .before .before .before .before .before .break-cycle .ensures)
 

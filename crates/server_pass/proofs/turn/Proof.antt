@@ -1,5 +1,5 @@
-use mathlib.Core.Path.{_≡_, sym, ap, _∙_}
-use borrow.Author.Tests.{eq-eqb, ne-eqb, lt-ltb, le-ltb}
+-- `server_pass::turn` meets its contract.
+use borrow.Author.Tests.{lt-ltb, le-ltb}
 use Rattle.server_actions.specs.Posting.{post-none}
 use Rattle.server_visit.specs.Visits.{yes-room, yes-post, no-post}
 use Rattle.server_pass.specs.Sane.{held}
@@ -7,33 +7,24 @@ use Rattle.server_pass.specs.Seats.{turnB}
 use borrow.Author.Needs.{needs}
 use Rattle.server_pass.proofs.turn.Statement.{statement}
 use Rattle.server_pass.proofs.turn.Tie as tie
-use Rattle.server_pass.proofs.turn.Reads as reads
-use Rattle.server_pass.proofs.turn.Lts as lts
-use Rattle.server_visit.proofs.visit.Reads as visit-reads
 
--- src/lib.rt:41:9
 visit-requires : tie.Need-visit-requires
 unfolding turnB
 visit-requires c κs = (search needs, search needs, held (c .before .before .before .before .before .before .before .pre .1), c .before .before .before .before .before .before .before .pre .1 .wanting _ (c .before .before .before .if1 .taken), yes-room _ _ _ _ _ _ (lt-ltb _ _ (c .before .before .before .if1 .taken)) (c .before .before .before .before .before .before .before .pre .2))
 
--- src/lib.rt:41:9
 same-length : tie.Need-same-length
 same-length c = search needs
 
--- src/lib.rt:41:9
 same-length-2 : tie.Need-same-length-2
 same-length-2 c = search needs
 
--- src/lib.rt:41:9
 same-length-3 : tie.Need-same-length-3
 same-length-3 c = search needs
 
--- src/lib.rt:41:9
 returns : tie.Need-returns
 unfolding turnB
 returns c = yes-post _ _ _ _ _ _ (lt-ltb _ _ (c .before .before .before .before .before .before .before .before .before .before .if1 .taken)) (c .before .before .before .before .before .before .visit .ensures)
 
--- src/lib.rt:36:1
 returns-2 : tie.Need-returns-2
 unfolding turnB
 returns-2 c = no-post _ _ _ _ _ _ (le-ltb _ _ (c .if1 .left)) (post-none _ _ _ _)

@@ -1,3 +1,4 @@
+-- `server_state::apart_ok` meets its contract. The loop's invariant: the answer is the definition's at the count of stations passed.
 use Prim.Native.Nat.{_≤_, _-_}
 use mathlib.Core.Path.{_≡_, ap, _∙_}
 use native.Mathlib.Numerals.{add-one}
@@ -8,9 +9,6 @@ use Rattle.server_state.specs.Valid.{apartAt, apartOk}
 use Rattle.server_state.specs.Facts.{apart-idle}
 use Rattle.server_state.proofs.apart_ok.Statement.{statement}
 use Rattle.server_state.proofs.apart_ok.Tie as tie
-use Rattle.server_state.proofs.apart_ok.Reads as reads
-use Rattle.server_state.proofs.apart_ok.Lts as lts
-use Rattle.server_state.proofs.apart_at.Reads as apart-at-reads
 
 abbrev Inv-loop : tie.InvT-loop
 Inv-loop s i ok₀ j₀ ok j = (j ≤ 8) × (ok ≡ allTo (apartAt s i) j)
@@ -18,49 +16,38 @@ Inv-loop s i ok₀ j₀ ok j = (j ≤ 8) × (ok ≡ allTo (apartAt s i) j)
 abbrev μ-loop : tie.MeasureT-loop
 μ-loop s i ok₀ j₀ ok j = 8 - j
 
--- src/lib.rt:166:11
 add-if1 : tie.Need-add-if1 Inv-loop μ-loop
 add-if1 c = search needs
 
--- src/lib.rt:166:9
 shared-slice-read-if1 : tie.Need-shared-slice-read-if1 Inv-loop μ-loop
 shared-slice-read-if1 c = search needs
 
--- src/lib.rt:166:33
 add-if1-2 : tie.Need-add-if1-2 Inv-loop μ-loop
 add-if1-2 c = search needs
 
--- src/lib.rt:166:31
 shared-slice-read-if1-2 : tie.Need-shared-slice-read-if1-2 Inv-loop μ-loop
 shared-slice-read-if1-2 c = search needs
 
--- src/lib.rt:167:9
 returns : tie.Need-returns Inv-loop μ-loop
 returns c = apart-idle _ _ (c .if1 .taken)
 
--- src/lib.rt:171:5
 loop-holds : tie.Need-loop-holds Inv-loop μ-loop
 unfolding allTo
 loop-holds c = search needs
 
--- src/lib.rt:172:15
 apart-at-requires : tie.Need-apart-at-requires Inv-loop μ-loop
 apart-at-requires c κs = search needs
 
--- src/lib.rt:173:9
 add-j : tie.Need-add-j Inv-loop μ-loop
 add-j c = search needs
 
--- src/lib.rt:171:5
 loop-less : tie.Need-loop-less Inv-loop μ-loop
 loop-less c = search needs
 
--- src/lib.rt:171:5
 loop-again : tie.Need-loop-again Inv-loop μ-loop
 unfolding allTo
 loop-again c = (search needs, rw add-one (cc))
 
--- src/lib.rt:162:1
 returns-2 : tie.Need-returns-2 Inv-loop μ-loop
 unfolding apartOk
 returns-2 c = c .before .loop .inv .1 ∙ ap (allTo _) (omega arith)

@@ -1,34 +1,24 @@
-use mathlib.Core.Path.{sym}
+-- `server_state::page_ok` meets its contract.
 use Rattle.server_state.specs.Facts.{page-free, page-held}
 use borrow.Author.Needs.{needs}
 use Rattle.server_state.proofs.page_ok.Statement.{statement}
 use Rattle.server_state.proofs.page_ok.Tie as tie
-use Rattle.server_state.proofs.page_ok.Reads as reads
-use Rattle.server_state.proofs.page_ok.Lts as lts
-use Rattle.server_state.proofs.besides_ok.Reads as besides-ok-reads
-use Rattle.server_state.proofs.holders_ok.Reads as holders-ok-reads
 
--- src/lib.rt:128:10
 add-if1 : tie.Need-add-if1
 add-if1 c = search needs
 
--- src/lib.rt:128:8
 shared-slice-read-if1 : tie.Need-shared-slice-read-if1
 shared-slice-read-if1 c = search needs
 
--- src/lib.rt:129:9
 returns : tie.Need-returns
 returns c = page-free _ _ (c .if1 .taken)
 
--- src/lib.rt:131:5
 besides-ok-requires : tie.Need-besides-ok-requires
 besides-ok-requires c κs = search needs
 
--- src/lib.rt:131:24
 holders-ok-requires : tie.Need-holders-ok-requires
 holders-ok-requires c κs = search needs
 
--- src/lib.rt:124:1
 returns-2 : tie.Need-returns-2
 returns-2 c = rw (page-held _ _ (c .before .before .if1 .left)) (cc)
 

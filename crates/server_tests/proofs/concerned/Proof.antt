@@ -1,29 +1,22 @@
+-- `server_tests::concerned` meets its contract.
 use mathlib.Core.Path.{sym, _∙_}
 use Rattle.server_tests.specs.Shorter.{concerned-yes, concerned-no}
 use borrow.Author.Needs.{needs}
 use Rattle.server_tests.proofs.concerned.Statement.{statement}
 use Rattle.server_tests.proofs.concerned.Tie as tie
-use Rattle.server_tests.proofs.concerned.Reads as reads
-use Rattle.server_tests.proofs.concerned.Lts as lts
-use Rattle.server_tests.proofs.concerns.Reads as concerns-reads
 
--- src/lib.rt:404:22
 add-if1 : tie.Need-add-if1
 add-if1 c = search needs
 
--- src/lib.rt:404:20
 shared-slice-read-if1 : tie.Need-shared-slice-read-if1
 shared-slice-read-if1 c = search needs
 
--- src/lib.rt:405:9
 concerns-requires : tie.Need-concerns-requires
 concerns-requires c κs = search needs
 
--- src/lib.rt:405:9
 returns : tie.Need-returns
 returns c = c .concerns .ensures ∙ sym (concerned-yes _ _ _ (c .before .if1 .taken))
 
--- src/lib.rt:400:1
 returns-2 : tie.Need-returns-2
 returns-2 c = sym (concerned-no _ _ _ (c .if1 .left))
 

@@ -1,5 +1,6 @@
+-- `server_tests::concerns` meets its contract. The loop's invariant: the answer is the definition's at the count of pages passed.
 use Prim.Native.Nat.{_≤_, _-_}
-use mathlib.Core.Path.{_≡_, sym, ap, _∙_}
+use mathlib.Core.Path.{_≡_, ap, _∙_}
 use native.Mathlib.Numerals.{add-one}
 use native.Mathlib.Omega.{arith}
 use borrow.Author.Needs.{needs}
@@ -7,9 +8,6 @@ use Rattle.cells.specs.Loops.{anyTo}
 use Rattle.server_tests.specs.Tests.{concernsAt}
 use Rattle.server_tests.proofs.concerns.Statement.{statement}
 use Rattle.server_tests.proofs.concerns.Tie as tie
-use Rattle.server_tests.proofs.concerns.Reads as reads
-use Rattle.server_tests.proofs.concerns.Lts as lts
-use Rattle.server_tests.proofs.concerns_at.Reads as concerns-at-reads
 
 abbrev Inv-loop : tie.InvT-loop
 Inv-loop s i j r₀ p₀ r p = (p ≤ 32) × (r ≡ anyTo (concernsAt s i j) p)
@@ -17,29 +15,23 @@ Inv-loop s i j r₀ p₀ r p = (p ≤ 32) × (r ≡ anyTo (concernsAt s i j) p)
 abbrev μ-loop : tie.MeasureT-loop
 μ-loop s i j r₀ p₀ r p = 32 - p
 
--- src/lib.rt:393:5
 loop-holds : tie.Need-loop-holds Inv-loop μ-loop
 unfolding anyTo
 loop-holds c = search needs
 
--- src/lib.rt:394:14
 concerns-at-requires : tie.Need-concerns-at-requires Inv-loop μ-loop
 concerns-at-requires c κs = search needs
 
--- src/lib.rt:395:9
 add-p : tie.Need-add-p Inv-loop μ-loop
 add-p c = search needs
 
--- src/lib.rt:393:5
 loop-less : tie.Need-loop-less Inv-loop μ-loop
 loop-less c = search needs
 
--- src/lib.rt:393:5
 loop-again : tie.Need-loop-again Inv-loop μ-loop
 unfolding anyTo
 loop-again c = (search needs, rw (add-one (c .before .before .loop .p)) (cc))
 
--- src/lib.rt:387:1
 returns : tie.Need-returns Inv-loop μ-loop
 returns c = c .before .loop .inv .1 ∙ ap (anyTo _) (omega arith)
 

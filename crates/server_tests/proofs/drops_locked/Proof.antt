@@ -1,26 +1,19 @@
+-- `server_tests::drops_locked` meets its contract.
 use mathlib.Core.Path.{sym, _∙_}
 use Rattle.server_tests.specs.Shorter.{drops-yes, drops-no}
 use borrow.Author.Needs.{needs}
 use Rattle.server_tests.proofs.drops_locked.Statement.{statement}
 use Rattle.server_tests.proofs.drops_locked.Tie as tie
-use Rattle.server_tests.proofs.drops_locked.Reads as reads
-use Rattle.server_tests.proofs.drops_locked.Lts as lts
-use Rattle.server_tests.proofs.lock_on.Reads as lock-on-reads
-use Rattle.station_state.proofs.has_bit32.Reads as has-bit32-reads
 
--- src/lib.rt:106:8
 has-bit32-requires : tie.Need-has-bit32-requires
 has-bit32-requires c κs = search needs
 
--- src/lib.rt:107:9
 lock-on-requires : tie.Need-lock-on-requires
 lock-on-requires c κs = search needs
 
--- src/lib.rt:107:9
 returns : tie.Need-returns
 returns c = c .lock-on .ensures ∙ sym (drops-yes _ _ _ _ (sym (c .before .before .has-bit32 .ensures) ∙ c .before .if1 .taken))
 
--- src/lib.rt:102:1
 returns-2 : tie.Need-returns-2
 returns-2 c = sym (drops-no _ _ _ _ (sym (c .before .has-bit32 .ensures) ∙ c .if1 .left))
 

@@ -1,5 +1,6 @@
+-- `server_tests::lock_on` meets its contract. The loop's invariant: the answer is the definition's at the count of objects passed.
 use Prim.Native.Nat.{_≤_, _-_}
-use mathlib.Core.Path.{_≡_, sym, ap, _∙_}
+use mathlib.Core.Path.{_≡_, sym, _∙_}
 use native.Mathlib.Numerals.{add-one}
 use native.Mathlib.Omega.{arith}
 use borrow.Author.Needs.{needs}
@@ -8,11 +9,6 @@ use Rattle.server_tests.specs.Tests.{lockAtB, lockOnB}
 use Rattle.server_tests.specs.Shorter.{lock-whole}
 use Rattle.server_tests.proofs.lock_on.Statement.{statement}
 use Rattle.server_tests.proofs.lock_on.Tie as tie
-use Rattle.server_tests.proofs.lock_on.Reads as reads
-use Rattle.server_tests.proofs.lock_on.Lts as lts
-use Rattle.le.proofs.get_u64.Reads as get-u64-reads
-use Rattle.server_tests.proofs.byte.Reads as byte-reads
-use Rattle.server_tests.proofs.lock_at.Reads as lock-at-reads
 
 abbrev Inv-loop : tie.InvT-loop
 Inv-loop s i p whole r₀ o₀ r o = (o ≤ 8) × (r ≡ anyTo (lockAtB s i p) o)
@@ -20,57 +16,44 @@ Inv-loop s i p whole r₀ o₀ r o = (o ≤ 8) × (r ≡ anyTo (lockAtB s i p) o
 abbrev μ-loop : tie.MeasureT-loop
 μ-loop s i p whole r₀ o₀ r o = 8 - o
 
--- src/lib.rt:55:25
 add-byte : tie.Need-add-byte Inv-loop μ-loop
 add-byte c = search needs
 
--- src/lib.rt:55:17
 byte-requires : tie.Need-byte-requires Inv-loop μ-loop
 byte-requires c κs = search needs
 
--- src/lib.rt:55:39
 add-whole : tie.Need-add-whole Inv-loop μ-loop
 add-whole c = search needs
 
--- src/lib.rt:56:31
 mul-get-u64 : tie.Need-mul-get-u64 Inv-loop μ-loop
 mul-get-u64 c = search needs
 
--- src/lib.rt:56:23
 add-get-u64 : tie.Need-add-get-u64 Inv-loop μ-loop
 add-get-u64 c = search needs
 
--- src/lib.rt:56:8
 get-u64-requires : tie.Need-get-u64-requires Inv-loop μ-loop
 get-u64-requires c κs = search needs
 
--- src/lib.rt:57:9
 returns : tie.Need-returns Inv-loop μ-loop
 returns c = rw (lock-whole _ _ _ (sym (c .before .get-u64 .ensures) ∙ c .if1 .taken)) (cc)
 
--- src/lib.rt:61:5
 loop-holds : tie.Need-loop-holds Inv-loop μ-loop
 unfolding anyTo
 loop-holds c = search needs
 
--- src/lib.rt:62:14
 lock-at-requires : tie.Need-lock-at-requires Inv-loop μ-loop
 lock-at-requires c κs = search needs
 
--- src/lib.rt:63:9
 add-o : tie.Need-add-o Inv-loop μ-loop
 add-o c = search needs
 
--- src/lib.rt:61:5
 loop-less : tie.Need-loop-less Inv-loop μ-loop
 loop-less c = search needs
 
--- src/lib.rt:61:5
 loop-again : tie.Need-loop-again Inv-loop μ-loop
 unfolding anyTo
 loop-again c = (search needs, rw (add-one (c .before .before .loop .o)) (cc))
 
--- src/lib.rt:51:1
 returns-2 : tie.Need-returns-2 Inv-loop μ-loop
 unfolding lockOnB
 returns-2 c = let e : c .before .loop .o ≡ 8 = omega arith in cc

@@ -1,33 +1,26 @@
+-- `server_tests::written_by` meets its contract.
 use borrow.Author.Tests.{eq-eqb, ne-eqb}
 use Rattle.server_tests.specs.Shorter.{writtenBy}
 use borrow.Author.Needs.{needs}
 use Rattle.server_tests.proofs.written_by.Statement.{statement}
 use Rattle.server_tests.proofs.written_by.Tie as tie
-use Rattle.server_tests.proofs.written_by.Reads as reads
-use Rattle.server_tests.proofs.written_by.Lts as lts
 
--- src/lib.rt:451:9
 returns : tie.Need-returns
 unfolding writtenBy
 returns c = simp (eq-eqb _ _ (c .if1 .taken))
 
--- src/lib.rt:453:15
 mul-result : tie.Need-mul-result
 mul-result c = search needs
 
--- src/lib.rt:453:7
 add-result : tie.Need-add-result
 add-result c = search needs
 
--- src/lib.rt:453:7
 add-result-2 : tie.Need-add-result-2
 add-result-2 c = search needs
 
--- src/lib.rt:453:5
 shared-slice-read-result : tie.Need-shared-slice-read-result
 shared-slice-read-result c = search needs
 
--- src/lib.rt:446:1
 returns-2 : tie.Need-returns-2
 unfolding writtenBy
 returns-2 c = simp (ne-eqb _ _ (c .before .if1 .left))

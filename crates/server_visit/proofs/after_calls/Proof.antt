@@ -1,4 +1,4 @@
-use mathlib.Core.Path.{_≡_, sym, ap, _∙_}
+-- `server_visit::after_calls` meets its contract.
 use borrow.Author.Tests.{eq-eqb, ne-eqb}
 use Rattle.server_actions.specs.Pass.{afterCallsB}
 use Rattle.server_actions.specs.Posting.{post-none}
@@ -6,64 +6,47 @@ use Rattle.server_visit.specs.Visits.{yes-room, no-room, yes-post, no-po
 use borrow.Author.Needs.{needs}
 use Rattle.server_visit.proofs.after_calls.Statement.{statement}
 use Rattle.server_visit.proofs.after_calls.Tie as tie
-use Rattle.server_visit.proofs.after_calls.Reads as reads
-use Rattle.server_visit.proofs.after_calls.Lts as lts
-use Rattle.server_actions.proofs.install.Reads as install-reads
-use Rattle.server_visit.proofs.grant.Reads as grant-reads
 
--- src/lib.rt:167:10
 add-if1 : tie.Need-add-if1
 add-if1 c = search needs
 
--- src/lib.rt:167:8
 slice-read-if1 : tie.Need-slice-read-if1
 slice-read-if1 c = search needs
 
--- src/lib.rt:168:9
 returns : tie.Need-returns
 unfolding afterCallsB
 returns c = no-post _ _ _ _ _ _ (ne-eqb _ _ (c .if1 .taken)) (post-none _ _ _ _)
 
--- src/lib.rt:171:9
 grant-requires : tie.Need-grant-requires
 unfolding afterCallsB
 grant-requires c κs = (search needs, search needs, yes-room _ _ _ _ _ _ (eq-eqb _ _ (c .before .before .before .if2 .taken)) (yes-room _ _ _ _ _ _ (eq-eqb _ _ (c .before .before .before .before .if1 .left)) (c .before .before .before .before .before .before .before .before .before .pre .3)))
 
--- src/lib.rt:171:9
 same-length : tie.Need-same-length
 same-length c = search needs
 
--- src/lib.rt:171:9
 same-length-2 : tie.Need-same-length-2
 same-length-2 c = search needs
 
--- src/lib.rt:171:9
 same-length-3 : tie.Need-same-length-3
 same-length-3 c = search needs
 
--- src/lib.rt:171:9
 returns-2 : tie.Need-returns-2
 unfolding afterCallsB
 returns-2 c = yes-post _ _ _ _ _ _ (eq-eqb _ _ (c .before .before .before .before .before .before .before .before .before .before .before .if1 .left)) (yes-post _ _ _ _ _ _ (eq-eqb _ _ (c .before .before .before .before .before .before .before .before .before .before .if2 .taken)) (c .before .before .before .before .before .before .grant .ensures))
 
--- src/lib.rt:173:5
 install-requires : tie.Need-install-requires
 unfolding afterCallsB
 install-requires c κs = (search needs, search needs, c .before .before .before .before .before .before .before .before .before .pre .2 (c .before .before .before .if2 .left), no-room _ _ _ _ _ _ (ne-eqb _ _ (c .before .before .before .if2 .left)) (yes-room _ _ _ _ _ _ (eq-eqb _ _ (c .before .before .before .before .if1 .left)) (c .before .before .before .before .before .before .before .before .before .pre .3)))
 
--- src/lib.rt:163:1
 same-length-4 : tie.Need-same-length-4
 same-length-4 c = search needs
 
--- src/lib.rt:163:1
 same-length-5 : tie.Need-same-length-5
 same-length-5 c = search needs
 
--- src/lib.rt:163:1
 same-length-6 : tie.Need-same-length-6
 same-length-6 c = search needs
 
--- src/lib.rt:163:1
 returns-3 : tie.Need-returns-3
 unfolding afterCallsB
 returns-3 c = yes-post _ _ _ _ _ _ (eq-eqb _ _ (c .before .before .before .before .before .before .before .before .before .before .before .if1 .left)) (no-post _ _ _ _ _ _ (ne-eqb _ _ (c .before .before .before .before .before .before .before .before .before .before .if2 .left)) (c .before .before .before .before .before .before .install .ensures))

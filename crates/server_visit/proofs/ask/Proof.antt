@@ -1,78 +1,55 @@
-use mathlib.Core.Path.{_≡_, sym, ap, _∙_}
+-- `server_visit::ask` meets its contract.
+use mathlib.Core.Path.{sym, _∙_}
 use Rattle.server_visit.specs.Visits.{ask-held, ask-fits, ask-chain, ask-none}
 use borrow.Author.Needs.{needs}
 use Rattle.server_visit.proofs.ask.Statement.{statement}
 use Rattle.server_visit.proofs.ask.Tie as tie
-use Rattle.server_visit.proofs.ask.Reads as reads
-use Rattle.server_visit.proofs.ask.Lts as lts
-use Rattle.le.proofs.get_u32.Reads as get-u32-reads
-use Rattle.message.proofs.put_message.Reads as put-message-reads
-use Rattle.server_actions.proofs.one_more.Reads as one-more-reads
-use Rattle.server_changes.proofs.asked.Reads as asked-reads
-use Rattle.server_visit.proofs.ask_due.Reads as ask-due-reads
-use Rattle.server_visit.proofs.whole_holder.Reads as whole-holder-reads
 
--- src/lib.rt:45:8
 ask-due-requires : tie.Need-ask-due-requires
 ask-due-requires c κs = search needs
 
--- src/lib.rt:46:13
 whole-holder-requires : tie.Need-whole-holder-requires
 whole-holder-requires c κs = (search needs, search needs, ask-held _ _ _ (sym (c .before .before .ask-due .ensures) ∙ c .before .if1 .taken), c .before .before .before .before .before .before .before .pre .3)
 
--- src/lib.rt:47:40
 mul-get-u32 : tie.Need-mul-get-u32
 mul-get-u32 c = search needs
 
--- src/lib.rt:47:32
 add-get-u32 : tie.Need-add-get-u32
 add-get-u32 c = search needs
 
--- src/lib.rt:47:13
 get-u32-requires : tie.Need-get-u32-requires
 get-u32-requires c κs = search needs
 
--- src/lib.rt:48:33
 mul-put-message : tie.Need-mul-put-message
 mul-put-message c = search needs
 
--- src/lib.rt:48:55
 cast-put-message : tie.Need-cast-put-message
 cast-put-message c = search needs
 
--- src/lib.rt:48:64
 cast-put-message-2 : tie.Need-cast-put-message-2
 cast-put-message-2 c = search needs
 
--- src/lib.rt:48:9
 put-message-requires : tie.Need-put-message-requires
 put-message-requires c κs = let h = ask-fits _ _ _ _ _ _ (sym (c .before .before .before .before .before .before .before .ask-due .ensures) ∙ c .before .before .before .before .before .before .if1 .taken) (c .before .before .before .before .before .before .before .before .before .before .before .before .pre .4) in search needs
 
--- src/lib.rt:49:9
 asked-requires : tie.Need-asked-requires
 asked-requires c κs = search needs
 
--- src/lib.rt:50:9
 one-more-requires : tie.Need-one-more-requires
 one-more-requires c κs = search needs
 
--- src/lib.rt:50:9
 same-length : tie.Need-same-length
 same-length c = search needs
 
--- src/lib.rt:50:9
 same-length-2 : tie.Need-same-length-2
 same-length-2 c = search needs
 
--- src/lib.rt:50:9
 returns : tie.Need-returns
 returns c = ask-chain _ _ _ _ _ _ (sym (c .before .before .before .before .before .before .before .before .before .before .before .before .before .before .before .ask-due .ensures) ∙ c .before .before .before .before .before .before .before .before .before .before .before .before .before .before .if1 .taken) (c .before .before .before .before .before .before .before .before .before .before .before .before .whole-holder .ensures .0) (c .before .before .before .before .before .before .before .before .before .before .get-u32 .ensures) (c .before .before .before .before .before .before .before .put-message .ensures) (c .before .before .before .asked .ensures) (c .one-more .ensures)
 
--- src/lib.rt:41:1
 same-length-3 : tie.Need-same-length-3
 same-length-3 c = search needs
 
--- src/lib.rt:41:1
 returns-2 : tie.Need-returns-2
 returns-2 c = ask-none _ _ _ _ _ _ (sym (c .before .ask-due .ensures) ∙ c .if1 .left)
 

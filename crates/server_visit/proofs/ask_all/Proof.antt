@@ -1,5 +1,6 @@
+-- `server_visit::ask_all` meets its contract. The loop's invariant: what is posted is the definition's at the count of turns taken.
 use Prim.Native.Nat.{_≤_, _-_}
-use mathlib.Core.Path.{_≡_, sym, ap, _∙_}
+use mathlib.Core.Path.{_≡_}
 use native.Mathlib.Omega.{arith}
 use borrow.Author.Needs.{needs}
 use lib.ListN.{length}
@@ -9,9 +10,6 @@ use Rattle.server_actions.specs.Parts.{turns-asks}
 use Rattle.server_visit.specs.Visits.{Held, ask-keeps}
 use Rattle.server_visit.proofs.ask_all.Statement.{statement}
 use Rattle.server_visit.proofs.ask_all.Tie as tie
-use Rattle.server_visit.proofs.ask_all.Reads as reads
-use Rattle.server_visit.proofs.ask_all.Lts as lts
-use Rattle.server_visit.proofs.ask.Reads as ask-reads
 
 abbrev Inv-loop : tie.InvT-loop
 Inv-loop s₀ o₀ q₀ i b₀ p₀ s o q b p = (p ≤ 32) × (length s ≡ length s₀) × (length o ≡ length o₀) × (length q ≡ length q₀) × Held s × (posted s o q b ≡ post o₀ q₀ b₀ (askTo i (from s₀) p))
@@ -19,39 +17,30 @@ Inv-loop s₀ o₀ q₀ i b₀ p₀ s o q b p = (p ≤ 32) × (length s ≡ leng
 abbrev μ-loop : tie.MeasureT-loop
 μ-loop s₀ o₀ q₀ i b₀ p₀ s o q b p = 32 - p
 
--- src/lib.rt:62:5
 loop-holds : tie.Need-loop-holds Inv-loop μ-loop
 loop-holds c = (search needs, search needs, search needs, search needs, c .before .before .before .pre .2, turn-none (turns-asks _) _ _ _ _)
 
--- src/lib.rt:63:13
 ask-requires : tie.Need-ask-requires Inv-loop μ-loop
 ask-requires c κs = (search needs, search needs, search needs, c .before .before .before .before .loop .inv .4 _ (search needs), turn-room (turns-asks _) _ _ _ _ 32 _ (c .before .before .before .before .loop .inv .5) (search needs) (c .before .before .before .before .before .before .before .before .pre .3))
 
--- src/lib.rt:65:9
 add-p : tie.Need-add-p Inv-loop μ-loop
 add-p c = search needs
 
--- src/lib.rt:62:5
 loop-less : tie.Need-loop-less Inv-loop μ-loop
 loop-less c = search needs
 
--- src/lib.rt:62:5
 loop-again : tie.Need-loop-again Inv-loop μ-loop
 loop-again c = (search needs, search needs, search needs, search needs, ask-keeps _ _ _ _ _ _ (c .before .before .before .before .before .before .ask .ensures) (c .before .before .before .before .before .before .before .before .before .before .before .loop .inv .4), turn-posted (turns-asks _) _ _ _ _ 32 _ (c .before .before .before .before .before .before .before .before .before .before .before .loop .inv .5) (c .before .before .before .before .before .before .ask .ensures))
 
--- src/lib.rt:56:1
 same-length : tie.Need-same-length Inv-loop μ-loop
 same-length c = search needs
 
--- src/lib.rt:56:1
 same-length-2 : tie.Need-same-length-2 Inv-loop μ-loop
 same-length-2 c = search needs
 
--- src/lib.rt:56:1
 same-length-3 : tie.Need-same-length-3 Inv-loop μ-loop
 same-length-3 c = search needs
 
--- src/lib.rt:56:1
 returns : tie.Need-returns Inv-loop μ-loop
 returns c = turn-end (turns-asks _) _ _ _ _ 32 _ (c .before .loop .inv .5) (omega arith)
 

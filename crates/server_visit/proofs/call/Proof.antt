@@ -1,38 +1,27 @@
+-- `server_visit::call` meets its contract.
 use Rattle.server_visit.specs.Visits.{calls-room, calls-chain}
 use borrow.Author.Needs.{needs}
 use Rattle.server_visit.proofs.call.Statement.{statement}
 use Rattle.server_visit.proofs.call.Tie as tie
-use Rattle.server_visit.proofs.call.Reads as reads
-use Rattle.server_visit.proofs.call.Lts as lts
-use Rattle.server_changes.proofs.called.Reads as called-reads
-use Rattle.server_tests.proofs.concerned_set.Reads as concerned-set-reads
-use Rattle.server_visit.proofs.call_all.Reads as call-all-reads
 
--- src/lib.rt:113:9
 concerned-set-requires : tie.Need-concerned-set-requires
 concerned-set-requires c κs = search needs
 
--- src/lib.rt:114:9
 call-all-requires : tie.Need-call-all-requires
 call-all-requires c κs = (search needs, search needs, calls-room _ _ _ _ _ (c .before .before .before .concerned-set .ensures) (c .before .before .before .before .before .before .before .before .pre .2))
 
--- src/lib.rt:115:5
 called-requires : tie.Need-called-requires
 called-requires c κs = search needs
 
--- src/lib.rt:109:1
 same-length : tie.Need-same-length
 same-length c = search needs
 
--- src/lib.rt:109:1
 same-length-2 : tie.Need-same-length-2
 same-length-2 c = search needs
 
--- src/lib.rt:109:1
 same-length-3 : tie.Need-same-length-3
 same-length-3 c = search needs
 
--- src/lib.rt:109:1
 returns : tie.Need-returns
 returns c = calls-chain _ _ _ _ _ (c .before .before .before .before .before .before .before .before .before .before .before .before .concerned-set .ensures) (c .before .before .before .before .before .before .before .before .call-all .ensures) (c .before .before .called .ensures)
 

@@ -1,5 +1,6 @@
+-- `server_visit::call_all` meets its contract. The loop's invariant: what is posted is the definition's at the count of turns taken.
 use Prim.Native.Nat.{_≤_, _-_}
-use mathlib.Core.Path.{_≡_, sym, ap, _∙_}
+use mathlib.Core.Path.{_≡_}
 use native.Mathlib.Omega.{arith}
 use borrow.Author.Needs.{needs}
 use lib.ListN.{length}
@@ -8,9 +9,6 @@ use Rattle.server_actions.specs.Posting.{from, posted, post, turn-none, turn-ro
 use Rattle.server_actions.specs.Parts.{turns-calls}
 use Rattle.server_visit.proofs.call_all.Statement.{statement}
 use Rattle.server_visit.proofs.call_all.Tie as tie
-use Rattle.server_visit.proofs.call_all.Reads as reads
-use Rattle.server_visit.proofs.call_all.Lts as lts
-use Rattle.server_visit.proofs.call_one.Reads as call-one-reads
 
 abbrev Inv-loop : tie.InvT-loop
 Inv-loop s o₀ q₀ i d b₀ j₀ o q b j = (j ≤ 8) × (length o ≡ length o₀) × (length q ≡ length q₀) × (posted s o q b ≡ post o₀ q₀ b₀ (callTo i d s (from s) j))
@@ -18,35 +16,27 @@ Inv-loop s o₀ q₀ i d b₀ j₀ o q b j = (j ≤ 8) × (length o ≡ length o
 abbrev μ-loop : tie.MeasureT-loop
 μ-loop s o₀ q₀ i d b₀ j₀ o q b j = 8 - j
 
--- src/lib.rt:100:5
 loop-holds : tie.Need-loop-holds Inv-loop μ-loop
 loop-holds c = (search needs, search needs, search needs, turn-none (turns-calls _ _ _) _ _ _ _)
 
--- src/lib.rt:101:13
 call-one-requires : tie.Need-call-one-requires Inv-loop μ-loop
 call-one-requires c κs = (search needs, search needs, search needs, turn-room (turns-calls _ _ _) _ _ _ _ 8 _ (c .before .before .before .loop .inv .3) (search needs) (c .before .before .before .before .before .before .before .pre .2))
 
--- src/lib.rt:103:9
 add-j : tie.Need-add-j Inv-loop μ-loop
 add-j c = search needs
 
--- src/lib.rt:100:5
 loop-less : tie.Need-loop-less Inv-loop μ-loop
 loop-less c = search needs
 
--- src/lib.rt:100:5
 loop-again : tie.Need-loop-again Inv-loop μ-loop
 loop-again c = (search needs, search needs, search needs, turn-posted (turns-calls _ _ _) _ _ _ _ 8 _ (c .before .before .before .before .before .before .before .before .loop .inv .3) (c .before .before .before .before .call-one .ensures))
 
--- src/lib.rt:94:1
 same-length : tie.Need-same-length Inv-loop μ-loop
 same-length c = search needs
 
--- src/lib.rt:94:1
 same-length-2 : tie.Need-same-length-2 Inv-loop μ-loop
 same-length-2 c = search needs
 
--- src/lib.rt:94:1
 returns : tie.Need-returns Inv-loop μ-loop
 returns c = turn-end (turns-calls _ _ _) _ _ _ _ 8 _ (c .before .loop .inv .3) (omega arith)
 

@@ -1,64 +1,47 @@
-use mathlib.Core.Path.{_≡_, sym, ap, _∙_}
+-- `server_visit::grant` meets its contract.
+use mathlib.Core.Path.{sym, _∙_}
 use Rattle.server_actions.specs.Pass.{grantB}
 use Rattle.server_visit.specs.Visits.{yes-room, no-room, yes-post, no-post}
 use borrow.Author.Needs.{needs}
 use Rattle.server_visit.proofs.grant.Statement.{statement}
 use Rattle.server_visit.proofs.grant.Tie as tie
-use Rattle.server_visit.proofs.grant.Reads as reads
-use Rattle.server_visit.proofs.grant.Lts as lts
-use Rattle.server_tests.proofs.hindered.Reads as hindered-reads
-use Rattle.server_visit.proofs.grant_object.Reads as grant-object-reads
-use Rattle.server_visit.proofs.grant_page.Reads as grant-page-reads
-use Rattle.server_visit.proofs.request.Reads as request-reads
 
--- src/lib.rt:156:37
 request-requires : tie.Need-request-requires
 request-requires c κs = search needs
 
--- src/lib.rt:156:8
 hindered-requires : tie.Need-hindered-requires
 hindered-requires c κs = search needs
 
--- src/lib.rt:157:9
 grant-object-requires : tie.Need-grant-object-requires
 unfolding grantB
 grant-object-requires c κs = (search needs, search needs, yes-room _ _ _ _ _ _ (rw (c .before .before .before .before .before .request .ensures .0) at (sym (c .before .before .before .before .hindered .ensures) ∙ c .before .before .before .if1 .taken)) (c .before .before .before .before .before .before .before .before .before .before .pre .2))
 
--- src/lib.rt:157:9
 same-length : tie.Need-same-length
 same-length c = search needs
 
--- src/lib.rt:157:9
 same-length-2 : tie.Need-same-length-2
 same-length-2 c = search needs
 
--- src/lib.rt:157:9
 same-length-3 : tie.Need-same-length-3
 same-length-3 c = search needs
 
--- src/lib.rt:157:9
 returns : tie.Need-returns
 unfolding grantB
 returns c = yes-post _ _ _ _ _ _ (rw (c .before .before .before .before .before .before .before .before .before .before .before .before .request .ensures .0) at (sym (c .before .before .before .before .before .before .before .before .before .before .before .hindered .ensures) ∙ c .before .before .before .before .before .before .before .before .before .before .if1 .taken)) (c .before .before .before .before .before .before .grant-object .ensures)
 
--- src/lib.rt:159:5
 grant-page-requires : tie.Need-grant-page-requires
 unfolding grantB
 grant-page-requires c κs = (search needs, search needs, no-room _ _ _ _ _ _ (rw (c .before .before .before .before .before .request .ensures .0) at (sym (c .before .before .before .before .hindered .ensures) ∙ c .before .before .before .if1 .left)) (c .before .before .before .before .before .before .before .before .before .before .pre .2))
 
--- src/lib.rt:152:1
 same-length-4 : tie.Need-same-length-4
 same-length-4 c = search needs
 
--- src/lib.rt:152:1
 same-length-5 : tie.Need-same-length-5
 same-length-5 c = search needs
 
--- src/lib.rt:152:1
 same-length-6 : tie.Need-same-length-6
 same-length-6 c = search needs
 
--- src/lib.rt:152:1
 returns-2 : tie.Need-returns-2
 unfolding grantB
 returns-2 c = no-post _ _ _ _ _ _ (rw (c .before .before .before .before .before .before .before .before .before .before .before .before .request .ensures .0) at (sym (c .before .before .before .before .before .before .before .before .before .before .before .hindered .ensures) ∙ c .before .before .before .before .before .before .before .before .before .before .if1 .left)) (c .before .before .before .before .before .before .grant-page .ensures)

@@ -1,24 +1,19 @@
+-- `server_visit::request` meets its contract.
 use native.Mathlib.Omega.{arith}
 use Prim.Native.Nat.{_+_}
 use borrow.Author.Needs.{needs}
 use Rattle.server_visit.proofs.request.Statement.{statement}
 use Rattle.server_visit.proofs.request.Tie as tie
-use Rattle.server_visit.proofs.request.Reads as reads
-use Rattle.server_visit.proofs.request.Lts as lts
 
--- src/lib.rt:21:7
 add-result : tie.Need-add-result
 add-result c = search needs
 
--- src/lib.rt:21:5
 shared-slice-read-result : tie.Need-shared-slice-read-result
 shared-slice-read-result c = search needs
 
--- src/lib.rt:21:5
 cast-result : tie.Need-cast-result
 cast-result c = omega (arith, c .shared-slice-known .given (37032 + c .before .args .i))
 
--- src/lib.rt:17:1
 returns : tie.Need-returns
 returns c = (search needs, omega (arith, c .shared-slice-known .given (37032 + c .before .args .i)))
 

@@ -1,60 +1,45 @@
-use mathlib.Core.Path.{_≡_, sym, ap, _∙_}
+-- `server_visit::visit_commit` meets its contract.
+use mathlib.Core.Path.{sym, _∙_}
 use native.Mathlib.Omega.{arith}
 use borrow.Author.Tests.{eq-eqb, ne-eqb}
 use Rattle.server_visit.specs.Visits.{visitCommitB, fault-last, yes-room, no-room, yes-post, no-post}
 use borrow.Author.Needs.{needs}
 use Rattle.server_visit.proofs.visit_commit.Statement.{statement}
 use Rattle.server_visit.proofs.visit_commit.Tie as tie
-use Rattle.server_visit.proofs.visit_commit.Reads as reads
-use Rattle.server_visit.proofs.visit_commit.Lts as lts
-use Rattle.server_actions.proofs.abort.Reads as abort-reads
-use Rattle.server_tests.proofs.fault.Reads as fault-reads
-use Rattle.server_visit.proofs.gates.Reads as gates-reads
 
--- src/lib.rt:206:9
 fault-requires : tie.Need-fault-requires
 fault-requires c κs = search needs
 
--- src/lib.rt:208:9
 gates-requires : tie.Need-gates-requires
 unfolding visitCommitB
 gates-requires c κs = (search needs, search needs, c .before .before .before .before .before .before .before .before .before .pre .2, λ _ _. fault-last _ _ (λ j. omega (arith, c .before .before .before .before .before .before .before .before .slice-known .given j)) (sym (c .before .before .before .before .fault .ensures) ∙ c .before .before .before .if1 .taken), yes-room _ _ _ _ _ _ (eq-eqb _ _ (sym (c .before .before .before .before .fault .ensures) ∙ c .before .before .before .if1 .taken)) (c .before .before .before .before .before .before .before .before .before .pre .3))
 
--- src/lib.rt:208:9
 same-length : tie.Need-same-length
 same-length c = search needs
 
--- src/lib.rt:208:9
 same-length-2 : tie.Need-same-length-2
 same-length-2 c = search needs
 
--- src/lib.rt:208:9
 same-length-3 : tie.Need-same-length-3
 same-length-3 c = search needs
 
--- src/lib.rt:208:9
 returns : tie.Need-returns
 unfolding visitCommitB
 returns c = yes-post _ _ _ _ _ _ (eq-eqb _ _ (sym (c .before .before .before .before .before .before .before .before .before .before .before .fault .ensures) ∙ c .before .before .before .before .before .before .before .before .before .before .if1 .taken)) (c .before .before .before .before .before .before .gates .ensures)
 
--- src/lib.rt:210:5
 abort-requires : tie.Need-abort-requires
 unfolding visitCommitB
 abort-requires c κs = (search needs, search needs, rw (c .before .before .before .before .fault .ensures) (no-room _ _ _ _ _ _ (ne-eqb _ _ (λ e. c .before .before .before .if1 .left (c .before .before .before .before .fault .ensures ∙ e))) (c .before .before .before .before .before .before .before .before .before .pre .3)))
 
--- src/lib.rt:202:1
 same-length-4 : tie.Need-same-length-4
 same-length-4 c = search needs
 
--- src/lib.rt:202:1
 same-length-5 : tie.Need-same-length-5
 same-length-5 c = search needs
 
--- src/lib.rt:202:1
 same-length-6 : tie.Need-same-length-6
 same-length-6 c = search needs
 
--- src/lib.rt:202:1
 returns-2 : tie.Need-returns-2
 unfolding visitCommitB
 returns-2 c = no-post _ _ _ _ _ _ (ne-eqb _ _ (λ e. c .before .before .before .before .before .before .before .before .before .before .if1 .left (c .before .before .before .before .before .before .before .before .before .before .before .fault .ensures ∙ e))) (rw (c .before .before .before .before .before .before .before .before .before .before .before .fault .ensures) at (c .before .before .before .before .before .before .abort .ensures))
