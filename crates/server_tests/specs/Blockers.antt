@@ -1,5 +1,5 @@
 -- Who blocks a waiting station, by the bytes of pages: the stations of `blocksB` as one station set.
-use Prim.Native.Nat.{ℕ, zero, suc, _+_, _-_, _*_, _≤_, _<_, _%_, _^_}
+use Prim.Native.Nat.{ℕ, zero, suc, _+_, _-_, _*_, _<_, _%_, _^_}
 use mathlib.Core.Path.{_≡_, refl, sym, ap, ap₂, _∙_}
 use mathlib.Core.Bool.{Bool, true, false, not, _&&_, _||_, cond, and-true, and-false}
 use mathlib.Core.List.{List}
@@ -19,7 +19,7 @@ use Rattle.cells.specs.Bits.{tb, tb-zero, tb-or, tb-and, tb-pow, tb-test, tb-te
 use Rattle.cells.specs.Loops.{anyTo, any-to, any-suc, any-same, maskTo, mask-is, mask-lt}
 use Rattle.cells.specs.Pages.{any-byte}
 use Rattle.station_state.specs.Layout.{hasBit}
-use Rattle.server_state.specs.Layout.{lockOf, readSet, writtenSet, busyOf, wantOf, waitsB, otherB, wantedOn}
+use Rattle.server_state.specs.Layout.{lockOf, readSet, writtenSet, busyOf, waitsB, otherB, wantedOn}
 use Rattle.server_tests.specs.Tests.{earlierB, blocksB, blockedAtB, blockedOnB, blockedB, edgeAtB, edgeOnB, edgeB, edgeSet}
 
 -- r |= f(i)
