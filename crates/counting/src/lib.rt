@@ -1,0 +1,1 @@
+// No code: what additions to one counter come to is in specs/.
