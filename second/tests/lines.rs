@@ -145,3 +145,34 @@ fn replies_agree() {
     let program = env!("CARGO_BIN_EXE_line_both");
     no_difference(program, &[second, proved, "--runs", "20"]);
 }
+
+/// "Does a valid state of the server stay valid?" (docs/DECISIONS.md): the known state that no run reaches and that does
+/// not. Station 0 waits to write address 9, its written set names address 16, and station 1 holds page 1 whole.
+#[test]
+fn a_valid_state_that_does_not_stay_valid() {
+    let mut server = Compiled::fresh(&[0; 8]);
+    let fields = [
+        (Field::NextAge, 0, 3),
+        (Field::NextArrival, 0, 2),
+        (Field::Age, 0, 1),
+        (Field::Age, 8, 2),
+        (Field::Arrival, 0, 1),
+        (Field::Latest, 0, 1),
+        (Field::Latest, 4, 1),
+        (Field::Unfinished, 0, 1),
+        (Field::Unfinished, 1, 1),
+        (Field::Want, 0, 2),
+        (Field::Request, 0, 9),
+        (Field::WrittenSet, 2, 1),
+        (Field::Whole, 1, 2),
+    ];
+    for (field, at, byte) in fields {
+        server.state[field.start() + at] = byte;
+    }
+    let mut purge = [0; 112];
+    purge[..3].copy_from_slice(&[5, 2, 31]);
+    assert_eq!(server.serves(&purge), [1, 0]);
+    assert_eq!(server.messages[0], 17);
+    assert_eq!(server.state[Field::Lock.start() + 9], 1);
+    assert_eq!(server.number(&purge), 1);
+}

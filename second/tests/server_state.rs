@@ -12,7 +12,7 @@ use second::line::sets::Addresses;
 use second::line::world::World;
 use second::line::Kind;
 use second::random::Random;
-use state_table::{fields, rows, with};
+use state_table::{fields, not_zero, rows, with};
 
 /// Locking 0 and 2, validating 1.
 fn behind(script: &str) -> World {
@@ -48,14 +48,12 @@ fn the_fields_are_the_tables() {
 #[test]
 fn fresh() {
     let bytes = encode(&Server::fresh([Kind::Validating; 8], 0, [0; 8]));
-    let others = bytes.iter().enumerate().filter(|(_, byte)| **byte != 0);
-    let others: Vec<(usize, u8)> = others.map(|(at, byte)| (at, *byte)).collect();
     let kinds = (37_016..37_024).map(|at| (at, 1));
     let expected: Vec<(usize, u8)> = [(34_944, 1), (34_952, 1)]
         .into_iter()
         .chain(kinds)
         .collect();
-    assert_eq!(others, expected);
+    assert_eq!(not_zero(&bytes), expected);
 }
 
 #[test]

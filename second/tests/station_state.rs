@@ -12,7 +12,7 @@ use second::line::station::Station;
 use second::line::world::World;
 use second::line::Kind;
 use second::random::Random;
-use state_table::{fields, rows, with};
+use state_table::{fields, not_zero, rows, with};
 
 /// Station 0's state behind a script; it is locking, 1 validating.
 fn behind(script: &str) -> (Station, Vec<u8>) {
@@ -47,9 +47,7 @@ fn the_fields_are_the_tables() {
 #[test]
 fn fresh() {
     let bytes = encode(&Station::fresh(5, Kind::Validating, 0));
-    let others = bytes.iter().enumerate().filter(|(_, byte)| **byte != 0);
-    let others: Vec<(usize, u8)> = others.map(|(at, byte)| (at, *byte)).collect();
-    assert_eq!(others, [(6_708, 5), (6_709, 1)]);
+    assert_eq!(not_zero(&bytes), [(6_708, 5), (6_709, 1)]);
 }
 
 #[test]

@@ -3,12 +3,10 @@ use Prim.Native.Nat.{ℕ, zero, suc, _+_, _*_, _<_}
 use mathlib.Core.Path.{_≡_, refl, sym, ap, _∙_}
 use mathlib.Core.List.{List}
 use native.Mathlib.Omega.{arith}
-use lib.ListN.{getD}
 use borrow.Author.Tests.{ne-eqb}
 use Rattle.le.specs.Le.{u64At}
-use Rattle.le.specs.Width.{numAt}
-use Rattle.le.specs.Laws.{u64At-is}
 use Rattle.server_state.specs.Layout.{lockOf}
+use Rattle.server_state.specs.Facts.{zero-eight}
 use Rattle.server_changes.specs.Changes.{freeOneB, freeTo}
 
 -- the locks of i on n addresses from a
@@ -29,15 +27,6 @@ free-page i s p e f =
     let next : p * 8 + 8 ≡ (p + 1) * 8 = omega arith in
     f ∙ ap (λ (t : List ℕ). freeFrom i t (p * 8) 8) e ∙ free-more i s (p * 8) 8 ∙ ap (freeTo i s) next
 
--- the bytes of a number that is 0
-zero-bytes : (n : ℕ) (s : List ℕ) (at : ℕ) → numAt n s at ≡ 0 → (k : ℕ) → k < n → getD s (at + k) 0 ≡ 0
-unfolding numAt
-zero-bytes zero s at e k l = absurd (omega arith)
-zero-bytes (suc n) s at e zero l = let here : at + 0 ≡ at = omega arith in rw here (omega arith)
-zero-bytes (suc n) s at e (suc k) l =
-    let there : at + suc k ≡ suc at + k = omega arith in
-    rw there (zero-bytes n s (suc at) (omega arith) k (omega arith))
-
 none-freed : (i : ℕ) (s : List ℕ) (a n : ℕ) → ((k : ℕ) → k < n → lockOf s (a + k) ≡ 0) → freeFrom i s a n ≡ s
 unfolding freeFrom freeOneB
 none-freed i s a zero h = refl
@@ -50,4 +39,4 @@ nothing-locked i p s e =
     (none-freed i s (p * 8) 8
     (λ k l.
     let at : 36216 + (p * 8 + k) ≡ 36216 + p * 8 + k = omega arith in
-    rw at (zero-bytes 8 s (36216 + p * 8) (sym (u64At-is s (36216 + p * 8)) ∙ e) k l)))
+    rw at (zero-eight s (36216 + p * 8) k l e)))

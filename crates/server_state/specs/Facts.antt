@@ -1,6 +1,6 @@
 -- What number 1 tells of a state that passes.
-use Prim.Native.Nat.{ℕ, _+_, _*_, _≤_, _<_}
-use mathlib.Core.Path.{_≡_, refl, sym}
+use Prim.Native.Nat.{ℕ, zero, suc, _+_, _*_, _≤_, _<_}
+use mathlib.Core.Path.{_≡_, refl, sym, _∙_}
 use mathlib.Core.List.{List}
 use mathlib.Core.Logic.{_≢_}
 use mathlib.Core.Bool.{Bool, true, false, not, _&&_, _||_}
@@ -8,6 +8,9 @@ use lib.ListN.{length, getD}
 use lib.Dec.{eqb, ltb}
 use native.Mathlib.Omega.{arith}
 use borrow.Author.Tests.{eqb-true, eqb-false, ltb-true, leb-true, not-true, eq-eqb, ne-eqb}
+use Rattle.le.specs.Le.{u64At}
+use Rattle.le.specs.Width.{numAt}
+use Rattle.le.specs.Laws.{u64At-is}
 use Rattle.lists.specs.Tests.{allTo, allTo-at, allTo-of, and-l, and-r}
 use Rattle.server_state.specs.Layout.{serverLength, ageOf, arrivalOf, agesOf, arrivalsOf, workNumber, latestOf, lockOf, wholeOf, kindOf, wantOf, calledOf, unfinishedOf}
 use Rattle.server_state.specs.Valid.{mostAt, most, rangesOk, countersOk, stationOk, besideAt, namesOk, pageOk, apartAt, apartOk, valid, kindsOk}
@@ -196,3 +199,16 @@ apart-idle s i e =
     or-true : (b : Bool) → (b || true) ≡ true
     or-true true = refl
     or-true false = refl
+
+-- the bytes of a number that is 0
+pub zero-bytes : (n : ℕ) (s : List ℕ) (at : ℕ) → numAt n s at ≡ 0 → (k : ℕ) → k < n → getD s (at + k) 0 ≡ 0
+unfolding numAt
+zero-bytes zero s at e k l = absurd (omega arith)
+zero-bytes (suc n) s at e zero l = let here : at + 0 ≡ at = omega arith in rw here (omega arith)
+zero-bytes (suc n) s at e (suc k) l =
+    let there : at + suc k ≡ suc at + k = omega arith in
+    rw there (zero-bytes n s (suc at) (omega arith) k (omega arith))
+
+-- eight bytes at once
+pub zero-eight : (s : List ℕ) (at k : ℕ) → k < 8 → u64At s at ≡ 0 → getD s (at + k) 0 ≡ 0
+zero-eight s at k l e = zero-bytes 8 s at (sym (u64At-is s at) ∙ e) k l

@@ -1,24 +1,24 @@
 -- Who blocks a waiting station, by the bytes of pages: the stations of `blocksB` as one station set.
-use Prim.Native.Nat.{ℕ, zero, suc, _+_, _-_, _*_, _<_, _%_, _^_}
+use Prim.Native.Nat.{ℕ, zero, suc, _+_, _*_, _<_, _%_, _^_}
 use mathlib.Core.Path.{_≡_, refl, sym, ap, ap₂, _∙_}
 use mathlib.Core.Bool.{Bool, true, false, not, _&&_, _||_, cond, and-true, and-false}
 use mathlib.Core.List.{List}
-use native.Mathlib.Nat.{lt-of-le-of-lt, add-zero}
+use native.Mathlib.Nat.{lt-of-le-of-lt}
 use native.Mathlib.Omega.{arith}
-use lib.Dec.{eqb, ltb, leb}
-use lib.ListN.{getD}
+use lib.Dec.{eqb, leb}
 use lib.Bits.{bitAnd, bitOr, and-le-l, or-lt}
 use lib.Pow.{pow-lt}
 use borrow.Author.Tests.{lt-ltb, le-leb, leb-true}
 use Rattle.sets.specs.Base.{any}
-use Rattle.sets.specs.Laws.{byB, byEq, eqb-same, eqb-yes, eqb-no, ltb-yes, ltb-no, and-l, and-r, not-yes, any-ext}
-use Rattle.le.specs.Le.{u32At, u64At}
+use Rattle.sets.specs.Laws.{byB, byEq, eqb-same, eqb-yes, eqb-no, and-l, and-r, not-yes, any-ext}
+use Rattle.le.specs.Le.{u64At}
 use Rattle.cells.specs.Num.{AllBytes}
 use Rattle.cells.specs.Upd.{eqb-diff}
 use Rattle.cells.specs.Bits.{tb, tb-zero, tb-or, tb-and, tb-pow, tb-test, tb-tells}
 use Rattle.cells.specs.Loops.{anyTo, any-to, any-suc, any-same, maskTo, mask-is, mask-lt}
 use Rattle.cells.specs.Pages.{any-byte}
 use Rattle.station_state.specs.Layout.{hasBit}
+use Rattle.server_state.specs.Facts.{zero-eight}
 use Rattle.server_state.specs.Layout.{lockOf, readSet, writtenSet, busyOf, waitsB, otherB, wantedOn}
 use Rattle.server_tests.specs.Tests.{earlierB, blocksB, blockedAtB, blockedOnB, blockedB, edgeAtB, edgeOnB, edgeB, edgeSet}
 
@@ -112,21 +112,6 @@ skip x f r h =
 
 -- the holders of locks
 
--- eight lock bytes that are 0 as one number
-no-four : (s : List ℕ) (a o : ℕ) → o < 4 → u32At s a ≡ 0 → getD s (a + o) 0 ≡ 0
-unfolding u32At
-no-four s a zero l e = rw (add-zero a) (omega arith)
-no-four s a (suc zero) l e = omega arith
-no-four s a (suc (suc zero)) l e = omega arith
-no-four s a (suc (suc (suc zero))) l e = omega arith
-no-four s a (suc (suc (suc (suc o)))) l e = absurd (omega arith)
-
-pub no-locks : (s : List ℕ) (a o : ℕ) → o < 8 → u64At s a ≡ 0 → getD s (a + o) 0 ≡ 0
-unfolding u64At
-no-locks s a o l e = byB (ltb o 4)
-    (λ t. no-four s a o (ltb-yes o 4 t) (omega arith))
-    (λ t. let q = ltb-no o 4 t in let g : a + o ≡ a + 4 + (o - 4) = omega (arith, q) in rw g (no-four s (a + 4) (o - 4) (omega (arith, q)) (omega arith)))
-
 -- the bit of a holder h, and whether it is j's
 bit-of : (x : Bool) (h i j : ℕ) → j < 8 → tb (cond (x && otherB h i && leb h 8) (2 ^ ((h + 7) % 8)) 0) j ≡ (x && (eqb h (j + 1) && not (eqb j i)))
 unfolding otherB
@@ -182,7 +167,7 @@ holders-bit s i j p l =
     free : u64At s (36216 + p * 8) ≡ 0 → (o : ℕ) → o < 8 → lockB s i j p o ≡ false
     free e o q =
         let a : 36216 + (p * 8 + o) ≡ 36216 + p * 8 + o = omega arith in
-        rw (a, no-locks s (36216 + p * 8) o q e, eqb-diff 0 (j + 1) (λ z. omega arith)) (and-false (hasBit (wantedOn s i p) o))
+        rw (a, zero-eight s (36216 + p * 8) o q e, eqb-diff 0 (j + 1) (λ z. omega arith)) (and-false (hasBit (wantedOn s i p) o))
 
 -- the waiters ahead
 

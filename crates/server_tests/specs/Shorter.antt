@@ -11,9 +11,10 @@ use Rattle.le.specs.Le.{u64At}
 use Rattle.cells.specs.Bits.{tb, tb-zero}
 use Rattle.cells.specs.Loops.{anyTo, any-to}
 use Rattle.station_state.specs.Layout.{hasBit}
+use Rattle.server_state.specs.Facts.{zero-eight}
 use Rattle.server_state.specs.Layout.{lockOf, wholeOf, writtenSet, lockingB}
 use Rattle.server_tests.specs.Tests.{lockAtB, lockOnB, dropsLockedB, concernsAt, concernedB, waitsToWriteB}
-use Rattle.server_tests.specs.Blockers.{joinTo, join-is, bit-is, any-none, no-locks}
+use Rattle.server_tests.specs.Blockers.{joinTo, join-is, bit-is, any-none}
 
 -- a page without locks on objects
 pub lock-whole : (s : List ℕ) (i p : ℕ) → u64At s (36216 + p * 8) ≡ 0 → lockOnB s i p ≡ eqb (wholeOf s p) (i + 1)
@@ -24,7 +25,7 @@ lock-whole s i p e =
     free : (o : ℕ) → o < 8 → eqb (lockOf s (p * 8 + o)) (i + 1) ≡ false
     free o l =
         let at : 36216 + (p * 8 + o) ≡ 36216 + p * 8 + o = omega arith in
-        rw (at, no-locks s (36216 + p * 8) o l e, ne-eqb 0 (i + 1) (λ z. omega arith))
+        rw (at, zero-eight s (36216 + p * 8) o l e, ne-eqb 0 (i + 1) (λ z. omega arith))
 
 -- what station j waits to write on page p, if it is another than i
 unfoldable pub writtenBy : List ℕ → ℕ → ℕ → ℕ → ℕ

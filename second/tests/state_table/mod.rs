@@ -46,3 +46,9 @@ pub fn with(bytes: &[u8], at: usize, byte: u8) -> Vec<u8> {
     bytes[at] = byte;
     bytes
 }
+
+/// The bytes that are not 0, with their places.
+pub fn not_zero(bytes: &[u8]) -> Vec<(usize, u8)> {
+    let places = bytes.iter().copied().enumerate();
+    places.filter(|(_, byte)| *byte != 0).collect()
+}
