@@ -50,7 +50,7 @@ static const char *words_of(uint32_t number)
     return number < sizeof words / sizeof words[0] && words[number] != NULL ? words[number] : "no number of this call";
 }
 
-/* A refused call has changed nothing, so there is nothing to undo. This host makes none on purpose but for purges. */
+/* A refused call has changed nothing, so there is nothing to undo. Of this host's calls a purge alone may be refused. */
 static void expect_taken(const char *call, size_t station, uint32_t number)
 {
     if (number == WAX_OK)
