@@ -1,0 +1,84 @@
+# The C package: library, header, pkg-config file, documents and examples. `make help` says what there is; GNU make.
+
+VERSION = 1.0.0
+
+PREFIX = /usr/local
+INCLUDEDIR = $(PREFIX)/include
+LIBDIR = $(PREFIX)/lib
+DOCDIR = $(PREFIX)/share/doc/waxwingrack
+
+CC = gcc
+CFLAGS = -std=c99 -O2 -g -Wall -Wextra -Wpedantic -Wshadow -Wconversion
+INSTALL = install
+
+LIBRARY = target/lib/libwaxwingrack.a
+HEADER = include/waxwingrack.h
+EXAMPLES := $(sort $(wildcard examples/*.c))
+# what C-INTERFACE.md, STATE.md and PROTOCOL.md link to is here too
+DOCUMENTS = $(addprefix docs/,C-INTERFACE.md STATE.md PROTOCOL.md DECISIONS.md PROVED.md)
+CHARTS := $(sort $(wildcard docs/protocol/*.svg))
+
+# must-fail edits do not come into the library
+SOURCES := $(shell find crates -type f ! -path '*/must-fail/*')
+
+# beneath DOCDIR the documents keep the places that they have beneath docs/
+INSTALLED = $(INCLUDEDIR)/waxwingrack.h $(LIBDIR)/libwaxwingrack.a $(LIBDIR)/pkgconfig/waxwingrack.pc \
+            $(DOCUMENTS:docs/%=$(DOCDIR)/%) $(CHARTS:docs/%=$(DOCDIR)/%) $(EXAMPLES:%=$(DOCDIR)/%)
+below_prefix = $(patsubst $(PREFIX)/%,$${prefix}/%,$(1))
+
+.PHONY: all examples install uninstall absolute built help
+.DELETE_ON_ERROR:
+
+all: $(LIBRARY)
+
+$(LIBRARY): $(SOURCES)
+	tools/library
+
+examples: $(EXAMPLES:%.c=target/%)
+
+target/examples/%: examples/%.c $(HEADER) $(LIBRARY)
+	mkdir -p $(@D)
+	$(CC) $(CFLAGS) -Iinclude $< $(LIBRARY) -o $@
+
+install: absolute built
+	$(INSTALL) -d '$(DESTDIR)$(INCLUDEDIR)' '$(DESTDIR)$(LIBDIR)/pkgconfig' \
+	    '$(DESTDIR)$(DOCDIR)/protocol' '$(DESTDIR)$(DOCDIR)/examples'
+	$(INSTALL) -m 644 $(HEADER) '$(DESTDIR)$(INCLUDEDIR)'
+	$(INSTALL) -m 644 $(LIBRARY) '$(DESTDIR)$(LIBDIR)'
+	sed -e 's|@PREFIX@|$(PREFIX)|' -e 's|@INCLUDEDIR@|$(call below_prefix,$(INCLUDEDIR))|' \
+	    -e 's|@LIBDIR@|$(call below_prefix,$(LIBDIR))|' -e 's|@VERSION@|$(VERSION)|' \
+	    waxwingrack.pc.in >'$(DESTDIR)$(LIBDIR)/pkgconfig/waxwingrack.pc'
+	chmod 644 '$(DESTDIR)$(LIBDIR)/pkgconfig/waxwingrack.pc'
+	$(INSTALL) -m 644 $(DOCUMENTS) '$(DESTDIR)$(DOCDIR)'
+	$(INSTALL) -m 644 $(CHARTS) '$(DESTDIR)$(DOCDIR)/protocol'
+	$(INSTALL) -m 644 $(EXAMPLES) '$(DESTDIR)$(DOCDIR)/examples'
+
+# directories that others use too stay
+uninstall: absolute
+	@rm -f $(INSTALLED:%='$(DESTDIR)%')
+	@for directory in '$(DESTDIR)$(DOCDIR)/protocol' '$(DESTDIR)$(DOCDIR)/examples' '$(DESTDIR)$(DOCDIR)'; do \
+	    [ ! -d "$$directory" ] || rmdir "$$directory"; \
+	done
+	@echo 'removed from $(DESTDIR)$(PREFIX)'
+
+# the file for pkg-config holds these, so they may be neither relative nor in need of quotes
+absolute:
+	@for path in '$(PREFIX)' '$(INCLUDEDIR)' '$(LIBDIR)' '$(DOCDIR)'; do case $$path in \
+	    *[!-A-Za-z0-9_.+~/]*|[!/]*|'') \
+	        echo "make: '$$path' is not an absolute path of letters, digits and -_.+~/" >&2; exit 2 ;; \
+	esac; done
+
+# An install proves nothing anew if a library is there: what `make` has built is what root installs.
+built:
+	@[ -e $(LIBRARY) ] || $(MAKE) --no-print-directory all
+	@$(MAKE) --no-print-directory --question all || \
+	    echo "make: $(LIBRARY) is older than crates/ and is installed as it is; 'make' builds it anew" >&2
+
+help:
+	@echo 'make                 proves and builds $(LIBRARY), if it is not there or older than crates/'
+	@echo 'make examples        builds the C examples into target/examples'
+	@echo 'make install         installs version $(VERSION) below PREFIX ($(PREFIX)); no proof if the library is there'
+	@echo 'make uninstall       removes what an install with the same variables has put there'
+	@echo
+	@echo 'Variables: PREFIX, INCLUDEDIR, LIBDIR, DOCDIR (absolute paths), DESTDIR (put before all of them, for packagers),'
+	@echo 'CC, CFLAGS, INSTALL. A build of the library needs the Rattle toolchain (rt); an install of a built one does not.'
