@@ -18,8 +18,8 @@ EXAMPLES := $(sort $(wildcard examples/*.c))
 DOCUMENTS = $(addprefix docs/,C-INTERFACE.md STATE.md PROTOCOL.md DECISIONS.md PROVED.md)
 CHARTS := $(sort $(wildcard docs/protocol/*.svg))
 
-# must-fail edits do not come into the library
-SOURCES := $(shell find crates -type f ! -path '*/must-fail/*')
+# edits that the prover must refuse do not come into the library
+SOURCES := $(shell find crates -type f ! -name '*.edit')
 
 # beneath DOCDIR the documents keep the places that they have beneath docs/
 INSTALLED = $(INCLUDEDIR)/waxwingrack.h $(LIBDIR)/libwaxwingrack.a $(LIBDIR)/pkgconfig/waxwingrack.pc \
