@@ -159,8 +159,13 @@ impl<'a> Chart<'a> {
         text::wrap(first, TITLE_SIZE * 1.12, most).len()
     }
 
+    /// The lower edge of the columns' heads.
+    fn top(&self) -> f64 {
+        self.heads + HEAD_HEIGHT
+    }
+
     fn place_items(&mut self, widths: &[usize]) {
-        let mut y = self.heads + HEAD_HEIGHT + 12.0;
+        let mut y = self.top() + 12.0;
         for (item, width) in self.trace.items.iter().zip(widths) {
             let place = match item {
                 Item::Row(row) => self.row_place(row, y),
@@ -247,23 +252,13 @@ impl<'a> Chart<'a> {
 
     fn arrow(&self, number: usize) -> Arrow {
         let message = &self.trace.messages[number];
-        let row = self.row(message.sent);
-        let side = self.side_of(row, number);
-        let place = row
-            .sent
-            .iter()
-            .position(|sent| *sent == number)
-            .unwrap_or(0);
-        let from = point(
-            self.edge(row, side),
-            self.places[message.sent].top + self.departures(row)[place],
-        );
-        let to = match message.taken {
-            Some(taken) => point(
-                self.edge(self.row(taken), -side),
-                self.places[taken].top + IN,
-            ),
-            None => self.lost(message.station, message.up, from),
+        let taken = message.taken.map(|item| self.arrival(item, number));
+        let sent = message.sent.map(|item| self.departure(item, number));
+        let (from, to) = match (sent, taken) {
+            (Some(from), Some(to)) => (from, to),
+            (Some(from), None) => (from, self.under_way(from, message.receiver(), self.bottom)),
+            (None, Some(to)) => (self.under_way(to, message.sender(), self.top()), to),
+            (None, None) => unreachable!("a message is drawn from its sending or its taking"),
         };
         Arrow {
             from,
@@ -272,15 +267,27 @@ impl<'a> Chart<'a> {
         }
     }
 
-    /// The end of a message that is still under way: on its way, at the bottom.
-    fn lost(&self, station: u8, up: bool, from: Point) -> Point {
-        let end = if up {
-            End::Server
-        } else {
-            End::Station(station)
-        };
+    fn departure(&self, item: usize, message: usize) -> Point {
+        let row = self.row(item);
+        let place = row.sent.iter().position(|sent| *sent == message);
+        point(
+            self.edge(row, self.side_of(row, message)),
+            self.places[item].top + self.departures(row)[place.unwrap_or(0)],
+        )
+    }
+
+    fn arrival(&self, item: usize, message: usize) -> Point {
+        let row = self.row(item);
+        point(
+            self.edge(row, self.side_of(row, message)),
+            self.places[item].top + IN,
+        )
+    }
+
+    /// The other end of a message that is under way at the bottom, or at the top: on its way to or from there.
+    fn under_way(&self, from: Point, end: End, y: f64) -> Point {
         let to = self.columns.get(end).x;
-        point(from.x + (to - from.x) * 0.6, self.bottom)
+        point(from.x + (to - from.x) * 0.6, y)
     }
 }
 
