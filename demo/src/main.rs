@@ -162,5 +162,9 @@ fn draw(stretch: &Stretch, seed: u64, path: &str, mut file: File) -> Result<(), 
     let written = file.write_all(drawn.svg.as_bytes());
     written.map_err(|error| format!("cannot write {path}: {error}"))?;
     println!("chart {path}");
+    if drawn.clashes > 0 {
+        let clashes = drawn.clashes;
+        eprintln!("demo: in the chart {clashes} labels lie on other text; fewer --chart-calls leave more room");
+    }
     Ok(())
 }
