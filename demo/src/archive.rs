@@ -37,6 +37,8 @@ fn read_up_to(from: &mut impl Read, length: usize, bytes: &mut Vec<u8>) -> io::R
     Ok(())
 }
 
+const HEADING: &str = "commit station transaction reads writes";
+
 /// What the playback program printed.
 #[derive(Debug, Default, PartialEq, Eq)]
 pub struct Printed {
@@ -56,18 +58,27 @@ pub fn printed(program: &str, file: File) -> io::Result<Printed> {
     printed
 }
 
-/// `commit station transaction reads writes`, a line of these numbers for each commit, and a last line.
+/// The heading, a line of its numbers for each commit, and a last line.
 fn parsed(text: impl BufRead) -> io::Result<Printed> {
     let mut printed = Printed::default();
-    for line in text.lines().skip(1) {
+    let mut lines = text.lines();
+    match lines.next().transpose()? {
+        Some(line) if line == HEADING => (),
+        line => return Err(odd(line.unwrap_or_default())),
+    }
+    for line in lines {
         let line = line?;
         match commit_of(&line) {
             Some(station) => printed.commits[station] += 1,
             None if printed.last_line.is_empty() => printed.last_line = line,
-            None => return Err(io::Error::new(ErrorKind::InvalidData, line)),
+            None => return Err(odd(line)),
         }
     }
     Ok(printed)
+}
+
+fn odd(line: String) -> io::Error {
+    io::Error::new(ErrorKind::InvalidData, format!("it prints `{line}`"))
 }
 
 /// The station of a commit's line.
@@ -82,14 +93,13 @@ fn commit_of(line: &str) -> Option<usize> {
 #[cfg(test)]
 mod tests {
     use super::*;
-    use crate::shift::Shift;
+    use crate::shift::worked;
 
     const SHORT: u32 = 12;
 
     fn archive(seed: u64, frames: u64) -> Vec<u8> {
         let mut bytes = Vec::new();
-        let mut shift = Shift::new(seed, frames, &mut bytes);
-        while shift.turn().unwrap() {}
+        worked(seed, frames, &mut bytes);
         bytes
     }
 
@@ -118,8 +128,7 @@ mod tests {
 
     #[test]
     fn what_playback_prints() {
-        let head = "commit station transaction reads writes\n";
-        let of = |text: &str| parsed(format!("{head}{text}").as_bytes());
+        let of = |text: &str| parsed(format!("{HEADING}\n{text}").as_bytes());
         let printed = of("1 0 1 1 1\n2 7 1 1 0\n3 7 2 0 0\nend 3\n").unwrap();
         assert_eq!(printed.commits, [1, 0, 0, 0, 0, 0, 0, 2]);
         assert_eq!(printed.last_line, "end 3");
@@ -128,5 +137,7 @@ mod tests {
             "refused 12 after 0"
         );
         assert!(of("end 3\nmore\n").is_err());
+        assert!(parsed(&b""[..]).is_err());
+        assert!(parsed(&b"end 0\n"[..]).is_err());
     }
 }

@@ -9,7 +9,7 @@ use second::archive::Playback;
 use second::line::sets::STATIONS;
 use second::line::Kind;
 use second::numbers::OK;
-use std::io;
+use std::io::Write;
 
 /// What was found when the archive was played back.
 pub struct Played {
@@ -28,17 +28,28 @@ pub struct Report {
 }
 
 impl Report {
-    pub fn of<W: io::Write>(shift: &Shift<W>, played: &Played) -> Report {
+    pub fn of<W: Write>(shift: &Shift<W>, played: &Played) -> Report {
         let mut report = Report::default();
         report.summary(shift);
-        report.stations(shift, &played.printed);
-        report.counters(shift, &played.playback);
+        report.line("");
+        report
+            .line("station  owner         kind            frames     aborts    commits   playback");
+        for station in 0..STATIONS {
+            report.station(station, shift, played.printed.commits[station]);
+        }
+        report.line("");
+        report.line("counter                      address    counted     server    archive");
+        for (address, name) in COUNTERS {
+            report.counter(address, name, shift, &played.playback);
+        }
+        report.others(shift, &played.playback);
+        report.line("");
         report.ends(shift, played);
         report
     }
 
-    fn line(&mut self, line: String) {
-        self.text += line.trim_end();
+    fn line(&mut self, line: &str) {
+        self.text += line;
         self.text.push('\n');
     }
 
@@ -51,83 +62,120 @@ impl Report {
         "DIFFERENT"
     }
 
-    fn summary<W: io::Write>(&mut self, shift: &Shift<W>) {
+    fn summary<W: Write>(&mut self, shift: &Shift<W>) {
         let told = shift.all_told();
         let (frames, calls, commits) = (shift.counted(), shift.calls, told.commits);
-        self.line(format!(
-            "{frames} frames counted in {commits} commits, by {calls} calls"
+        self.line(&format!(
+            "{frames} frames counted in {commits} commits, {calls} calls"
         ));
-        let wish = told.aborts[0];
-        self.line(format!(
-            "aborted and begun again: {}; by the office's own wish: {wish}",
-            causes(&told)
+        let (causes, wish) = (causes(&told), told.aborts[0]);
+        self.line(&format!(
+            "aborted and begun again: {causes}; by the office's own wish: {wish}"
         ));
         let looks = shift.staff.panel.looks;
-        self.line(format!(
-            "the panel looked {looks} times, and what it saw added up each time\n"
+        self.line(&format!(
+            "the panel looked {looks} times, and what it read added up each time"
         ));
     }
 
-    fn stations<W: io::Write>(&mut self, shift: &Shift<W>, printed: &Printed) {
-        self.line(String::from(
-            "station  owner         kind           frames     aborts    commits   playback",
+    /// What its owner was told, against the commits that were played back.
+    fn station<W: Write>(&mut self, station: usize, shift: &Shift<W>, played: u64) {
+        let kind = match KINDS[station] {
+            Kind::Locking => "locking",
+            Kind::Validating => "validating",
+        };
+        let frames = match station {
+            head if head < HEADS => shift.staff.counted(of_head(head)).to_string(),
+            _ => String::from("-"),
+        };
+        let told = &shift.told[station];
+        let (aborts, commits): (u64, u64) = (told.aborts.iter().sum(), told.commits);
+        let (owner, verdict) = (staff::name(station), self.verdict(commits == played));
+        self.line(&format!(
+            "{station:<7}  {owner:<12}  {kind:<10}  {frames:>10} {aborts:>10} {commits:>10} {played:>10}  {verdict}"
         ));
-        for station in 0..STATIONS {
-            let told = &shift.told[station];
-            let kind = match KINDS[station] {
-                Kind::Locking => "locking",
-                Kind::Validating => "validating",
-            };
-            let frames = match station {
-                head if head < HEADS => shift.staff.counted(of_head(head)).to_string(),
-                _ => String::from("-"),
-            };
-            let aborts: u64 = told.aborts.iter().sum();
-            let (commits, played) = (told.commits, printed.commits[station]);
-            let verdict = self.verdict(commits == played);
-            let owner = staff::name(station);
-            self.line(format!(
-                "{station:<7}  {owner:<12}  {kind:<10} {frames:>10} {aborts:>10} {commits:>10} {played:>10}  {verdict}"
-            ));
-        }
     }
 
-    fn counters<W: io::Write>(&mut self, shift: &Shift<W>, playback: &Playback) {
-        self.line(String::from(
-            "\ncounter                      address    counted     server    archive",
+    fn counter<W: Write>(
+        &mut self,
+        address: u8,
+        name: &str,
+        shift: &Shift<W>,
+        playback: &Playback,
+    ) {
+        let counted = shift.staff.counted(address);
+        let server = shift.line.value(address);
+        let archive = playback.values[usize::from(address)];
+        let verdict = self.verdict(counted == server && counted == archive);
+        self.line(&format!(
+            "{name:<28} {address:>7} {counted:>10} {server:>10} {archive:>10}  {verdict}"
         ));
-        for (address, name) in COUNTERS {
-            let counted = shift.staff.counted(address);
-            let server = shift.line.value(address);
-            let archive = playback.values[usize::from(address)];
-            let verdict = self.verdict(counted == server && counted == archive);
-            self.line(format!(
-                "{name:<28} {address:>7} {counted:>10} {server:>10} {archive:>10}  {verdict}"
-            ));
-        }
-        let named = |address: u8| COUNTERS.iter().any(|(other, _)| *other == address);
-        let others = (0..=u8::MAX).filter(|address| !named(*address));
-        let none = |address: u8| {
+    }
+
+    /// Nobody counts anywhere else.
+    fn others<W: Write>(&mut self, shift: &Shift<W>, playback: &Playback) {
+        let is_counter = |address: u8| COUNTERS.iter().any(|(other, _)| *other == address);
+        let is_zero = |address: u8| {
             shift.line.value(address) == 0 && playback.values[usize::from(address)] == 0
         };
-        let verdict = self.verdict(others.into_iter().all(none));
-        self.line(format!(
-            "{:<69}  {verdict}",
-            "all other addresses: 0 at the server and in the archive"
-        ));
+        let mut others = (0..=u8::MAX).filter(|address| !is_counter(*address));
+        let verdict = self.verdict(others.all(is_zero));
+        let what = format!("the {} other addresses", 256 - COUNTERS.len());
+        self.line(&format!("{what:<36} {0:>10} {0:>10} {0:>10}  {verdict}", 0));
     }
 
-    fn ends<W: io::Write>(&mut self, shift: &Shift<W>, played: &Played) {
+    fn ends<W: Write>(&mut self, shift: &Shift<W>, played: &Played) {
         let commits = shift.all_told().commits;
-        let replayed = format!("{} after {}", played.number, played.playback.last);
-        let verdict =
-            self.verdict(played.number == OK && u64::from(played.playback.last) == commits);
-        self.line(format!("\nowners were told of {commits} commits"));
-        self.line(format!(
-            "replay through the C interface: number {replayed}: {verdict}"
+        self.line(&format!("owners were told of {commits} commits"));
+        let (number, last) = (played.number, played.playback.last);
+        let verdict = self.verdict(number == OK && u64::from(last) == commits);
+        self.line(&format!(
+            "replay through the C interface: number {number} after {last}: {verdict}"
         ));
         let last = &played.printed.last_line;
         let verdict = self.verdict(*last == format!("end {commits}"));
-        self.line(format!("the playback program: {last}: {verdict}"));
+        self.line(&format!("the playback program: {last}: {verdict}"));
+    }
+}
+
+#[cfg(test)]
+mod tests {
+    use super::*;
+    use crate::archive;
+    use crate::counters::FRAMES;
+    use crate::shift::worked;
+    use std::io;
+
+    /// The differences in the report of a short shift, after a change of what was played back.
+    fn differences(change: impl FnOnce(&mut Played)) -> usize {
+        let mut bytes = Vec::new();
+        worked(5, 100, &mut bytes);
+        let shift = worked(5, 100, io::sink());
+        let (playback, number) = archive::play(&bytes[..]).unwrap();
+        let printed = Printed {
+            commits: shift.told.map(|told| told.commits),
+            last_line: format!("end {}", playback.last),
+        };
+        let mut played = Played {
+            playback,
+            number,
+            printed,
+        };
+        change(&mut played);
+        Report::of(&shift, &played).differences
+    }
+
+    #[test]
+    fn a_difference_is_counted() {
+        assert_eq!(differences(|_| ()), 0);
+        assert_eq!(
+            differences(|played| played.playback.values[usize::from(FRAMES)] += 1),
+            1
+        );
+        assert_eq!(differences(|played| played.playback.values[255] = 1), 1);
+        assert_eq!(differences(|played| played.playback.last -= 1), 1);
+        assert_eq!(differences(|played| played.number = 12), 1);
+        assert_eq!(differences(|played| played.printed.commits[3] += 1), 1);
+        assert_eq!(differences(|played| played.printed.last_line.push('0')), 1);
     }
 }

@@ -8,10 +8,13 @@ use crate::staff::{self, Staff, KINDS, PANEL};
 use crate::stretch::Stretch;
 use second::line::call::Call;
 use second::line::sets::STATIONS;
+use second::line::Cause;
 use second::random::Random;
 use std::io::Write;
 
-/// Calls to a frame.
+/// The cause of an abort that no further try would mend.
+const NO_NUMBERS: u8 = Cause::Spent as u8;
+/// Turns to a frame: the heads meet often, and none is left behind for long.
 const PACE: usize = 80;
 
 pub struct Shift<W> {
@@ -133,6 +136,9 @@ impl<W: Write> Shift<W> {
         let told = &mut self.told[station];
         match self.owners[station].told(done.answer) {
             Came::Further => (),
+            Came::Aborted(NO_NUMBERS) => {
+                return Err(String::from("the commit numbers are used up"));
+            }
             Came::Aborted(cause) => told.aborts[usize::from(cause)] += 1,
             Came::Committed(_) => {
                 told.commits += 1;
@@ -178,5 +184,59 @@ impl<W: Write> Shift<W> {
             }
             all
         })
+    }
+}
+
+/// A whole shift.
+#[cfg(test)]
+pub fn worked<W: Write>(seed: u64, frames: u64, archive: W) -> Shift<W> {
+    let mut shift = Shift::new(seed, frames, archive);
+    while shift.turn().unwrap() {}
+    shift
+}
+
+#[cfg(test)]
+mod tests {
+    use super::*;
+    use crate::archive;
+    use crate::counters::COUNTERS;
+    use second::numbers::OK;
+
+    #[test]
+    fn every_frame_is_counted_once() {
+        for seed in 1..=6 {
+            let mut bytes = Vec::new();
+            let shift = worked(seed, 400, &mut bytes);
+            assert_eq!(shift.counted(), 400);
+            let told = shift.all_told();
+            assert!(told.aborts[1..4].iter().all(|aborts| *aborts > 0));
+            let shown = shift.staff.panel.shown.clone();
+            let values = COUNTERS.map(|(address, _)| shift.line.value(address));
+            let counted = COUNTERS.map(|(address, _)| shift.staff.counted(address));
+            let (playback, number) = archive::play(&bytes[..]).unwrap();
+            assert_eq!((u64::from(playback.last), number), (told.commits, OK));
+            assert_eq!(
+                COUNTERS.map(|(address, _)| playback.values[usize::from(address)]),
+                values
+            );
+            assert_eq!(counted, values);
+            assert!(shown
+                .iter()
+                .all(|(address, value)| playback.values[usize::from(*address)] == *value));
+        }
+    }
+
+    /// A host that cannot keep its archive stops.
+    #[test]
+    fn an_archive_that_cannot_be_written() {
+        let mut room = [0; 500];
+        let mut shift = Shift::new(1, 400, &mut room[..]);
+        let fault = loop {
+            match shift.turn() {
+                Ok(more) => assert!(more),
+                Err(fault) => break fault,
+            }
+        };
+        assert!(fault.contains("the archive cannot be written"), "{fault}");
     }
 }

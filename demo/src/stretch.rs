@@ -37,7 +37,7 @@ impl Stretch {
     /// All calls of the stretch have been made.
     fn is_over(&self) -> bool {
         self.from
-            .is_some_and(|from| self.made.len() + 1 >= from + self.calls)
+            .is_some_and(|from| self.made.len() + 1 >= from.saturating_add(self.calls))
     }
 
     /// Takes a call and what the compiled end made of it.
@@ -59,10 +59,18 @@ impl Stretch {
         Ok(())
     }
 
+    /// The first and the last call of the chart; where there was no victim, it begins with the shift.
+    pub fn drawn(&self) -> (usize, usize) {
+        let from = self.from.unwrap_or(1);
+        (
+            from,
+            self.made.len().min(from.saturating_add(self.calls - 1)),
+        )
+    }
+
     /// The chart.
     pub fn draw(&self, seed: u64) -> Result<Drawn, String> {
-        let last = self.made.len();
-        let from = self.from.unwrap_or(1);
+        let (from, last) = self.drawn();
         if from > last {
             return Err(format!("there is no call {from}: the last is {last}"));
         }
@@ -71,7 +79,7 @@ impl Stretch {
              # Stations 0 to 5 are heads, 6 is the panel, 7 the shift office. Arrows from above were sent before.\n\
              {}\n{}",
             Call::Fresh(KINDS),
-            call::script(&self.made)
+            call::script(&self.made[..last])
         );
         chart::draw_from(&script, from - 1).map_err(|fault| fault.to_string())
     }
@@ -102,4 +110,91 @@ fn has_victim(made: &Result<Done, Fault>) -> bool {
                 }
             )
         })
+}
+
+#[cfg(test)]
+mod tests {
+    use super::*;
+    use crate::shift::Shift;
+    use second::line::Answer;
+
+    fn stretch(from: Option<usize>, calls: usize) -> Stretch {
+        let mut shift = Shift::new(8, 60, Vec::new());
+        shift.stretch = Some(Stretch::new(from, calls));
+        while shift.turn().unwrap() {}
+        shift.stretch.unwrap()
+    }
+
+    #[test]
+    fn by_default_there_is_a_victim() {
+        let drawn = stretch(None, CALLS).draw(8).unwrap();
+        assert_eq!(drawn.clashes, 0);
+        assert!(drawn.svg.contains(", cause 1<"));
+        assert!(is_well_formed(&drawn.svg));
+    }
+
+    #[test]
+    fn the_stretch_that_was_asked_for() {
+        let stretch = stretch(Some(100), 12);
+        assert_eq!(stretch.drawn(), (100, 111));
+        assert_eq!(stretch.made.len(), 111);
+        let drawn = stretch.draw(8).unwrap();
+        assert!(drawn.svg.contains("calls 100 to 111"));
+        assert!(is_well_formed(&drawn.svg));
+        let whole = self::stretch(Some(1), usize::MAX);
+        assert_eq!(whole.drawn(), (1, whole.made.len()));
+        assert!(self::stretch(Some(usize::MAX), 1).draw(8).is_err());
+    }
+
+    #[test]
+    fn another_answer_is_a_fault() {
+        let begun = |transaction: u32| {
+            let answer = Answer::Begun(transaction);
+            let (sent, records) = (Vec::new(), Vec::new());
+            Ok(Done {
+                answer,
+                sent,
+                records,
+            })
+        };
+        let call = Call::Begin(0);
+        assert!(Stretch::new(None, 1).made(&call, &begun(1)).is_ok());
+        assert!(Stretch::new(None, 1).made(&call, &begun(2)).is_err());
+        assert!(Stretch::new(None, 1)
+            .made(&call, &Err(Fault::Refused(9)))
+            .is_err());
+    }
+
+    /// Elements are closed in their order, and nothing else looks like one.
+    fn is_well_formed(svg: &str) -> bool {
+        let mut open = Vec::new();
+        let mut pieces = svg.split('<');
+        let starts = pieces.next() == Some("");
+        let fits = pieces.all(|piece| {
+            let Some((tag, text)) = piece.split_once('>') else {
+                return false;
+            };
+            let name = tag.split(' ').next().unwrap_or_default();
+            match name.strip_prefix('/') {
+                Some(name) if open.pop() != Some(name) => return false,
+                None if !tag.ends_with('/') => open.push(name),
+                _ => (),
+            }
+            !text.contains('>') && tag.matches('"').count() % 2 == 0
+        });
+        starts && fits && open.is_empty() && svg.starts_with("<svg ") && svg.ends_with("</svg>\n")
+    }
+
+    #[test]
+    fn what_is_well_formed() {
+        assert!(is_well_formed("<svg a=\"1\"><g><p/>x</g></svg>\n"));
+        for wrong in [
+            "<svg ><g></svg>\n",
+            "<svg ><g></svg></g>\n",
+            "<svg a=\">x</svg>\n",
+            "<svg >a > b</svg>\n",
+        ] {
+            assert!(!is_well_formed(wrong), "{wrong}");
+        }
+    }
 }
