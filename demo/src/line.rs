@@ -20,23 +20,10 @@ pub struct Line<W> {
     stations: [Vec<u8>; STATIONS],
     up: [Messages; STATIONS],
     down: [Messages; STATIONS],
-    of_server: ServerBuffers,
-    of_station: StationBuffers,
+    /// What is lent beside a state; nothing in it is kept from call to call.
+    of_server: served::Results,
+    of_station: lent::Results,
     archive: W,
-}
-
-/// What is lent to a server's step beside its state; nothing in it is kept.
-struct ServerBuffers {
-    messages: Vec<u8>,
-    records: Vec<u8>,
-    served: [u64; served::SERVED],
-}
-
-/// What is lent to a station's call beside its state.
-struct StationBuffers {
-    messages: Vec<u8>,
-    commit: Vec<u8>,
-    told: [u64; lent::TOLD],
 }
 
 /// What an accepted call left.
@@ -77,16 +64,8 @@ impl<W: Write> Line<W> {
             stations: std::array::from_fn(|station| fresh_station(station, kinds[station])),
             up: Default::default(),
             down: Default::default(),
-            of_server: ServerBuffers {
-                messages: vec![0; served::MESSAGES],
-                records: vec![0; served::RECORDS],
-                served: [0; served::SERVED],
-            },
-            of_station: StationBuffers {
-                messages: vec![0; lent::MESSAGES],
-                commit: vec![0; lent::COMMIT],
-                told: [0; lent::TOLD],
-            },
+            of_server: served::Results::default(),
+            of_station: lent::Results::default(),
             archive,
         }
     }
@@ -119,7 +98,7 @@ impl<W: Write> Line<W> {
             &mut self.of_server.lent(&mut self.server),
         ))?;
         self.up[station].pop_front();
-        let (messages, records) = self.of_server.left();
+        let (messages, records) = left_by_step(&self.of_server);
         if !records.is_empty() {
             self.archive.write_all(records).map_err(Fault::Archive)?;
         }
@@ -152,7 +131,7 @@ impl<W: Write> Line<W> {
     }
 
     fn carry_up(&mut self, station: usize) -> Done {
-        let done = self.of_station.left();
+        let done = left_by_call(&self.of_station);
         self.up[station].extend(done.sent.iter().cloned());
         done
     }
@@ -182,45 +161,23 @@ fn accepted(number: u32) -> Result<(), Fault> {
     }
 }
 
-impl ServerBuffers {
-    fn lent<'a>(&'a mut self, state: &'a mut [u8]) -> served::Lent<'a> {
-        served::Lent {
-            state,
-            messages: &mut self.messages,
-            records: &mut self.records,
-            served: &mut self.served,
-        }
-    }
-
-    /// The messages and the records that a step left.
-    fn left(&self) -> (&[u8], &[u8]) {
-        let [messages, records] = self.served.map(|number| number as usize);
-        (
-            &self.messages[..messages * MESSAGE],
-            &self.records[..records],
-        )
-    }
+/// The messages and the records that a server's step left.
+fn left_by_step(results: &served::Results) -> (&[u8], &[u8]) {
+    let [messages, records] = results.served.map(|number| number as usize);
+    (
+        &results.messages[..messages * MESSAGE],
+        &results.records[..records],
+    )
 }
 
-impl StationBuffers {
-    fn lent<'a>(&'a mut self, state: &'a mut [u8]) -> Lent<'a> {
-        Lent {
-            state,
-            messages: &mut self.messages,
-            commit: &mut self.commit,
-            told: &mut self.told,
-        }
-    }
-
-    /// What a call left: messages, or a commit.
-    fn left(&self) -> Done {
-        let [_, _, messages, commit] = self.told.map(|number| number as usize);
-        let messages = self.messages[..messages * MESSAGE].chunks(MESSAGE);
-        let commit = Some(&self.commit[..commit]).filter(|bytes| !bytes.is_empty());
-        Done {
-            answer: stations::answer(&self.told).expect("an answer of the C interface"),
-            sent: messages.chain(commit).map(<[u8]>::to_vec).collect(),
-            records: Vec::new(),
-        }
+/// What a station's call left: what it tells, and messages or a commit.
+fn left_by_call(results: &lent::Results) -> Done {
+    let [_, _, messages, commit] = results.told.map(|number| number as usize);
+    let messages = results.messages[..messages * MESSAGE].chunks(MESSAGE);
+    let commit = Some(&results.commit[..commit]).filter(|bytes| !bytes.is_empty());
+    Done {
+        answer: stations::answer(&results.told).expect("an answer of the C interface"),
+        sent: messages.chain(commit).map(<[u8]>::to_vec).collect(),
+        records: Vec::new(),
     }
 }

@@ -14,7 +14,7 @@ mod stretch;
 
 use progress::Progress;
 use report::{Played, Report};
-use settings::{Chart, Settings};
+use settings::Settings;
 use shift::Shift;
 use std::fs::File;
 use std::io::{self, Write};
@@ -35,37 +35,38 @@ fn main() -> ExitCode {
 
 /// True if everything agrees.
 fn run(settings: &Settings) -> Result<bool, String> {
-    let (archive, chart) = outputs(settings)?;
-    let mut shift = Shift::new(settings.seed, settings.frames, archive);
-    shift.stretch = chart
-        .as_ref()
-        .map(|(chart, _)| Stretch::new(chart.from, chart.calls));
+    check(settings)?;
+    let chart = settings.chart.as_ref();
+    let chart_file = chart.map(|chart| create(&chart.path)).transpose()?;
+    let mut shift = Shift::new(settings.seed, settings.frames, create(&settings.archive)?);
+    shift.stretch = chart.map(|chart| Stretch::new(chart.from, chart.calls));
     work(&mut shift, settings)?;
     let played = played(&settings.archive, &settings.playback)?;
     let report = Report::of(&shift, &played);
     say(&report.text)?;
-    if let (Some((chart, file)), Some(stretch)) = (chart, &shift.stretch) {
+    if let (Some(chart), Some(file), Some(stretch)) = (chart, chart_file, &shift.stretch) {
         draw(stretch, settings.seed, &chart.path, file)?;
     }
     Ok(report.differences == 0)
 }
 
-/// The files to write. What cannot be done at the end is better known before a long run.
-fn outputs(settings: &Settings) -> Result<(File, Option<(&Chart, File)>), String> {
+/// What cannot be done at the end is better known before a long run.
+fn check(settings: &Settings) -> Result<(), String> {
     let Settings {
-        archive, playback, ..
+        archive,
+        playback,
+        chart,
+        ..
     } = settings;
     if !Path::new(playback).exists() {
         return Err(format!("there is no playback program {playback}"));
     }
-    let mut files = None;
-    if let Some(chart) = &settings.chart {
-        if chart.path == *archive {
-            return Err(format!("{archive} cannot be archive and chart"));
+    match chart {
+        Some(chart) if chart.path == *archive => {
+            Err(format!("{archive} cannot be archive and chart"))
         }
-        files = Some((chart, create(&chart.path)?));
+        _ => Ok(()),
     }
-    Ok((create(archive)?, files))
 }
 
 fn create(path: &str) -> Result<File, String> {

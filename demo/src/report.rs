@@ -103,25 +103,36 @@ impl Report {
         shift: &Shift<W>,
         playback: &Playback,
     ) {
-        let counted = shift.staff.counted(address);
-        let server = shift.line.value(address);
-        let archive = playback.values[usize::from(address)];
-        let verdict = self.verdict(counted == server && counted == archive);
-        self.line(&format!(
-            "{name:<28} {address:>7} {counted:>10} {server:>10} {archive:>10}  {verdict}"
-        ));
+        let totals = totals(address, shift, playback);
+        self.totals(
+            &format!("{name:<28} {address:>7}"),
+            totals,
+            all_equal(totals),
+        );
     }
 
     /// Nobody counts anywhere else.
     fn others<W: Write>(&mut self, shift: &Shift<W>, playback: &Playback) {
         let is_counter = |address: u8| COUNTERS.iter().any(|(other, _)| *other == address);
-        let is_zero = |address: u8| {
-            shift.line.value(address) == 0 && playback.values[usize::from(address)] == 0
-        };
-        let mut others = (0..=u8::MAX).filter(|address| !is_counter(*address));
-        let verdict = self.verdict(others.all(is_zero));
-        let what = format!("the {} other addresses", 256 - COUNTERS.len());
-        self.line(&format!("{what:<36} {0:>10} {0:>10} {0:>10}  {verdict}", 0));
+        let others = (0..=u8::MAX).filter(|address| !is_counter(*address));
+        let totals: Vec<[u64; 3]> = others
+            .map(|address| totals(address, shift, playback))
+            .collect();
+        let sums = [0, 1, 2].map(|i| {
+            totals
+                .iter()
+                .fold(0u64, |sum, one| sum.wrapping_add(one[i]))
+        });
+        let equal = totals.iter().all(|one| all_equal(*one));
+        let what = format!("the {} other addresses", totals.len());
+        self.totals(&format!("{what:<36}"), sums, equal);
+    }
+
+    fn totals(&mut self, what: &str, [counted, server, archive]: [u64; 3], equal: bool) {
+        let verdict = self.verdict(equal);
+        self.line(&format!(
+            "{what} {counted:>10} {server:>10} {archive:>10}  {verdict}"
+        ));
     }
 
     fn ends<W: Write>(&mut self, shift: &Shift<W>, played: &Played) {
@@ -136,6 +147,17 @@ impl Report {
         let verdict = self.verdict(*last == format!("end {commits}"));
         self.line(&format!("the playback program: {last}: {verdict}"));
     }
+}
+
+/// What owners were told, what the server has, what the archive gives.
+fn totals<W: Write>(address: u8, shift: &Shift<W>, playback: &Playback) -> [u64; 3] {
+    let counted = shift.staff.counted(address);
+    let archive = playback.values[usize::from(address)];
+    [counted, shift.line.value(address), archive]
+}
+
+fn all_equal([counted, server, archive]: [u64; 3]) -> bool {
+    counted == server && counted == archive
 }
 
 #[cfg(test)]
