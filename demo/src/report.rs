@@ -68,9 +68,10 @@ impl Report {
         self.line(&format!(
             "{frames} frames counted in {commits} commits, {calls} calls"
         ));
-        let (causes, wish) = (causes(&told), told.aborts[0]);
+        self.line(&format!("aborted and begun again: {}", causes(&told)));
+        let (wish, purged) = (told.aborts[0], shift.purged);
         self.line(&format!(
-            "aborted and begun again: {causes}; by the office's own wish: {wish}"
+            "the office aborted {wish} times by its own wish, and purged {purged} copies of pages"
         ));
         let looks = shift.staff.panel.looks;
         self.line(&format!(

@@ -5,7 +5,10 @@ use second::options::Options;
 use std::process;
 
 /// tools/demo shows it too, before anything is built.
-const USAGE: &str = include_str!("../usage.txt");
+const USAGE: &str = include_str!("../usage.txt").trim_ascii_end();
+
+/// Frames, unless the command line says so.
+const FRAMES: u64 = 200_000;
 
 /// Options with a value.
 const VALUES: [&str; 7] = [
@@ -37,12 +40,12 @@ impl Settings {
     pub fn read() -> Settings {
         let options = Options::read(USAGE, &VALUES, &["--help"]).without_words();
         if options.has("--help") {
-            print!("usage: {USAGE}");
+            println!("usage: {USAGE}");
             process::exit(0);
         }
         let text = |name: &str, default: &str| options.text(name).unwrap_or(default).to_string();
         Settings {
-            frames: at_least_one(&options, "--frames", 200_000),
+            frames: at_least_one(&options, "--frames", FRAMES),
             seed: options.seed("--seed", 1),
             archive: text("--archive", "target/demo/shift.archive"),
             playback: text("--playback", "target/bin/playback"),
@@ -70,5 +73,19 @@ fn at_least_one(options: &Options, name: &str, default: u64) -> u64 {
     match options.number(name, default) {
         0 => options.misused(),
         number => number,
+    }
+}
+
+#[cfg(test)]
+mod tests {
+    use super::*;
+
+    #[test]
+    fn the_usage_names_options_and_defaults() {
+        for name in VALUES {
+            assert!(USAGE.contains(&format!("\n  {name} ")), "{name}");
+        }
+        assert!(USAGE.contains(&format!("frames to count, by default {FRAMES}\n")));
+        assert!(USAGE.contains(&format!("how many calls it shows, by default {CALLS}\n")));
     }
 }

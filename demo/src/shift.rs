@@ -8,7 +8,7 @@ use crate::staff::{self, Staff, KINDS, PANEL};
 use crate::stretch::Stretch;
 use second::line::call::Call;
 use second::line::sets::STATIONS;
-use second::line::Cause;
+use second::line::{Answer, Cause};
 use second::random::Random;
 use std::io::Write;
 
@@ -23,6 +23,8 @@ pub struct Shift<W> {
     pub belt: Belt,
     pub calls: u64,
     pub told: [Told; STATIONS],
+    /// Copies given back.
+    pub purged: u64,
     owners: [Owner; STATIONS],
     random: Random,
     last_look: bool,
@@ -55,6 +57,7 @@ impl<W: Write> Shift<W> {
             belt: Belt::new(random.number(), frames),
             calls: 0,
             told: [Told::default(); STATIONS],
+            purged: 0,
             owners: std::array::from_fn(|station| Owner::new(station as u8)),
             random,
             last_look: false,
@@ -133,6 +136,7 @@ impl<W: Write> Shift<W> {
     }
 
     fn tell(&mut self, station: usize, done: &Done) -> Result<(), String> {
+        self.purged += u64::from(done.answer == Answer::Purged);
         let told = &mut self.told[station];
         match self.owners[station].told(done.answer) {
             Came::Further => (),
@@ -209,7 +213,8 @@ mod tests {
             let shift = worked(seed, 400, &mut bytes);
             assert_eq!(shift.counted(), 400);
             let told = shift.all_told();
-            assert!(told.aborts[1..4].iter().all(|aborts| *aborts > 0));
+            assert!(told.aborts[..4].iter().all(|aborts| *aborts > 0));
+            assert!(shift.purged > 0);
             let shown = shift.staff.panel.shown.clone();
             let values = COUNTERS.map(|(address, _)| shift.line.value(address));
             let counted = COUNTERS.map(|(address, _)| shift.staff.counted(address));
