@@ -13,8 +13,8 @@ pub const PANEL: usize = HEADS;
 pub const OFFICE: usize = PANEL + 1;
 
 /// Each lane has a head of each kind, so that both kinds meet at its counters. The panel is locking: what it has read
-/// stays until it has read all, however busy the line is. The office is validating: it holds up no head, and begins
-/// again where a head was faster.
+/// stays until it has read all, and only as a deadlock's victim it begins again. The office is validating: it reads for
+/// long, holds up no head before its commit, and begins again where a head was faster.
 pub const KINDS: [Kind; STATIONS] = {
     use Kind::{Locking as L, Validating as V};
     [L, L, L, V, V, V, L, V]
