@@ -39,6 +39,7 @@ fn run(settings: &Settings) -> Result<bool, String> {
     let chart = settings.chart.as_ref();
     let chart_file = chart.map(|chart| create(&chart.path)).transpose()?;
     let mut shift = Shift::new(settings.seed, settings.frames, create(&settings.archive)?);
+    shift.pace = settings.pace;
     shift.stretch = chart.map(|chart| Stretch::new(chart.from, chart.calls));
     work(&mut shift, settings)?;
     let played = played(&settings.archive, &settings.playback)?;

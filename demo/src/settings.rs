@@ -1,5 +1,6 @@
 //! The command line.
 
+use crate::shift::PACE;
 use crate::stretch::CALLS;
 use second::options::Options;
 use std::process;
@@ -11,9 +12,10 @@ const USAGE: &str = include_str!("../usage.txt").trim_ascii_end();
 const FRAMES: u64 = 200_000;
 
 /// Options with a value.
-const VALUES: [&str; 7] = [
+const VALUES: [&str; 8] = [
     "--frames",
     "--seed",
+    "--pace",
     "--archive",
     "--playback",
     "--chart",
@@ -24,6 +26,7 @@ const VALUES: [&str; 7] = [
 pub struct Settings {
     pub frames: u64,
     pub seed: u64,
+    pub pace: usize,
     pub archive: String,
     pub playback: String,
     pub chart: Option<Chart>,
@@ -47,6 +50,7 @@ impl Settings {
         Settings {
             frames: at_least_one(&options, "--frames", FRAMES),
             seed: options.seed("--seed", 1),
+            pace: at_least_one(&options, "--pace", PACE as u64) as usize,
             archive: text("--archive", "target/demo/shift.archive"),
             playback: text("--playback", "target/bin/playback"),
             chart: chart(&options),
@@ -86,6 +90,7 @@ mod tests {
             assert!(USAGE.contains(&format!("\n  {name} ")), "{name}");
         }
         assert!(USAGE.contains(&format!("frames to count, by default {FRAMES}\n")));
+        assert!(USAGE.contains(&format!("turns to a frame, by default {PACE};")));
         assert!(USAGE.contains(&format!("how many calls it shows, by default {CALLS}\n")));
     }
 }

@@ -15,12 +15,14 @@ use std::io::Write;
 /// The cause of an abort that no further try would mend.
 const NO_NUMBERS: u8 = Cause::Spent as u8;
 /// Turns to a frame: the heads meet often, and none is left behind for long.
-const PACE: usize = 80;
+pub const PACE: usize = 80;
 
 pub struct Shift<W> {
     pub line: Line<W>,
     pub staff: Staff,
     pub belt: Belt,
+    /// Turns to a frame.
+    pub pace: usize,
     pub calls: u64,
     pub told: [Told; STATIONS],
     /// Copies given back.
@@ -55,6 +57,7 @@ impl<W: Write> Shift<W> {
             line: Line::fresh(KINDS, archive),
             staff: Staff::default(),
             belt: Belt::new(random.number(), frames),
+            pace: PACE,
             calls: 0,
             told: [Told::default(); STATIONS],
             purged: 0,
@@ -68,7 +71,7 @@ impl<W: Write> Shift<W> {
     /// A frame passes, or an end acts. False when nothing is left to do.
     pub fn turn(&mut self) -> Result<bool, String> {
         let moves = self.moves();
-        if moves.is_empty() || self.random.one_in(PACE) {
+        if moves.is_empty() || self.random.one_in(self.pace) {
             if let Some(frame) = self.belt.next() {
                 self.staff.sees(&frame);
                 return Ok(true);
