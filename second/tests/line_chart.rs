@@ -1,6 +1,6 @@
 //! Charts of scripts: what is drawn is what happened, and nothing lies on anything else.
 
-use second::chart::{draw, Fault};
+use second::chart::{draw, draw_from, Fault};
 
 /// A busy callback, a refused call and a note.
 const BUSY: &str = "\
@@ -150,6 +150,31 @@ fn raw_messages() {
     assert!(svg.contains("raw 5 purge"));
     assert!(svg.contains("refused 2"));
     assert!(svg.contains("refused 3"));
+}
+
+#[test]
+fn a_later_stretch() {
+    // behind the owner's write, whose request is under way
+    let drawn = draw_from(BUSY, 6).unwrap();
+    assert_eq!(drawn.clashes, 0);
+    let svg = drawn.svg;
+    // of the nine messages the 1 and the 16 are over; the 2 comes from above
+    assert_eq!(arrows(&svg), (7, 0));
+    assert!(svg.contains(">2 write 8 (t1)<") && !svg.contains(">1 read 8 (t1)<"));
+    assert!(svg.contains("A busy callback") && svg.contains("the owner of 0 can do nothing"));
+    assert!(!svg.contains("write 8=5") && svg.contains("refused 7"));
+    // behind the 20, and behind the note
+    let svg = draw_from(BUSY, 10).unwrap().svg;
+    assert!(!svg.contains("the owner of 0 can do nothing") && !svg.contains("20 callback"));
+    assert_eq!(draw_from(BUSY, 0).unwrap().svg, self::svg(BUSY));
+}
+
+#[test]
+fn what_is_under_way_all_along_is_not_drawn() {
+    let script = "fresh 00000000\nbegin 0\nread 0 8\nbegin 1\nread 1 9\nserver 1\nstation 1\n";
+    let svg = draw_from(script, 4).unwrap().svg;
+    assert_eq!(arrows(&svg), (2, 0));
+    assert!(svg.contains("1 read 9") && !svg.contains("1 read 8"));
 }
 
 #[test]

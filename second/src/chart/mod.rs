@@ -19,7 +19,13 @@ pub struct Drawn {
 /// The chart of a script: time runs down, a row for each call, an arrow for each message from where it was sent to
 /// where it was taken.
 pub fn draw(script: &str) -> Result<Drawn, Fault> {
-    let trace = trace::run(script)?;
+    draw_from(script, 0)
+}
+
+/// The same from a later call on: so many calls behind `fresh` are made and not drawn. What they sent comes from above
+/// to the call that takes it.
+pub fn draw_from(script: &str, skipped: usize) -> Result<Drawn, Fault> {
+    let trace = trace::run(script, skipped)?;
     let arranged = arrange::arrange(&trace);
     Ok(Drawn {
         svg: arranged.picture.svg(),

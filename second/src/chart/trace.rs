@@ -68,9 +68,27 @@ pub struct Message {
     pub station: u8,
     pub up: bool,
     pub words: String,
-    /// Item that sent it, and item that took it.
-    pub sent: usize,
+    /// Item that sent it, none if a call that is not drawn; and item that took it.
+    pub sent: Option<usize>,
     pub taken: Option<usize>,
+}
+
+impl Message {
+    pub fn sender(&self) -> End {
+        self.end(self.up)
+    }
+
+    pub fn receiver(&self) -> End {
+        self.end(!self.up)
+    }
+
+    fn end(&self, station: bool) -> End {
+        if station {
+            End::Station(self.station)
+        } else {
+            End::Server
+        }
+    }
 }
 
 impl Trace {
@@ -100,8 +118,12 @@ impl Display for Fault {
     }
 }
 
-pub fn run(script: &str) -> Result<Trace, Fault> {
-    let mut runner = Runner::default();
+/// Runs a script. Of its first calls so many are not drawn.
+pub fn run(script: &str, skipped: usize) -> Result<Trace, Fault> {
+    let mut runner = Runner {
+        skipped,
+        ..Runner::default()
+    };
     for (number, line) in script.lines().enumerate() {
         let fault = |what: String| Fault {
             line: number + 1,
@@ -116,12 +138,14 @@ pub fn run(script: &str) -> Result<Trace, Fault> {
     })
 }
 
-/// Messages under way, by their place in the trace.
-type Line = VecDeque<usize>;
+/// Messages under way, by their place in the trace; those that calls not drawn have sent have none yet.
+type Line = VecDeque<Option<usize>>;
 
 #[derive(Default)]
 struct Runner {
     title: Vec<String>,
+    /// Calls still to be made and not drawn.
+    skipped: usize,
     world: Option<World>,
     items: Vec<Item>,
     messages: Vec<Message>,
@@ -145,6 +169,8 @@ impl Runner {
     fn comment(&mut self, comment: &str) {
         if self.world.is_none() {
             self.title.push(comment.to_string());
+        } else if self.skipped > 0 {
+            // a note on what is not drawn
         } else if let Some(Item::Note(lines)) = self.items.last_mut() {
             lines.push(comment.to_string());
         } else {
@@ -165,26 +191,37 @@ impl Runner {
         if let Call::Fresh(_) = call {
             return Err(String::from("one chart shows one line"));
         }
-        let before = world.clone();
-        match world.call(call) {
-            Reply::Ready => Ok(()),
-            Reply::Misplaced => Err(format!("`{line}` does not fit here")),
-            Reply::Empty => Err(format!("`{line}` finds no message")),
-            Reply::Refused(number) => {
-                self.refused(call, &before, number as u8);
-                Ok(())
-            }
-            Reply::Accepted(outcome) => {
-                self.accepted(call, &before, &outcome);
-                Ok(())
-            }
+        // a copy of the line for each call that is not drawn would take long
+        let before = (self.skipped == 0).then(|| world.clone());
+        match (world.call(call), &before) {
+            (Reply::Ready, _) => return Ok(()),
+            (Reply::Misplaced, _) => return Err(format!("`{line}` does not fit here")),
+            (Reply::Empty, _) => return Err(format!("`{line}` finds no message")),
+            (_, None) => self.skip(),
+            (Reply::Refused(number), Some(before)) => self.refused(call, before, number as u8),
+            (Reply::Accepted(outcome), Some(before)) => self.accepted(call, before, &outcome),
+        }
+        Ok(())
+    }
+
+    /// Counts a call that is not drawn. What is under way behind the last of them comes from above.
+    fn skip(&mut self) {
+        self.skipped -= 1;
+        let Some(world) = self.world.as_ref().filter(|_| self.skipped == 0) else {
+            return;
+        };
+        for station in 0..STATIONS {
+            let number = station as u8;
+            self.up[station] = (0..world.up_length(number)).map(|_| None).collect();
+            self.down[station] = (0..world.down_length(number)).map(|_| None).collect();
         }
     }
 
     fn refused(&mut self, call: &Call, before: &World, number: u8) {
         let mut line = asked(call, &before.kinds);
-        if let Some(head) = self.head(call) {
-            line.push(plain(format!("{} ", short(&self.messages[head].words))));
+        if let (Call::Server(_) | Call::Station(_), Some(bytes)) = (call, before.message_of(call)) {
+            let words = words::bytes(bytes, &before.kinds);
+            line.push(plain(format!("{} ", short(&words))));
         }
         line.push(Span {
             text: format!("refused {number}"),
@@ -201,14 +238,15 @@ impl Runner {
 
     fn accepted(&mut self, call: &Call, before: &World, outcome: &Outcome) {
         let here = self.items.len();
-        let taken = self.take(call);
+        let taken = self.take(call, before);
         if let Some(taken) = taken {
             self.messages[taken].taken = Some(here);
         }
+        let up = actor(call) != End::Server;
         let sent: Vec<usize> = outcome
             .sent
             .iter()
-            .map(|bytes| self.send(bytes, actor(call), &before.kinds, here))
+            .map(|bytes| self.send(bytes, up, &before.kinds, here))
             .collect();
         let lines = self.lines(call, before, outcome);
         self.items.push(Item::Row(Row {
@@ -220,37 +258,39 @@ impl Runner {
         }));
     }
 
-    /// The first message of the line that the call looks at.
-    fn head(&self, call: &Call) -> Option<usize> {
-        match call {
-            Call::Server(station) => self.up[*station as usize].front().copied(),
-            Call::Station(station) => self.down[*station as usize].front().copied(),
-            _ => None,
-        }
+    /// The message that a call takes from its line; one from above is met only now.
+    fn take(&mut self, call: &Call, before: &World) -> Option<usize> {
+        let (taken, up) = match call {
+            Call::Server(station) => (self.up[*station as usize].pop_front()?, true),
+            Call::Station(station) => (self.down[*station as usize].pop_front()?, false),
+            _ => return None,
+        };
+        let bytes = before.message_of(call)?;
+        Some(taken.unwrap_or_else(|| self.message(bytes, up, &before.kinds, None)))
     }
 
-    fn take(&mut self, call: &Call) -> Option<usize> {
-        match call {
-            Call::Server(station) => self.up[*station as usize].pop_front(),
-            Call::Station(station) => self.down[*station as usize].pop_front(),
-            _ => None,
-        }
+    fn send(&mut self, bytes: &[u8], up: bool, kinds: &[Kind; STATIONS], here: usize) -> usize {
+        let number = self.message(bytes, up, kinds, Some(here));
+        let lines = if up { &mut self.up } else { &mut self.down };
+        lines[bytes[1] as usize].push_back(Some(number));
+        number
     }
 
-    fn send(&mut self, bytes: &[u8], from: End, kinds: &[Kind; STATIONS], here: usize) -> usize {
-        let number = self.messages.len();
-        let up = from != End::Server;
-        let station = bytes[1];
+    fn message(
+        &mut self,
+        bytes: &[u8],
+        up: bool,
+        kinds: &[Kind; STATIONS],
+        sent: Option<usize>,
+    ) -> usize {
         self.messages.push(Message {
-            station,
+            station: bytes[1],
             up,
             words: words::bytes(bytes, kinds),
-            sent: here,
+            sent,
             taken: None,
         });
-        let lines = if up { &mut self.up } else { &mut self.down };
-        lines[station as usize].push_back(number);
-        number
+        self.messages.len() - 1
     }
 
     /// The text of a call's box: the owner's call and its answer, then what changed.
@@ -282,12 +322,12 @@ impl Runner {
         };
         match actor(call) {
             End::Server => {
-                let bytes = bytes_taken(call, before);
+                let bytes = before.message_of(call);
                 let taken = bytes.and_then(|bytes| Up::decode(bytes, &before.kinds).ok());
                 notes::server(&before.server, &after.server, taken.as_ref(), outcome)
             }
             End::Station(number) => {
-                let bytes = bytes_taken(call, before);
+                let bytes = before.message_of(call);
                 let taken = bytes.and_then(|bytes| Down::decode(bytes, number).ok());
                 let taken = taken.map(|(_, message)| message);
                 let station = number as usize;
@@ -308,16 +348,6 @@ impl Runner {
             items: self.items,
             messages: self.messages,
         })
-    }
-}
-
-/// The bytes that a step looks at.
-fn bytes_taken<'a>(call: &'a Call, before: &'a World) -> Option<&'a [u8]> {
-    match call {
-        Call::Server(station) => before.first_up(*station),
-        Call::Station(station) => before.first_down(*station),
-        Call::ServerRaw(bytes) | Call::StationRaw(_, bytes) => Some(bytes),
-        _ => None,
     }
 }
 

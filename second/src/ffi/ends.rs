@@ -3,14 +3,14 @@
 
 use super::{server, stations};
 use crate::buffers::{Lends, Pair};
-use crate::line::lent::{Operation, TOLD};
+use crate::line::lent::Operation;
 use crate::line::message::LENGTH as MESSAGE;
 use crate::line::places::Place;
 use crate::line::server::{state as server_state, Step};
 use crate::line::sets::STATIONS;
 use crate::line::station::{state as station_state, Done};
 use crate::line::world::{ServerEnd, StationEnd};
-use crate::line::{Answer, Cause, Kind, Number};
+use crate::line::{Kind, Number};
 use crate::numbers::OK;
 use crate::random::Random;
 use crate::record;
@@ -124,25 +124,7 @@ impl StationEnd for Station {
             sent.push(commit.to_vec());
         }
         let told = self.0.lent.given.numbers();
-        let answer = answer(told).unwrap_or_else(|| panic!("told {told:?}"));
+        let answer = stations::answer(told).unwrap_or_else(|| panic!("told {told:?}"));
         Ok(Done { answer, sent })
     }
-}
-
-/// What an owner is told, by the C interface's number.
-fn answer(told: &[u64]) -> Option<Answer> {
-    let [answer, value, ..] = *told.first_chunk::<TOLD>()?;
-    let word = u32::try_from(value).ok();
-    Some(match answer {
-        1 => Answer::Begun(word?),
-        2 => Answer::Value(value),
-        3 => Answer::Waits,
-        4 => Answer::Written,
-        5 => Answer::Committed(word?),
-        6 if value == 0 => Answer::Dropped,
-        6 => Answer::Aborted(Cause::of(u8::try_from(value).ok()?)?),
-        7 => Answer::Purged,
-        8 => Answer::Nothing,
-        _ => return None,
-    })
 }

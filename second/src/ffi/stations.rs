@@ -1,7 +1,8 @@
 //! The stations of the proved library.
 
 use super::{lent, lent_mut};
-use crate::line::lent::{Lent, Operation};
+use crate::line::lent::{Lent, Operation, TOLD};
+use crate::line::{Answer, Cause};
 
 extern "C" {
     fn wax_station_fresh(station: u32, kind: u32, state: *mut u8, length: usize) -> u32;
@@ -130,4 +131,22 @@ pub fn up_check(kinds: &[u8], message: &[u8]) -> u32 {
     let (kinds, kinds_length) = lent(kinds);
     let (message, length) = lent(message);
     unsafe { wax_up_check(kinds, kinds_length, message, length) }
+}
+
+/// What an owner is told, by the C interface's number.
+pub fn answer(told: &[u64]) -> Option<Answer> {
+    let [answer, value, ..] = *told.first_chunk::<TOLD>()?;
+    let word = u32::try_from(value).ok();
+    Some(match answer {
+        1 => Answer::Begun(word?),
+        2 => Answer::Value(value),
+        3 => Answer::Waits,
+        4 => Answer::Written,
+        5 => Answer::Committed(word?),
+        6 if value == 0 => Answer::Dropped,
+        6 => Answer::Aborted(Cause::of(u8::try_from(value).ok()?)?),
+        7 => Answer::Purged,
+        8 => Answer::Nothing,
+        _ => return None,
+    })
 }

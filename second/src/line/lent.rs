@@ -75,6 +75,37 @@ fn in_range(address: u32) -> Result<u8, Number> {
     u8::try_from(address).map_err(|_| Number::Range)
 }
 
+/// What a call is lent beside its state.
+#[derive(PartialEq)]
+pub struct Results {
+    pub messages: [u8; MESSAGES],
+    pub commit: [u8; COMMIT],
+    pub told: [u64; TOLD],
+}
+
+/// All 0.
+impl Default for Results {
+    fn default() -> Results {
+        Results {
+            messages: [0; MESSAGES],
+            commit: [0; COMMIT],
+            told: [0; TOLD],
+        }
+    }
+}
+
+impl Results {
+    #[inline]
+    pub fn lent<'a>(&'a mut self, state: &'a mut [u8]) -> Lent<'a> {
+        Lent {
+            state,
+            messages: &mut self.messages,
+            commit: &mut self.commit,
+            told: &mut self.told,
+        }
+    }
+}
+
 impl Lent<'_> {
     /// Not number 1.
     pub fn fits(&self) -> bool {

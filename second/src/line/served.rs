@@ -22,6 +22,37 @@ pub struct Lent<'a> {
     pub served: &'a mut [u64],
 }
 
+/// What a step is lent beside its state.
+#[derive(PartialEq)]
+pub struct Results {
+    pub messages: Vec<u8>,
+    pub records: Vec<u8>,
+    pub served: [u64; SERVED],
+}
+
+/// All 0.
+impl Default for Results {
+    fn default() -> Results {
+        Results {
+            messages: vec![0; MESSAGES],
+            records: vec![0; RECORDS],
+            served: [0; SERVED],
+        }
+    }
+}
+
+impl Results {
+    #[inline]
+    pub fn lent<'a>(&'a mut self, state: &'a mut [u8]) -> Lent<'a> {
+        Lent {
+            state,
+            messages: &mut self.messages,
+            records: &mut self.records,
+            served: &mut self.served,
+        }
+    }
+}
+
 impl Lent<'_> {
     /// Not number 1.
     pub fn fits(&self) -> bool {

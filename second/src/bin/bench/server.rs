@@ -6,7 +6,7 @@ use crate::works::Work;
 use second::ffi::server as proved;
 use second::line::call::Call;
 use second::line::crossing::Crossing;
-use second::line::served::{Lent, MESSAGES, RECORDS, SERVED};
+use second::line::served::Results;
 use second::line::server::state;
 use second::line::server::Server;
 use second::line::world::{Reply, World};
@@ -21,33 +21,6 @@ pub struct Bench {
     message: Vec<u8>,
     server: Server,
     state: Vec<u8>,
-}
-
-/// What a step is lent beside its state.
-#[derive(PartialEq)]
-struct Results {
-    messages: Vec<u8>,
-    records: Vec<u8>,
-    served: Vec<u64>,
-}
-
-impl Results {
-    fn new() -> Results {
-        Results {
-            messages: vec![0; MESSAGES],
-            records: vec![0; RECORDS],
-            served: vec![0; SERVED],
-        }
-    }
-
-    fn lent<'a>(&'a mut self, state: &'a mut [u8]) -> Lent<'a> {
-        Lent {
-            state,
-            messages: &mut self.messages,
-            records: &mut self.records,
-            served: &mut self.served,
-        }
-    }
 }
 
 /// Validity of the bytes, then the step on the server, its messages and records encoded.
@@ -74,7 +47,7 @@ impl Bench {
     /// Both do the same work, and send what the table says.
     fn assert_same(&self, work: &Work) {
         let [mut proved_state, mut second_state] = [self.state.clone(), self.state.clone()];
-        let [mut given, mut expected] = [Results::new(), Results::new()];
+        let [mut given, mut expected] = [Results::default(), Results::default()];
         let number = proved::step(&self.message, &mut given.lent(&mut proved_state));
         let mut server = self.server.clone();
         let mut lent = expected.lent(&mut second_state);
@@ -92,7 +65,7 @@ impl Bench {
     }
 
     pub fn time(&self, rounds: usize) -> Times {
-        let mut results = Results::new();
+        let mut results = Results::default();
         Desk::new(&self.server, &self.state, STEPS).time(
             rounds,
             |bytes, server| {
@@ -172,7 +145,7 @@ impl Run {
         Run {
             server: Server::fresh(kinds, 0, [0; 8]),
             state,
-            results: Results::new(),
+            results: Results::default(),
         }
     }
 

@@ -4,7 +4,7 @@ use crate::desk::Desk;
 use crate::measure::Times;
 use crate::works::Work;
 use second::ffi::stations as proved;
-use second::line::lent::{Lent, Operation, COMMIT, MESSAGES, TOLD};
+use second::line::lent::{Operation, Results};
 use second::line::station::state;
 use second::line::station::Station;
 use second::numbers;
@@ -17,33 +17,6 @@ pub struct Bench {
     operation: Operation,
     station: Station,
     state: Vec<u8>,
-}
-
-/// What a call is lent beside its state.
-#[derive(PartialEq)]
-struct Results {
-    messages: [u8; MESSAGES],
-    commit: [u8; COMMIT],
-    told: [u64; TOLD],
-}
-
-impl Results {
-    fn new() -> Results {
-        Results {
-            messages: [0; MESSAGES],
-            commit: [0; COMMIT],
-            told: [0; TOLD],
-        }
-    }
-
-    fn lent<'a>(&'a mut self, state: &'a mut [u8]) -> Lent<'a> {
-        Lent {
-            state,
-            messages: &mut self.messages,
-            commit: &mut self.commit,
-            told: &mut self.told,
-        }
-    }
 }
 
 impl Bench {
@@ -63,7 +36,7 @@ impl Bench {
     /// Both do the same work.
     fn assert_same(&self, name: &str) {
         let [mut proved_state, mut second_state] = [self.state.clone(), self.state.clone()];
-        let [mut given, mut expected] = [Results::new(), Results::new()];
+        let [mut given, mut expected] = [Results::default(), Results::default()];
         let number = proved::call(&self.operation, &mut given.lent(&mut proved_state));
         let mut station = self.station.clone();
         let mut lent = expected.lent(&mut second_state);
@@ -78,7 +51,7 @@ impl Bench {
 
     /// The second implementation: validity of the bytes, then the call on the station, its messages encoded.
     pub fn time(&self, rounds: usize) -> Times {
-        let mut results = Results::new();
+        let mut results = Results::default();
         Desk::new(&self.station, &self.state, CALLS).time(
             rounds,
             |bytes, station| {

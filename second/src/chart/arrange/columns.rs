@@ -5,7 +5,6 @@ use crate::chart::text;
 use crate::chart::trace::{End, Item, Span, Tone, Trace};
 use crate::line::sets::STATIONS;
 
-const WIDEST: f64 = 900.0;
 const NARROWEST: f64 = 560.0;
 /// Between two stations at the same side of the server.
 const OUTER_GAP: f64 = 46.0;
@@ -25,7 +24,7 @@ pub struct Column {
 }
 
 impl Columns {
-    pub fn of(trace: &Trace) -> Columns {
+    pub fn of(trace: &Trace, widest: f64) -> Columns {
         let stations = taking_part(trace);
         // one alone stands on the left; of three, two stand on the right
         let left = (stations.len() / 2).max(1).min(stations.len());
@@ -33,7 +32,7 @@ impl Columns {
         order.push(End::Server);
         order.extend(stations[left..].iter().map(|s| End::Station(*s)));
         let halves: Vec<f64> = order.iter().map(|end| half_width(trace, *end)).collect();
-        let gaps = gaps(trace, &order, &halves);
+        let gaps = gaps(trace, &order, &halves, widest);
         let mut ends = Vec::new();
         let mut x = MARGIN;
         for (i, end) in order.iter().enumerate() {
@@ -111,7 +110,7 @@ pub fn is_bold(tone: Tone) -> bool {
 
 /// The room between neighbours: next to the server enough for the labels of all messages at that side, as far as the
 /// width allows.
-fn gaps(trace: &Trace, order: &[End], halves: &[f64]) -> Vec<f64> {
+fn gaps(trace: &Trace, order: &[End], halves: &[f64], widest: f64) -> Vec<f64> {
     let server = order
         .iter()
         .position(|end| *end == End::Server)
@@ -125,7 +124,7 @@ fn gaps(trace: &Trace, order: &[End], halves: &[f64]) -> Vec<f64> {
     let outer = OUTER_GAP * places.clone().filter(|i| !inner(*i)).count() as f64;
     let taken = 2.0 * MARGIN + boxes + outer;
     let all: f64 = places.clone().filter(|i| inner(*i)).map(wanted).sum();
-    let scale = ((WIDEST - taken) / all).min(((NARROWEST - taken) / all).max(1.0));
+    let scale = ((widest - taken) / all).min(((NARROWEST - taken) / all).max(1.0));
     places
         .map(|i| {
             if inner(i) {

@@ -29,6 +29,8 @@ const HEAD_HEIGHT: f64 = 36.0;
 const APART: f64 = 17.0;
 /// From a box's top to the arrow that comes in.
 const IN: f64 = 11.0;
+/// Tried in turn: how wide a chart may be. Many stations need more than a page.
+const WIDEST: [f64; 4] = [900.0, 1200.0, 1500.0, 1800.0];
 /// Tried in turn: how wide a note may be.
 const NOTES: [f64; 4] = [350.0, 260.0, 200.0, 150.0];
 /// Tried in turn: the room between two rows.
@@ -38,16 +40,22 @@ const CLASH: f64 = 1000.0;
 const CROSSING: f64 = 30.0;
 
 pub fn arrange(trace: &Trace) -> Arranged {
-    let arranged = arranged(trace);
+    let arranged = arranged(trace, WIDEST[0]);
     if arranged.clashes == 0 {
         return arranged;
     }
     // too narrow: boxes become higher, and there is more room between them
-    self::arranged(&trace.stacked())
+    let stacked = trace.stacked();
+    let tries = WIDEST
+        .map(|widest| self::arranged(&stacked, widest))
+        .into_iter();
+    tries
+        .min_by_key(|arranged| arranged.clashes)
+        .expect("there are tries")
 }
 
-fn arranged(trace: &Trace) -> Arranged {
-    let columns = Columns::of(trace);
+fn arranged(trace: &Trace, widest: f64) -> Arranged {
+    let columns = Columns::of(trace, widest);
     let tries = AIR.map(|air| Chart::with_narrow_notes(trace, &columns, air));
     let best = tries
         .into_iter()
@@ -159,8 +167,18 @@ impl<'a> Chart<'a> {
         text::wrap(first, TITLE_SIZE * 1.12, most).len()
     }
 
+    /// Where messages come from that were sent before: below the columns' heads, with room for a label if there are any.
+    fn top(&self) -> f64 {
+        let before = self
+            .trace
+            .messages
+            .iter()
+            .any(|message| message.sent.is_none());
+        self.heads + HEAD_HEIGHT + if before { APART } else { 0.0 }
+    }
+
     fn place_items(&mut self, widths: &[usize]) {
-        let mut y = self.heads + HEAD_HEIGHT + 12.0;
+        let mut y = self.top() + 12.0;
         for (item, width) in self.trace.items.iter().zip(widths) {
             let place = match item {
                 Item::Row(row) => self.row_place(row, y),
@@ -247,23 +265,16 @@ impl<'a> Chart<'a> {
 
     fn arrow(&self, number: usize) -> Arrow {
         let message = &self.trace.messages[number];
-        let row = self.row(message.sent);
-        let side = self.side_of(row, number);
-        let place = row
-            .sent
-            .iter()
-            .position(|sent| *sent == number)
-            .unwrap_or(0);
-        let from = point(
-            self.edge(row, side),
-            self.places[message.sent].top + self.departures(row)[place],
-        );
-        let to = match message.taken {
-            Some(taken) => point(
-                self.edge(self.row(taken), -side),
-                self.places[taken].top + IN,
+        let taken = message.taken.map(|item| self.arrival(item, number));
+        let sent = message.sent.map(|item| self.departure(item, number));
+        let (from, to) = match (sent, taken) {
+            (Some(from), Some(to)) => (from, to),
+            (Some(from), None) => (
+                from,
+                self.towards(from, message.receiver(), 0.6, self.bottom),
             ),
-            None => self.lost(message.station, message.up, from),
+            (None, Some(to)) => (self.towards(to, message.sender(), 0.9, self.top()), to),
+            (None, None) => unreachable!("a message is drawn from its sending or its taking"),
         };
         Arrow {
             from,
@@ -272,15 +283,27 @@ impl<'a> Chart<'a> {
         }
     }
 
-    /// The end of a message that is still under way: on its way, at the bottom.
-    fn lost(&self, station: u8, up: bool, from: Point) -> Point {
-        let end = if up {
-            End::Server
-        } else {
-            End::Station(station)
-        };
+    fn departure(&self, item: usize, message: usize) -> Point {
+        let row = self.row(item);
+        let place = row.sent.iter().position(|sent| *sent == message);
+        point(
+            self.edge(row, self.side_of(row, message)),
+            self.places[item].top + self.departures(row)[place.unwrap_or(0)],
+        )
+    }
+
+    fn arrival(&self, item: usize, message: usize) -> Point {
+        let row = self.row(item);
+        point(
+            self.edge(row, self.side_of(row, message)),
+            self.places[item].top + IN,
+        )
+    }
+
+    /// The other end of a message that is under way at the bottom, or at the top: a part of the way to its other side.
+    fn towards(&self, from: Point, end: End, part: f64, y: f64) -> Point {
         let to = self.columns.get(end).x;
-        point(from.x + (to - from.x) * 0.6, self.bottom)
+        point(from.x + (to - from.x) * part, y)
     }
 }
 
