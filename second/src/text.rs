@@ -2,6 +2,7 @@
 
 use crate::archive::Playback;
 use crate::record::Header;
+use crate::Refusal;
 
 const HEADING: &str = "commit station transaction reads writes";
 
@@ -12,20 +13,26 @@ pub fn playback(archive: &[u8]) -> String {
     let mut rest = archive;
     let ending = loop {
         if rest.is_empty() {
-            break format!("end {}\n", playback.last);
+            break ending(Ok(()), playback.last);
         }
         match playback.record(rest) {
             Ok(view) => {
                 push_line(&mut text, &view.header);
                 rest = &rest[view.length()..];
             }
-            Err(refusal) => {
-                break format!("refused {} after {}\n", refusal.number(), playback.last)
-            }
+            Err(refusal) => break ending(Err(refusal), playback.last),
         }
     };
     text.extend(ending.bytes());
     String::from_utf8(text).expect("digits, letters and spaces")
+}
+
+/// How a play ended behind commit `last`.
+pub fn ending(outcome: Result<(), Refusal>, last: u32) -> String {
+    match outcome {
+        Ok(()) => format!("end {last}\n"),
+        Err(refusal) => format!("refused {} after {last}\n", refusal.number()),
+    }
 }
 
 fn push_line(text: &mut Vec<u8>, header: &Header) {
