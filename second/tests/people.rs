@@ -214,40 +214,18 @@ fn number_5_sizes() {
 
 #[test]
 fn number_5_header() {
-    let transaction = "transaction 0, but the first is 1";
-    refused(&changed(&[(8, 0)]), 5, 42, transaction);
-    for (station, words) in [
-        (8, "station 8, but stations are 0 to 7"),
-        (9, "station 9, but stations are 0 to 7"),
-        (255, "station 255, but stations are 0 to 7"),
+    for (at, to, byte, words) in [
+        (8, 0, 42, "transaction 0, but the first is 1"),
+        (12, 8, 46, "station 8, but stations are 0 to 7"),
+        (12, 9, 46, "station 9, but stations are 0 to 7"),
+        (12, 255, 46, "station 255, but stations are 0 to 7"),
+        (13, 2, 47, "kind 2, but kinds are 0 and 1"),
+        (13, 255, 47, "kind 255, but kinds are 0 and 1"),
+        (14, 7, 48, "this byte is 7, but it must be 0"),
+        (15, 255, 49, "this byte is 255, but it must be 0"),
     ] {
-        refused(&changed(&[(12, station)]), 5, 46, words);
+        refused(&changed(&[(at, to)]), 5, byte, words);
     }
-    refused(&changed(&[(13, 2)]), 5, 47, "kind 2, but kinds are 0 and 1");
-    refused(
-        &changed(&[(13, 255)]),
-        5,
-        47,
-        "kind 255, but kinds are 0 and 1",
-    );
-    refused(
-        &changed(&[(14, 7)]),
-        5,
-        48,
-        "this byte is 7, but it must be 0",
-    );
-    refused(
-        &changed(&[(15, 255)]),
-        5,
-        49,
-        "this byte is 255, but it must be 0",
-    );
-    refused(
-        &changed(&[(14, 1), (15, 2)]),
-        5,
-        48,
-        "this byte is 1, but it must be 0",
-    );
 }
 
 /// The second record with these addresses, all values 0.
@@ -262,36 +240,18 @@ fn addressed(reads: &[u8], writes: &[u8]) -> Vec<u8> {
 
 #[test]
 fn number_5_order() {
-    refused(
-        &addressed(&[9, 8], &[]),
-        5,
-        51,
-        "address 8 behind 9, but addresses rise",
-    );
-    refused(
-        &addressed(&[9, 9], &[]),
-        5,
-        51,
-        "address 9 behind 9, but addresses rise",
-    );
-    refused(
-        &addressed(&[], &[255, 0]),
-        5,
-        51,
-        "address 0 behind 255, but addresses rise",
-    );
-    refused(
-        &addressed(&[1, 2, 1], &[5, 4]),
-        5,
-        52,
-        "address 1 behind 2, but addresses rise",
-    );
-    refused(
-        &addressed(&[1, 2], &[5, 6, 6, 3]),
-        5,
-        54,
-        "address 6 behind 6, but addresses rise",
-    );
+    let cases: [(&[u8], &[u8], usize, &str); 6] = [
+        (&[9, 8], &[], 51, "address 8 behind 9"),
+        (&[9, 9], &[], 51, "address 9 behind 9"),
+        (&[], &[255, 0], 51, "address 0 behind 255"),
+        (&[1, 2, 1], &[5, 4], 52, "address 1 behind 2"),
+        (&[1, 2], &[5, 6, 6, 3], 54, "address 6 behind 6"),
+        (&[7], &[3, 3], 52, "address 3 behind 3"),
+    ];
+    for (reads, writes, byte, words) in cases {
+        let words = format!("{words}, but addresses rise");
+        refused(&addressed(reads, writes), 5, byte, &words);
+    }
 }
 
 #[test]

@@ -17,17 +17,20 @@ pub struct Fault {
 
 #[derive(Clone, Debug, PartialEq, Eq)]
 pub enum Cause {
-    Header { there: usize },
-    Record { there: usize, length: usize },
-    Reads(u32),
-    Writes(u32),
+    /// The archive ends inside a header or a record.
+    Short(usize, &'static str, usize),
+    /// So many reads or writes.
+    Many(u32, &'static str),
     Transaction,
     Station(u32),
     Kind(u32),
     NotZero(u8),
-    Order { address: u8, before: u8 },
-    Sequence { commit: u32, last: u32 },
-    Read { counter: u8, value: u64, left: u64 },
+    /// An address, and the one before it.
+    Order(u8, u8),
+    /// A commit number, and the one before it.
+    Sequence(u32, u32),
+    /// A counter, what is read, and what was left there.
+    Read(u8, u64, u64),
 }
 
 /// A cause, and its place in the record.
@@ -52,17 +55,22 @@ impl Fault {
 
 fn short(bytes: &[u8]) -> Found {
     let there = bytes.len();
-    match claimed_length(bytes) {
-        None => Some((there, Cause::Header { there })),
-        Some(length) => (there < length).then_some((there, Cause::Record { there, length })),
-    }
+    let (part, length) = match claimed_length(bytes) {
+        None => ("header", HEADER),
+        Some(length) => ("record", length),
+    };
+    (there < length).then_some((there, Cause::Short(there, part, length)))
 }
 
 fn header(bytes: &[u8]) -> Found {
     let header = Header::first(bytes)?;
     let fields = [
-        (header.reads > MOST, 0, Cause::Reads(header.reads)),
-        (header.writes > MOST, 2, Cause::Writes(header.writes)),
+        (header.reads > MOST, 0, Cause::Many(header.reads, "reads")),
+        (
+            header.writes > MOST,
+            2,
+            Cause::Many(header.writes, "writes"),
+        ),
         (header.transaction == 0, 8, Cause::Transaction),
         (header.station > 7, 12, Cause::Station(header.station)),
         (header.kind > 1, 13, Cause::Kind(header.kind)),
@@ -79,16 +87,13 @@ fn order(bytes: &[u8]) -> Found {
     let mut pairs = (1..).zip(addresses.windows(2));
     // the first write has no address before it
     let broken = pairs.find(|(i, pair)| *i != header.reads as usize && pair[0] >= pair[1]);
-    broken.map(|(i, pair)| {
-        let (before, address) = (pair[0], pair[1]);
-        (HEADER + i, Cause::Order { address, before })
-    })
+    broken.map(|(i, pair)| (HEADER + i, Cause::Order(pair[1], pair[0])))
 }
 
 fn sequence(bytes: &[u8], last: u32) -> Found {
     let commit = Header::first(bytes)?.commit;
     let follows = last.checked_add(1) == Some(commit);
-    (!follows).then_some((4, Cause::Sequence { commit, last }))
+    (!follows).then_some((4, Cause::Sequence(commit, last)))
 }
 
 fn replay(bytes: &[u8], playback: &Playback) -> Found {
@@ -97,21 +102,15 @@ fn replay(bytes: &[u8], playback: &Playback) -> Found {
     let mut reads = view.reads().enumerate();
     let (i, (counter, value)) = reads.find(|(_, (counter, value))| left(*counter) != *value)?;
     let place = HEADER + view.addresses.len() + 8 * i;
-    let left = left(counter);
-    let cause = Cause::Read {
-        counter,
-        value,
-        left,
-    };
-    Some((place, cause))
+    Some((place, Cause::Read(counter, value, left(counter))))
 }
 
 impl Cause {
     pub fn refusal(&self) -> Refusal {
         match self {
-            Cause::Header { .. } | Cause::Record { .. } => Refusal::Short,
-            Cause::Sequence { .. } => Refusal::Sequence,
-            Cause::Read { .. } => Refusal::Replay,
+            Cause::Short(..) => Refusal::Short,
+            Cause::Sequence(..) => Refusal::Sequence,
+            Cause::Read(..) => Refusal::Replay,
             _ => Refusal::Record,
         }
     }
@@ -127,36 +126,23 @@ impl Display for Fault {
 impl Display for Cause {
     fn fmt(&self, f: &mut Formatter<'_>) -> fmt::Result {
         match self {
-            Cause::Header { there } => {
-                write!(
-                    f,
-                    "the archive ends here, {there} bytes into a header of 16"
-                )
-            }
-            Cause::Record { there, length } => {
-                write!(
-                    f,
-                    "the archive ends here, {there} bytes into a record of {length}"
-                )
-            }
-            Cause::Reads(n) => write!(f, "{n} reads, but a record has at most 256"),
-            Cause::Writes(m) => write!(f, "{m} writes, but a record has at most 256"),
+            Cause::Short(there, part, length) => write!(
+                f,
+                "the archive ends here, {there} bytes into a {part} of {length}"
+            ),
+            Cause::Many(count, what) => write!(f, "{count} {what}, but a record has at most 256"),
             Cause::Transaction => f.write_str("transaction 0, but the first is 1"),
             Cause::Station(station) => write!(f, "station {station}, but stations are 0 to 7"),
             Cause::Kind(kind) => write!(f, "kind {kind}, but kinds are 0 and 1"),
             Cause::NotZero(byte) => write!(f, "this byte is {byte}, but it must be 0"),
-            Cause::Order { address, before } => {
-                write!(f, "address {address} behind {before}, but addresses rise")
+            Cause::Order(this, before) => {
+                write!(f, "address {this} behind {before}, but addresses rise")
             }
-            Cause::Sequence { commit, last } => write!(
+            Cause::Sequence(this, last) => write!(
                 f,
-                "commit {commit} behind commit {last}, but commits are numbered 1, 2, 3 and on"
+                "commit {this} behind commit {last}, but commits are numbered 1, 2, 3 and on"
             ),
-            Cause::Read {
-                counter,
-                value,
-                left,
-            } => write!(
+            Cause::Read(counter, value, left) => write!(
                 f,
                 "counter {counter} is read as {value}, but the records before leave {left}"
             ),

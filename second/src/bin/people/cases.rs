@@ -98,12 +98,7 @@ fn long(random: &mut Random) -> Vec<Record> {
 fn archive(random: &mut Random, records: &[Record]) -> (Vec<u8>, usize) {
     let mut parts: Vec<Part> = records.iter().map(Part::of).collect();
     if parts.is_empty() || random.one_in(12) {
-        let rest = if random.one_in(2) {
-            tamed(random)
-        } else {
-            Vec::new()
-        };
-        return (concat(&parts, rest), 0);
+        return (concat(&parts, tamed(random)), 0);
     }
     // of a long archive the last ones, so that it is played
     let at = parts.len() - 1 - random.below(parts.len().min(10));
@@ -111,7 +106,7 @@ fn archive(random: &mut Random, records: &[Record]) -> (Vec<u8>, usize) {
     let wounds = parts[at].wound(random, count);
     let start = parts[..at].iter().map(|part| part.bytes.len()).sum();
     let length = parts[at].bytes.len();
-    let mut archive = concat(&parts, Vec::new());
+    let mut archive = concat(&parts, vec![]);
     match random.below(12) {
         0 => archive.truncate(start + random.below(length)),
         1 => archive.truncate(start + random.below(HEADER)),
@@ -127,9 +122,9 @@ fn concat(parts: &[Part], rest: Vec<u8>) -> Vec<u8> {
     bytes.chain(rest).collect()
 }
 
-/// Any bytes, with sizes that they often have.
+/// None, or any bytes, with sizes that they often have.
 fn tamed(random: &mut Random) -> Vec<u8> {
-    let length = random.below(100);
+    let length = random.below(2) * random.below(100);
     let mut bytes = random.bytes(length);
     generate::tame(&mut bytes, random);
     bytes

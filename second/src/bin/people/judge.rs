@@ -31,6 +31,8 @@ struct Expected<'a> {
 
 impl Judge<'_> {
     pub fn new(path: &str) -> io::Result<Judge<'_>> {
+        // a program that cannot be run is no difference
+        program::printed(path, &[], 1)?;
         Ok(Judge {
             path,
             file: nameless()?,
@@ -52,15 +54,19 @@ impl Judge<'_> {
         let case = expected.case;
         let arguments: Vec<&str> = case.arguments.iter().map(String::as_str).collect();
         let said = match expected.way() {
-            Way::Held => {
-                let needed = &case.archive[..expected.needed()];
-                let said = program::held(self.path, &arguments, needed, PATIENCE);
-                said.and_then(|said| said.ok_or(io::Error::other("waits for more than it needs")))
-            }
+            Way::Held => self.held(&arguments, expected),
             Way::File => self.file(&arguments, expected),
             Way::Pieces(piece) => program::piped(self.path, &arguments, &case.archive, piece),
         };
         said.map_err(|error| error.to_string())
+    }
+
+    /// Through a pipe that stays open behind what is needed.
+    fn held(&self, arguments: &[&str], expected: &Expected) -> io::Result<Said> {
+        let needed = expected.needed().unwrap_or(0);
+        let bytes = &expected.case.archive[..needed];
+        let said = program::held(self.path, arguments, bytes, PATIENCE)?;
+        said.ok_or(io::Error::other("waits for more than it needs"))
     }
 
     /// As a file, of which the program reads no more than it may.
@@ -72,12 +78,13 @@ impl Judge<'_> {
         let said = program::read(self.path, arguments, &self.file)?;
         let read = self.file.stream_position()?;
         let ahead = if expected.asked.plays() { AHEAD } else { 0 };
-        let most = expected.needed() as u64 + ahead;
-        if expected.is_early() && read > most {
-            let why = format!("has read {read} bytes where {most} are enough");
-            return Err(io::Error::other(why));
+        match expected.needed().map(|needed| needed as u64 + ahead) {
+            Some(most) if read > most => {
+                let why = format!("has read {read} bytes where {most} are enough");
+                Err(io::Error::other(why))
+            }
+            _ => Ok(said),
         }
-        Ok(said)
     }
 }
 
@@ -95,24 +102,20 @@ impl Expected<'_> {
         }
     }
 
-    /// Whether the answer is certain before the archive's end.
-    fn is_early(&self) -> bool {
-        !self.asked.plays() || self.play.stop == Stop::Reached
-    }
-
-    /// A pipe can stay open where the end is not needed.
+    /// A pipe can stay open where the archive's end is not needed.
     fn way(&self) -> Way {
         match self.case.way {
-            Way::Held if !self.is_early() => Way::Pieces(65_536),
+            Way::Held if self.needed().is_none() => Way::Pieces(65_536),
             way => way,
         }
     }
 
-    /// Bytes that an early answer needs.
-    fn needed(&self) -> usize {
-        match self.asked.plays() {
-            true => self.play.end,
-            false => 0,
+    /// Bytes behind which the answer is certain, where the archive's end need not be known.
+    fn needed(&self) -> Option<usize> {
+        match self.play.stop {
+            _ if !self.asked.plays() => Some(0),
+            Stop::Reached => Some(self.play.end),
+            Stop::End | Stop::Fault(_) => None,
         }
     }
 

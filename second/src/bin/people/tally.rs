@@ -2,7 +2,7 @@
 
 use crate::cases::{Case, Way};
 use second::people::{Asked, Cause, Fault, Play, Stop};
-use second::record::{Header, LONGEST};
+use second::record::{Header, HEADER, LONGEST};
 use second::tally::Tally;
 use std::collections::BTreeMap;
 use std::fmt::{self, Display, Formatter};
@@ -115,22 +115,23 @@ impl Tallies {
 
 fn row(fault: &Fault, archive: &[u8]) -> &'static str {
     let place = fault.at - fault.record;
-    let reads = || Header::first(&archive[fault.record..]).map_or(0, |header| header.reads);
-    match fault.cause {
-        Cause::Header { .. } => ROWS[0],
-        Cause::Record { .. } => ROWS[1],
-        Cause::Reads(_) => ROWS[2],
-        Cause::Writes(_) => ROWS[3],
-        Cause::Transaction => ROWS[4],
-        Cause::Station(_) => ROWS[5],
-        Cause::Kind(_) => ROWS[6],
-        Cause::NotZero(_) if place == 14 => ROWS[7],
-        Cause::NotZero(_) => ROWS[8],
-        Cause::Order { .. } if place < 16 + reads() as usize => ROWS[9],
-        Cause::Order { .. } => ROWS[10],
-        Cause::Sequence { .. } => ROWS[11],
-        Cause::Read { .. } => ROWS[12],
-    }
+    let header = Header::first(&archive[fault.record..]);
+    let row = match fault.cause {
+        Cause::Short(..) if header.is_none() => 0,
+        Cause::Short(..) => 1,
+        Cause::Many(..) if place == 0 => 2,
+        Cause::Many(..) => 3,
+        Cause::Transaction => 4,
+        Cause::Station(_) => 5,
+        Cause::Kind(_) => 6,
+        Cause::NotZero(_) if place == 14 => 7,
+        Cause::NotZero(_) => 8,
+        Cause::Order(..) if header.is_some_and(|h| place < HEADER + h.reads as usize) => 9,
+        Cause::Order(..) => 10,
+        Cause::Sequence(..) => 11,
+        Cause::Read(..) => 12,
+    };
+    ROWS[row]
 }
 
 impl Display for Tallies {
