@@ -70,6 +70,23 @@ impl Case {
     }
 }
 
+/// An early commit of a long archive: most of it must stay unread.
+pub fn early() -> Vec<Case> {
+    let archive = generate::archive_of_length(&mut Random::new(1), Size::Mixed, 2 * LONG);
+    let ways = [Way::File, Way::Held, Way::Pieces(1_000_000)];
+    let asked = ways
+        .into_iter()
+        .flat_map(|way| ["0", "1", "100"].map(|commit| (way, commit)));
+    asked
+        .map(|(way, commit)| Case {
+            archive: archive.clone(),
+            arguments: vec!["--at".to_string(), commit.to_string()],
+            way,
+            wounds: 0,
+        })
+        .collect()
+}
+
 fn short(random: &mut Random) -> Vec<Record> {
     let (size, count) = match random.below(8) {
         0 => (Size::Large, 4),

@@ -45,27 +45,32 @@ fn main() {
 
 /// Whether there is no difference, and everything was reached.
 fn compare(path: &str, options: &Options) -> io::Result<bool> {
-    let (first, cases) = (options.seed("--seed", 1), options.number("--cases", MANY));
+    let (first, count) = (options.seed("--seed", 1), options.number("--cases", MANY));
     println!("seed {first}");
     let start = Instant::now();
     let mut judge = Judge::new(path)?;
-    for seed in (0..cases).map(|i| first.wrapping_add(i)) {
-        let case = Case::random(&mut Random::new(seed));
+    let seeds = (0..count).map(|i| first.wrapping_add(i));
+    let random = seeds.map(|seed| (seed, Case::random(&mut Random::new(seed))));
+    let early = cases::early().into_iter().map(|case| (first, case));
+    for (seed, case) in early.chain(random) {
         if let Err(difference) = judge.run(&case) {
             println!("DIFFERENCE, again by: --seed {seed} --cases 1");
             println!("{}\n{difference}", case.show());
-            let keep = options.text("--keep");
-            return keep
-                .map_or(Ok(()), |file| fs::write(file, &case.archive))
-                .map(|()| false);
+            return keep(&case, options.text("--keep"));
         }
     }
     println!("{}", judge.tallies);
-    if let Some(missing) = judge.tallies.missing().filter(|_| cases >= MANY) {
+    if let Some(missing) = judge.tallies.missing().filter(|_| count >= MANY) {
         println!("not reached: {missing}");
         return Ok(false);
     }
     let seconds = start.elapsed().as_secs_f64();
-    println!("{cases} cases in {seconds:.1} s, no difference");
+    println!("{count} cases in {seconds:.1} s, no difference");
     Ok(true)
+}
+
+/// A difference's archive, for a look at it by hand.
+fn keep(case: &Case, file: Option<&str>) -> io::Result<bool> {
+    file.map_or(Ok(()), |file| fs::write(file, &case.archive))?;
+    Ok(false)
 }
