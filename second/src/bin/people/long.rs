@@ -13,6 +13,8 @@ use std::time::{Duration, Instant};
 
 /// The most that may be resident, in kB.
 const MOST: u64 = 16_000;
+/// Times as long as without an argument: what a busy machine may do.
+const SLOWEST: f64 = 1.3;
 const ROUNDS: usize = 5;
 
 /// Seconds of the fastest round, and the most memory of all.
@@ -21,31 +23,31 @@ struct Measured {
     resident: u64,
 }
 
-/// Prints a table; answers whether memory stayed small.
+/// Prints a table; answers whether memory and times are as they should be.
 pub fn run(path: &str, length: usize) -> io::Result<bool> {
     let archive = generate::archive_of_length(&mut Random::new(1), Size::Small, length);
     let mut file = nameless()?;
     file.write_all(&archive)?;
     let megabytes = archive.len() as f64 / 1e6;
-    println!("{megabytes:.0} MB, the fastest of {ROUNDS} rounds\n");
-    println!("| arguments | seconds | MB/s | most resident, kB |\n|---|---|---|---|");
+    println!(
+        "{megabytes:.0} MB, small records, the fastest of {ROUNDS} rounds; output to /dev/null\n"
+    );
+    println!("| arguments | MB/s | time, of that without | most resident, kB |\n|---|---|---|---|");
     let last = people::Play::of(&archive, None).playback.last.to_string();
-    let mut small = true;
+    let mut without = None;
+    let mut all = true;
     for arguments in [&[][..], &["--totals"], &["--at", &last]] {
         answers(path, arguments, &file, &archive)?;
-        let measured = measure(path, arguments, &file)?;
-        small &= measured.resident <= MOST;
-        let Measured { seconds, resident } = measured;
-        let rate = megabytes / seconds;
-        println!(
-            "| {} | {seconds:.2} | {rate:.0} | {resident} |",
-            arguments.join(" ")
-        );
+        let Measured { seconds, resident } = measure(path, arguments, &file)?;
+        let times = seconds / *without.get_or_insert(seconds);
+        let (rate, words) = (megabytes / seconds, arguments.join(" "));
+        println!("| {words} | {rate:.0} | {times:.2} | {resident} |");
+        all &= resident <= MOST && times <= SLOWEST;
     }
-    if !small {
-        println!("\nmore than {MOST} kB");
+    if !all {
+        println!("\nmore than {MOST} kB, or more than {SLOWEST} times as long");
     }
-    Ok(small)
+    Ok(all)
 }
 
 /// It must do the work that is timed.
