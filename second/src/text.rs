@@ -4,11 +4,11 @@ use crate::archive::Playback;
 use crate::record::Header;
 use crate::Refusal;
 
-const HEADING: &str = "commit station transaction reads writes";
+pub const HEADING: &str = "commit station transaction reads writes\n";
 
 /// Heading, a line for each commit, then how it ended.
 pub fn playback(archive: &[u8]) -> String {
-    let mut text = format!("{HEADING}\n").into_bytes();
+    let mut text = HEADING.as_bytes().to_vec();
     let mut playback = Playback::FRESH;
     let mut rest = archive;
     let ending = loop {

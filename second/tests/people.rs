@@ -392,6 +392,18 @@ fn zeros_in_front_of_a_number() {
     assert_eq!(said(&["--at", "00"], &TWO).0, table("0 0", "at 0\n"));
 }
 
+#[test]
+fn the_longest_word() {
+    let zeros = "0".repeat(4_095);
+    let at = |word: String| said(&["--at", &word], &TWO);
+    assert_eq!(at(format!("{zeros}1")).0, table("1 1", "at 1\n"));
+    let longer = at(format!("0{zeros}1"));
+    assert_eq!(longer.0, "");
+    assert!(longer
+        .1
+        .starts_with("playback: the arguments are not understood"));
+}
+
 /// The closing line and the place of a fault are found on two ways: they agree on any bytes.
 #[test]
 fn the_number_is_that_of_a_play_without_arguments() {

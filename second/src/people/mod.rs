@@ -12,6 +12,9 @@ use crate::text;
 const UNCLEAR: &str =
     "playback: the arguments are not understood; playback --help says which there are\n";
 
+/// Bytes of an argument.
+const LONGEST_WORD: usize = 4_096;
+
 /// What the arguments ask for.
 #[derive(Clone, Copy, Debug, PartialEq, Eq)]
 pub enum Asked {
@@ -72,7 +75,8 @@ impl Asked {
 /// Digits alone: `parse` would take a sign.
 fn number(word: &str) -> Option<u32> {
     let digits = word.bytes().all(|byte| byte.is_ascii_digit());
-    word.parse().ok().filter(|_| digits)
+    let fits = digits && word.len() <= LONGEST_WORD;
+    word.parse().ok().filter(|_| fits)
 }
 
 /// What the program must print with these arguments for the archive; none where that is left open.

@@ -161,24 +161,20 @@ fn arguments(random: &mut Random, archive: &[u8]) -> Vec<String> {
 /// A commit around the last good one, or any.
 fn commit(random: &mut Random, archive: &[u8]) -> String {
     let last = Play::of(archive, None).playback.last;
-    let before = random.below(last as usize + 1) as u32;
-    let any = random.number() as u32;
-    let above = random.pick(&[u32::MAX, any]);
-    let commit = random.pick(&[
-        0,
-        before,
-        last,
-        last,
-        last,
-        last + 1,
-        last + 1,
-        last + 2,
-        above,
-    ]);
-    match random.below(10) {
+    let commit = match random.below(9) {
+        0 => 0,
+        1 => random.below(last as usize + 1) as u32,
+        2 => u32::MAX,
+        3 => random.number() as u32,
+        _ => last + random.pick(&[0, 0, 0, 1, 1, 2]),
+    };
+    match random.below(20) {
         0 => format!("{commit:020}"),
-        // one more than the greatest
+        // too great by a word of 32 bits
         1 => (u64::from(commit) + (1 << 32)).to_string(),
+        // the longest word, and one more
+        2 => format!("{commit:04096}"),
+        3 => format!("{commit:04097}"),
         _ => commit.to_string(),
     }
 }

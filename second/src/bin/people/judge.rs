@@ -5,6 +5,7 @@ use crate::tally::Tallies;
 use second::people::{Asked, Play, Stop};
 use second::program::{self, Said};
 use second::show::{from_difference, hex};
+use second::text;
 use std::fs::{self, File, OpenOptions};
 use std::io::{self, Seek, Write};
 use std::time::Duration;
@@ -47,6 +48,21 @@ impl Judge<'_> {
         expected.compare(&said)?;
         let Expected { asked, play, .. } = &expected;
         self.tallies.count(case, expected.way(), *asked, play);
+        Ok(())
+    }
+
+    /// A folder cannot be read: nothing may look like the archive's end, and the reason is told.
+    pub fn unreadable(&self) -> Result<(), String> {
+        let plays = [&[][..], &["--totals"], &["--at", "1"]];
+        for (arguments, output) in plays.into_iter().zip([text::HEADING, "", ""]) {
+            let folder = File::open(env::temp_dir());
+            let said = folder.and_then(|folder| program::read(self.path, arguments, &folder));
+            let said = said.map_err(|error| error.to_string())?;
+            let fits = said.output == output.as_bytes() && said.errors.ends_with(b"\n");
+            if !fits {
+                return Err(format!("a folder, {arguments:?}: {said:?}"));
+            }
+        }
         Ok(())
     }
 

@@ -49,6 +49,10 @@ fn compare(path: &str, options: &Options) -> io::Result<bool> {
     println!("seed {first}");
     let start = Instant::now();
     let mut judge = Judge::new(path)?;
+    if let Err(difference) = judge.unreadable() {
+        println!("DIFFERENCE\n{difference}");
+        return Ok(false);
+    }
     let seeds = (0..count).map(|i| first.wrapping_add(i));
     let random = seeds.map(|seed| (seed, Case::random(&mut Random::new(seed))));
     let early = cases::early().into_iter().map(|case| (first, case));
@@ -59,14 +63,21 @@ fn compare(path: &str, options: &Options) -> io::Result<bool> {
             return keep(&case, options.text("--keep"));
         }
     }
+    Ok(reached(&judge, count, start))
+}
+
+/// Prints what was reached; whether it was all.
+fn reached(judge: &Judge, count: u64, start: Instant) -> bool {
     println!("{}", judge.tallies);
-    if let Some(missing) = judge.tallies.missing().filter(|_| count >= MANY) {
-        println!("not reached: {missing}");
-        return Ok(false);
+    let missing = judge.tallies.missing().filter(|_| count >= MANY);
+    match &missing {
+        Some(missing) => println!("not reached: {missing}"),
+        None => {
+            let seconds = start.elapsed().as_secs_f64();
+            println!("{count} cases in {seconds:.1} s, no difference");
+        }
     }
-    let seconds = start.elapsed().as_secs_f64();
-    println!("{count} cases in {seconds:.1} s, no difference");
-    Ok(true)
+    missing.is_none()
 }
 
 /// A difference's archive, for a look at it by hand.
