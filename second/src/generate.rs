@@ -180,3 +180,20 @@ pub fn playback(random: &mut Random) -> Playback {
         last: number(random),
     }
 }
+
+/// Makes most header bytes small: else hardly any record is long enough or in range.
+pub fn tame(bytes: &mut [u8], random: &mut Random) {
+    // sizes, commit number, transaction, station, kind, the two zero bytes
+    let bounds = [4, 1, 4, 1, 3, 1, 1, 1, 3, 1, 1, 1, 8, 2, 1, 1];
+    for (byte, bound) in bytes.iter_mut().zip(bounds) {
+        if !random.one_in(40) {
+            *byte %= bound;
+        }
+    }
+}
+
+/// One bit of these bytes is another.
+pub fn change_a_bit(random: &mut Random, bytes: &mut [u8]) {
+    let at = random.below(bytes.len());
+    bytes[at] ^= 1 << random.below(8);
+}

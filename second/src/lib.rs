@@ -12,6 +12,7 @@ pub mod generate;
 pub mod line;
 pub mod numbers;
 pub mod options;
+pub mod people;
 pub mod program;
 pub mod random;
 pub mod record;

@@ -1,24 +1,94 @@
-//! The playback program, given an archive through a pipe.
+//! The playback program, given an archive through a pipe or as a file.
 
-use std::io::{self, ErrorKind, Read, Write};
-use std::process::{Command, Stdio};
+use std::fs::File;
+use std::io::{self, ErrorKind, Write};
+use std::process::{Child, Command, Output, Stdio};
 use std::thread;
+use std::time::{Duration, Instant};
 
-/// What the program prints for the archive, which it gets in pieces.
+/// How an archive goes into a pipe.
+pub const PIECES: [usize; 9] = [7, 16, 33, 1_000, 4_095, 4_096, 4_097, 65_537, 1_000_000];
+
+/// What a run of the program prints.
+#[derive(Clone, Debug, PartialEq, Eq)]
+pub struct Said {
+    pub output: Vec<u8>,
+    /// Standard error.
+    pub errors: Vec<u8>,
+}
+
+/// What the program prints to standard output for the archive, which it gets in pieces.
 pub fn printed(path: &str, archive: &[u8], piece: usize) -> io::Result<Vec<u8>> {
-    let mut child = Command::new(path)
-        .stdin(Stdio::piped())
-        .stdout(Stdio::piped())
-        .spawn()?;
-    let (stdin, stdout) = (child.stdin.take(), child.stdout.take());
-    let mut printed = Vec::new();
+    piped(path, &[], archive, piece).map(|said| said.output)
+}
+
+/// What it says with these arguments to an archive that comes through a pipe in pieces.
+pub fn piped(path: &str, arguments: &[&str], archive: &[u8], piece: usize) -> io::Result<Said> {
+    let mut child = spawn(path, arguments, Stdio::piped())?;
+    let pipe = child.stdin.take().expect("piped");
     thread::scope(|scope| {
-        let feeding = scope.spawn(|| feed(stdin.expect("piped"), archive, piece));
-        stdout.expect("piped").read_to_end(&mut printed)?;
-        feeding.join().expect("does not panic")
-    })?;
-    match child.wait()?.code() {
-        Some(_) => Ok(printed),
+        let feeding = scope.spawn(|| feed(pipe, archive, piece));
+        let said = said(child)?;
+        feeding.join().expect("does not panic")?;
+        Ok(said)
+    })
+}
+
+/// What it says to a file, from where this handle stands on; the handle then stands where the program stopped reading.
+pub fn read(path: &str, arguments: &[&str], file: &File) -> io::Result<Said> {
+    said(spawn(path, arguments, file.try_clone()?.into())?)
+}
+
+/// What it says to these bytes while the pipe stays open behind them; none if it has not ended in time.
+pub fn held(
+    path: &str,
+    arguments: &[&str],
+    bytes: &[u8],
+    patience: Duration,
+) -> io::Result<Option<Said>> {
+    let mut child = spawn(path, arguments, Stdio::piped())?;
+    let mut pipe = child.stdin.take().expect("piped");
+    thread::scope(|scope| {
+        let feeding = scope.spawn(|| feed(&mut pipe, bytes, bytes.len().max(1)));
+        let in_time = ends(&mut child, patience)?;
+        feeding.join().expect("does not panic")?;
+        in_time.then(|| said(child)).transpose()
+    })
+}
+
+/// Whether it ends by itself; if not in time it is killed.
+fn ends(child: &mut Child, patience: Duration) -> io::Result<bool> {
+    let start = Instant::now();
+    while child.try_wait()?.is_none() {
+        if start.elapsed() > patience {
+            child.kill()?;
+            return child.wait().map(|_| false);
+        }
+        thread::sleep(Duration::from_millis(1));
+    }
+    Ok(true)
+}
+
+fn spawn(path: &str, arguments: &[&str], input: Stdio) -> io::Result<Child> {
+    Command::new(path)
+        .args(arguments)
+        .stdin(input)
+        .stdout(Stdio::piped())
+        .stderr(Stdio::piped())
+        .spawn()
+}
+
+fn said(child: Child) -> io::Result<Said> {
+    let Output {
+        status,
+        stdout,
+        stderr,
+    } = child.wait_with_output()?;
+    match status.code() {
+        Some(_) => Ok(Said {
+            output: stdout,
+            errors: stderr,
+        }),
         None => Err(io::Error::other("ended by a signal")),
     }
 }

@@ -36,6 +36,12 @@ impl Header {
         }
     }
 
+    /// The first header of these bytes, in range or not.
+    #[inline]
+    pub fn first(bytes: &[u8]) -> Option<Header> {
+        bytes.first_chunk().map(Header::read)
+    }
+
     /// The sixteen bytes; the fields must be in range.
     #[inline]
     fn bytes(&self) -> [u8; HEADER] {
@@ -150,8 +156,7 @@ fn rises(addresses: &[u8]) -> bool {
 /// Length that the size fields of the first record claim, whether it is there or not.
 #[inline]
 pub fn claimed_length(bytes: &[u8]) -> Option<usize> {
-    let head = bytes.first_chunk()?;
-    Some(Header::read(head).length() as usize)
+    Header::first(bytes).map(|header| header.length() as usize)
 }
 
 /// Record check: the first record of these bytes.

@@ -10,14 +10,21 @@ const LONGER: usize = 200;
 /// Fixed, so that the longer sample stays as it is.
 const SEED: u64 = 12;
 
-/// The records of a sample, by its name.
-pub fn named(name: &str) -> Option<Vec<Record>> {
-    match name {
-        "c12" => Some(vec![c12(), read_of_8()]),
-        "damaged" => Some(vec![c12(), read_of_8(), wrong_read()]),
-        "longer" => Some(longer()),
-        _ => None,
-    }
+/// The samples' names.
+pub const NAMES: [&str; 6] = ["c12", "cut", "damaged", "layout", "longer", "sequence"];
+
+/// The archive of a sample, by its name.
+pub fn named(name: &str) -> Option<Vec<u8>> {
+    let records = match name {
+        "c12" => vec![c12(), read_of_8()],
+        "cut" => return Some(cut()),
+        "damaged" => vec![c12(), read_of_8(), wrong_read()],
+        "layout" => vec![c12(), no_such_station()],
+        "longer" => longer(),
+        "sequence" => vec![c12(), read_of_8(), later()],
+        _ => return None,
+    };
+    Some(generate::archive(&records))
 }
 
 /// Document 01's case C12: station 0 reads 0 at address 8 and writes 1 there.
@@ -53,6 +60,30 @@ fn wrong_read() -> Record {
         transaction: 2,
         station: 0,
         kind: 0,
+    }
+}
+
+/// C12's archive without its last five bytes.
+fn cut() -> Vec<u8> {
+    let mut archive = generate::archive(&[c12(), read_of_8()]);
+    archive.truncate(archive.len() - 5);
+    archive
+}
+
+/// Behind C12: a station that the line does not have.
+fn no_such_station() -> Record {
+    Record {
+        station: 9,
+        ..read_of_8()
+    }
+}
+
+/// Behind commit 2: commits 3 and 4 are lost.
+fn later() -> Record {
+    Record {
+        commit: 5,
+        transaction: 2,
+        ..read_of_8()
     }
 }
 

@@ -2,30 +2,37 @@
 
 use crate::archive::Playback;
 use crate::record::Header;
+use crate::Refusal;
 
-const HEADING: &str = "commit station transaction reads writes";
+pub const HEADING: &str = "commit station transaction reads writes\n";
 
 /// Heading, a line for each commit, then how it ended.
 pub fn playback(archive: &[u8]) -> String {
-    let mut text = format!("{HEADING}\n").into_bytes();
+    let mut text = HEADING.as_bytes().to_vec();
     let mut playback = Playback::FRESH;
     let mut rest = archive;
     let ending = loop {
         if rest.is_empty() {
-            break format!("end {}\n", playback.last);
+            break ending(Ok(()), playback.last);
         }
         match playback.record(rest) {
             Ok(view) => {
                 push_line(&mut text, &view.header);
                 rest = &rest[view.length()..];
             }
-            Err(refusal) => {
-                break format!("refused {} after {}\n", refusal.number(), playback.last)
-            }
+            Err(refusal) => break ending(Err(refusal), playback.last),
         }
     };
     text.extend(ending.bytes());
     String::from_utf8(text).expect("digits, letters and spaces")
+}
+
+/// How a play ended behind commit `last`.
+pub fn ending(outcome: Result<(), Refusal>, last: u32) -> String {
+    match outcome {
+        Ok(()) => format!("end {last}\n"),
+        Err(refusal) => format!("refused {} after {last}\n", refusal.number()),
+    }
 }
 
 fn push_line(text: &mut Vec<u8>, header: &Header) {

@@ -1,9 +1,9 @@
 //! Cases of the archive reader, of replay and of playback.
 
 use crate::judge::Judge;
-use crate::records::{every_change, every_cut, some_changes, tame};
+use crate::records::{every_change, every_cut, some_changes};
 use second::archive::Playback;
-use second::generate::{self, Size};
+use second::generate::{self, tame, Size};
 use second::numbers::{ENTRY_FIELDS, FIELDS};
 use second::random::Random;
 use second::record::{Record, ENTRY, HEADER};
@@ -270,8 +270,7 @@ pub fn play_through(judge: &mut Judge, random: &mut Random) {
             continue;
         }
         judge.play_through(&archive[..random.below(archive.len())], &start);
-        let at = random.below(archive.len());
-        archive[at] ^= 1 << random.below(8);
+        generate::change_a_bit(random, &mut archive);
         judge.play_through(&archive, &start);
     }
 }

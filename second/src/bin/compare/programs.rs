@@ -3,15 +3,12 @@
 use crate::judge::{Judge, SIDES};
 use second::archive::Playback;
 use second::generate::{self, Size};
-use second::program::printed;
+use second::program::{printed, PIECES};
 use second::random::Random;
 use second::record::{ENTRY, HEADER};
-use second::show::hex;
+use second::show::{from_difference, hex};
 use second::text;
 use std::io;
-
-/// How the archive goes into the pipe.
-const PIECES: [usize; 9] = [7, 16, 33, 1_000, 4_095, 4_096, 4_097, 65_537, 1_000_000];
 
 pub struct Program<'a> {
     judge: &'a mut Judge,
@@ -88,8 +85,7 @@ impl Program<'_> {
         if printed != expected {
             let call = format!("{}, pieces of {piece}", self.path);
             let call = format!("{call}\narchive: {}", hex(archive));
-            let at = expected.iter().zip(&printed).position(|(a, b)| a != b);
-            let texts = [expected, printed].map(|text| from_line(&text, at));
+            let texts = from_difference([&expected, &printed]);
             self.judge.differ(&call, SIDES, texts);
         }
         Ok(())
@@ -103,17 +99,6 @@ fn fresh(random: &mut Random, size: Size, count: usize) -> Vec<u8> {
 /// One byte changed.
 fn damaged(random: &mut Random, archive: &[u8]) -> Vec<u8> {
     let mut archive = archive.to_vec();
-    let at = random.below(archive.len());
-    archive[at] ^= 1 << random.below(8);
+    generate::change_a_bit(random, &mut archive);
     archive
-}
-
-/// The text from the line of this place on, or its end, shortened.
-fn from_line(text: &[u8], at: Option<usize>) -> String {
-    let before = &text[..at.unwrap_or(text.len().saturating_sub(1))];
-    let newline = before.iter().rposition(|byte| *byte == b'\n');
-    let line = newline.map_or(0, |at| at + 1);
-    let shown = &text[line..text.len().min(line + 80)];
-    let shown = String::from_utf8_lossy(shown);
-    format!("{} bytes, from byte {line}: {shown:?}", text.len())
 }

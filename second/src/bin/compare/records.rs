@@ -1,7 +1,7 @@
 //! Cases of record check and record writer.
 
 use crate::judge::{Judge, MOST_ROOM};
-use second::generate::{self, Size};
+use second::generate::{self, tame, Size};
 use second::random::Random;
 use second::record::{Header, Record, ENTRY, HEADER};
 
@@ -126,17 +126,6 @@ pub fn check_random(judge: &mut Judge, random: &mut Random) {
         let mut bytes = random.bytes(length);
         tame(&mut bytes, random);
         judge.record_check(&bytes);
-    }
-}
-
-/// Makes most header bytes small: else hardly any record is long enough or in range.
-pub fn tame(bytes: &mut [u8], random: &mut Random) {
-    // sizes, commit number, transaction, station, kind, the two zero bytes
-    let bounds = [4, 1, 4, 1, 3, 1, 1, 1, 3, 1, 1, 1, 8, 2, 1, 1];
-    for (byte, bound) in bytes.iter_mut().zip(bounds) {
-        if !random.one_in(40) {
-            *byte %= bound;
-        }
     }
 }
 
