@@ -7,7 +7,7 @@ ghost use Rattle.report.specs.Text.{field, heading, lineOf, endLine, ref
 use archive::Fields;
 
 // No line is longer.
-const LINE: usize = 64;
+pub const LINE: usize = 64;
 
 // Puts a number in decimal and the byte that follows it, and answers the position behind them.
 fn put_field(out: &mut [u8], at: usize, n: u32, follows: u8) -> usize

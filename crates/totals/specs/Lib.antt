@@ -1,0 +1,4 @@
+-- How often each counter was written, and the table that says so.
+pub mod Totals
+pub mod Table
+pub mod Writers
