@@ -19,6 +19,15 @@ counterLine a value writes =
 unfoldable pub atLine : ℕ → List ℕ
 atLine commit = ascii "at " ++ field64 commit 10
 
+-- "there is no commit 9: the archive ends behind commit 2"
+unfoldable pub missingLine : ℕ → ℕ → List ℕ
+missingLine commit last =
+    ascii "playback: there is no commit " ++ (field64 commit 58 ++ (ascii " the archive ends behind commit " ++ field64 last 10))
+
+-- no message is longer
+abbrev pub longestMessage : ℕ
+longestMessage = 128
+
 -- a number below 10 ^ k and the byte behind it
 pub field-within : (k n b : ℕ) → n < 10 ^ k → 0 < k → k ≤ 20 → length (field64 n b) ≤ k + 1
 field-within k n b h some le = omega (arith, field64-length n b, decimal64-short k n h some le)
@@ -38,3 +47,9 @@ counter-fits a value writes ha hv hw =
 pub at-fits : (commit : ℕ) → commit < 2 ^ 32 → length (atLine commit) ≤ longest
 unfolding atLine
 at-fits commit h = omega (arith, field-within 10 commit 10 (omega arith) (omega arith) (omega arith))
+
+pub missing-fits : (commit last : ℕ) → commit < 2 ^ 32 → last < 2 ^ 32 → length (missingLine commit last) ≤ longestMessage
+unfolding missingLine
+missing-fits commit last hc hl =
+    simp length-append
+    (omega (arith, field-within 10 commit 58 (omega arith) (omega arith) (omega arith), field-within 10 last 10 (omega arith) (omega arith) (omega arith)))

@@ -2,11 +2,13 @@
 ghost use mathlib.Core.Path.{_≡_};
 ghost use Prim.Native.Nat.{_+_, _<_};
 ghost use lib.ListN.{length, getD, set};
-ghost use Rattle.text.specs.Text.{put};
+ghost use Rattle.text.specs.Text.{put, lineWithin};
 ghost use Rattle.report.specs.Text.{lineAt};
 ghost use Rattle.replay.specs.Replay.{addressAt};
 ghost use Rattle.totals.specs.Totals.{oneMore, countedTo, counted};
-ghost use Rattle.totals.specs.Table.{heading, counterLine, atLine};
+ghost use Rattle.totals.specs.Tally.{stopped, tallied, tallyOf};
+ghost use Rattle.totals.specs.Table.{heading, counterLine, atLine, missingLine, longestMessage};
+use archive::Answer;
 
 // One more, where that fits.
 fn one_more(n: u64) -> u64
@@ -44,6 +46,48 @@ pub fn count(part: &[u8], counts: &mut [u64; 256])
     }
 }
 
+// Where a tally stopped, the last commit number there, and the number that stopped it: 0 at the end or behind the commit asked for.
+pub struct Stop {
+    pub at: usize,
+    pub last: u32,
+    pub number: u32,
+}
+
+fn stop_at(at: usize, last: u32, number: u32) -> Stop
+    ensures { λ r. ⌜ r ≡ stopped at last number ⌝ }
+{
+    Stop { at, last, number }
+}
+
+// Replays the records from the archive's start on and counts their writes, up to the commit `until`. What stands behind that
+// commit is not looked at.
+pub fn tally(
+    archive: &[u8],
+    last: u32,
+    until: u64,
+    values: &mut [u64; 256],
+    counts: &mut [u64; 256],
+) -> Stop
+    ensures { λ r. ⌜ tallied (now (values .exit)) (now (counts .exit)) r ≡ tallyOf (now (archive .entry)) last until (now (values .entry)) (now (counts .entry)) ⌝ }
+{
+    let mut at = 0;
+    let mut commit = last;
+    loop {
+        if le::long(commit) == until {
+            return stop_at(at, commit, 0);
+        }
+        match replay::replay(archive, at, commit, values) {
+            Answer::Record(f) => {
+                count(&archive[at..], counts);
+                at = f.end;
+                commit = f.commit;
+            }
+            Answer::End => return stop_at(at, commit, 0),
+            Answer::Refused(number) => return stop_at(at, commit, number),
+        }
+    }
+}
+
 // Each function below puts a line at `at` and answers the position behind it. Where fewer than 64 bytes are free from `at` on it
 // changes nothing and answers `at`.
 
@@ -78,4 +122,20 @@ pub fn at_line(out: &mut [u8], at: usize, commit: u32) -> usize
     }
     let at = text::put_text(out, at, b"at ");
     text::put_field(out, at, le::long(commit), b'\n')
+}
+
+// No message is longer.
+pub const MESSAGE: usize = 128;
+
+// Puts the message that the archive ends before a commit, where 128 bytes are free.
+pub fn missing_line(out: &mut [u8], at: usize, commit: u32, last: u32) -> usize
+    ensures { λ r. ⌜ put (now (out .exit)) r ≡ lineWithin longestMessage (now (out .entry)) at (missingLine commit last) ⌝ }
+{
+    if !text::room(MESSAGE, out.len(), at) {
+        return at;
+    }
+    let at = text::put_text(out, at, b"playback: there is no commit ");
+    let at = text::put_field(out, at, le::long(commit), b':');
+    let at = text::put_text(out, at, b" the archive ends behind commit ");
+    text::put_field(out, at, le::long(last), b'\n')
 }
