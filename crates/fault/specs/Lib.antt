@@ -3,3 +3,4 @@ pub mod First
 pub mod Fault
 pub mod Search
 pub mod Number
+pub mod Place

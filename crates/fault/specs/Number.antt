@@ -1,16 +1,17 @@
 -- A fault is what replay refuses the record for.
 use Prim.Native.Nat.{ℕ, _+_, _-_, _<_}
-use mathlib.Core.Path.{_≡_, refl, ap, _∙_}
+use mathlib.Core.Path.{_≡_, refl, sym, ap, _∙_}
 use mathlib.Core.List.{List}
 use mathlib.Core.Bool.{Bool, true, false, _&&_, not, cond}
 use lib.ListN.{length, drop, getD}
 use lib.Dec.{eqb, ltb, leb}
 use native.Mathlib.Omega.{arith}
-use borrow.Author.Tests.{le-ltb, ne-eqb}
+use borrow.Author.Tests.{le-ltb, ne-eqb, eqb-true}
 use Rattle.record.specs.Check.{readCount, writeCount, commitNumber, transactionNumber, stationNumber, stationKind, lengthOf, headOk, headAt, riseAt, rises, addressesRise, laidOut, checkOf}
 use Rattle.archive.specs.declared.Fields.{Fields}
 use Rattle.archive.specs.declared.Answer.{Answer}
-use Rattle.archive.specs.declared.Answer.the-variants.{Record, Refused}
+use Rattle.archive.specs.declared.Answer.the-variants.{Record, End, Refused}
+use Rattle.archive.specs.Told.{nothingThere}
 use Rattle.archive.specs.Read.{fieldsOf, firstOf, readOf}
 use Rattle.replay.specs.Replay.{readAgrees, readsAgree, onAnswer, replayOf}
 use Rattle.fault.specs.declared.Fault.{Fault}
@@ -124,3 +125,20 @@ fault-answer s at last v inside =
     by-tests false false true false r e = refl
     by-tests false false true true true e = rw e
     by-tests false false true true false e = rw e
+
+-- the number of an answer: none for a record
+abbrev pub refusal : Answer → ℕ
+refusal (Record f) = 0
+refusal End = nothingThere
+refusal (Refused k) = k
+
+pub fault-number : (s : List ℕ) (at last : ℕ) (v : List ℕ) → at < length s
+    → numberOf (faultOf (drop at s) last v) ≡ refusal (replayOf s at last v .answer)
+fault-number s at last v inside =
+    let f = fieldsOf (drop at s) at in
+    let x = faultOf (drop at s) last v in
+    sym (ap refusal (fault-answer s at last v inside) ∙ by-test f (numberOf x) (eqb (numberOf x) 0) refl)
+  where
+    by-test : (f : Fields) (k : ℕ) (b : Bool) → eqb k 0 ≡ b → refusal (cond b (Record f) (Refused k)) ≡ k
+    by-test f k true e = sym (eqb-true k 0 e)
+    by-test f k false e = refl

@@ -48,7 +48,7 @@ pub enum Fault {
 }
 
 // The number of document 01 that a fault is refused with, 0 for none.
-pub fn number(f: Fault) -> u32
+fn number(f: Fault) -> u32
     ensures { λ r. ⌜ r ≡ numberOf f ⌝ }
 {
     match f {
