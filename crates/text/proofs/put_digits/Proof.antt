@@ -1,13 +1,13 @@
--- `report::put_digits` meets its contract.
-use Rattle.report.specs.Decimal.{lastDigits}
-use Rattle.report.specs.Stores.{digit-store, digits-done}
+-- `text::put_digits` meets its contract.
+use Rattle.text.specs.Decimal.{lastDigits}
+use Rattle.text.specs.Stores.{digit-store, digits-done}
 use Prim.Native.Nat.{_≤_}
 use mathlib.Core.Path.{_≡_, _∙_}
 use lib.ListN.{length, length-set}
 use lib.Seq.{sets}
 use borrow.Author.Needs.{needs}
-use Rattle.report.proofs.put_digits.Statement.{statement}
-use Rattle.report.proofs.put_digits.Tie as tie
+use Rattle.text.proofs.put_digits.Statement.{statement}
+use Rattle.text.proofs.put_digits.Tie as tie
 
 abbrev Inv-loop : tie.InvT-loop
 Inv-loop out₀ at k n i₀ rest₀ out i rest = (i ≤ k) × (length out ≡ length out₀) × (sets out at (lastDigits i rest) ≡ sets out₀ at (lastDigits k n))

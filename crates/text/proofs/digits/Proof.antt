@@ -1,19 +1,20 @@
--- `report::digits` meets its contract.
-use Rattle.report.specs.Decimal.{Counted, counted-none, counted-more, counted}
+-- `text::digits` meets its contract.
+use Rattle.text.specs.Decimal.{counted-fits}
+use Rattle.text.specs.Decimal.{Counted, counted-none, counted-more, counted, twenty-digits}
 use Prim.Native.Nat.{_-_}
 use native.Mathlib.Omega.{arith}
 use borrow.Author.Needs.{needs}
-use Rattle.report.proofs.digits.Statement.{statement}
-use Rattle.report.proofs.digits.Tie as tie
+use Rattle.text.proofs.digits.Statement.{statement}
+use Rattle.text.proofs.digits.Tie as tie
 
 abbrev Inv-loop : tie.InvT-loop
-Inv-loop n v more₀ power₀ more power = Counted n more power
+Inv-loop n more₀ power₀ more power = Counted n more power
 
 abbrev μ-loop : tie.MeasureT-loop
-μ-loop n v more₀ power₀ more power = 10 - more
+μ-loop n more₀ power₀ more power = 19 - more
 
-long-requires : tie.Need-long-requires Inv-loop μ-loop
-long-requires c κs = search needs
+returns : tie.Need-returns Inv-loop μ-loop
+returns c = (twenty-digits _ (omega arith) (omega arith), omega arith)
 
 loop-holds : tie.Need-loop-holds Inv-loop μ-loop
 loop-holds c = counted-none _
@@ -22,7 +23,7 @@ add-more : tie.Need-add-more Inv-loop μ-loop
 add-more c = search needs
 
 mul-power : tie.Need-mul-power Inv-loop μ-loop
-mul-power c = search needs
+mul-power c = omega (arith, counted-fits _ _ _ (counted-more _ _ _ (c .before .loop .inv) (omega arith) (omega arith)))
 
 loop-less : tie.Need-loop-less Inv-loop μ-loop
 loop-less c = search needs
@@ -33,8 +34,8 @@ loop-again c = counted-more _ _ _ (c .before .loop .inv) (omega arith) (omega ar
 add-result : tie.Need-add-result Inv-loop μ-loop
 add-result c = search needs
 
-returns : tie.Need-returns Inv-loop μ-loop
-returns c = (counted _ _ _ (c .before .loop .inv) (omega arith), omega arith)
+returns-2 : tie.Need-returns-2 Inv-loop μ-loop
+returns-2 c = (counted _ _ _ (c .before .loop .inv) (omega arith), omega arith)
 
 pub digits-spec : {M : Type 1} → statement M
 digits-spec =
@@ -42,11 +43,11 @@ digits-spec =
     (tie.spec
     Inv-loop
     μ-loop
-    long-requires
+    returns
     loop-holds
     add-more
     mul-power
     loop-less
     loop-again
     add-result
-    returns)
+    returns-2)

@@ -3,14 +3,13 @@ use Prim.Native.Nat.{ℕ, zero, suc, _+_, _*_, _-_, _/_, _%_, _^_, _≤_, _<_}
 use mathlib.Core.Path.{_≡_, refl, sym, ap, _∙_}
 use mathlib.Core.List.{List, [], _∷_, _++_}
 use mathlib.Core.Bool.{Bool, true, false, cond}
-use native.Mathlib.Nat.{pow-suc, one-le-pow, pow-le-pow-right, div-lt-iff-lt-mul, le-div-iff-mul-le, div-add-mod'}
+use native.Mathlib.Nat.{pow-suc, one-le-pow, div-lt-iff-lt-mul, le-div-iff-mul-le, div-add-mod', pow-le-pow-right}
 use native.Mathlib.Numerals.{add-one}
 use native.Mathlib.Omega.{arith}
 use lib.ListN.{length, length-append}
 use lib.Dec.{ltb}
 use borrow.Author.Tests.{ltb-true, ltb-false, lt-ltb, le-ltb}
-use Rattle.archive.specs.declared.Fields.{Fields}
-use Rattle.report.specs.Text.{decimalTo, decimal, field, heading, lineOf, endLine, refusedLine, longest}
+use Rattle.text.specs.Text.{decimalTo, decimal64, field64}
 
 pub decimal-short : (k n : ℕ) → length (decimalTo k n) ≤ k
 unfolding decimalTo
@@ -73,52 +72,57 @@ decimal-digits (suc k) (suc m) n h least hm =
     let some : 1 ≤ 10 ^ k = one-le-pow k 10 (omega arith) in
     rw (le-ltb n 10 (omega arith), decimal-digits k m (n / 10) (one-digit-less (suc k) n h) (λ _. high) (omega arith))
 
--- a number of 32 bits has at most ten digits
-ten-digits : (k n : ℕ) → 10 ^ k ≤ n → n < 2 ^ 32 → k < 10
-ten-digits k n h fits = by-test (ltb k 10) refl
-  where
-    by-test : (b : Bool) → ltb k 10 ≡ b → k < 10
-    by-test true e = ltb-true k 10 e
-    by-test false e = let many : 10 ^ 10 ≤ 10 ^ k = pow-le-pow-right (omega arith) (ltb-false k 10 e) in absurd (omega arith)
+-- room for more digits changes no text
+pub decimal-same : (k m n : ℕ) → n < 10 ^ k → 0 < k → k ≤ m → decimalTo m n ≡ decimalTo k n
+unfolding decimalTo
+decimal-same zero m n h some le = absurd (omega arith)
+decimal-same (suc k) zero n h some le = absurd (omega arith)
+decimal-same (suc zero) (suc m) n h some le = rw (lt-ltb n 10 (omega arith))
+decimal-same (suc (suc k)) (suc m) n h some le = rw (decimal-same (suc k) m (n / 10) (one-digit-less (suc k) n h) (omega arith) (omega arith))
 
 -- a count of the digits of n, under way: it has `more` digits behind the first, and one more if it reaches `power`
 pub record Counted (n more power : ℕ) : Type 0 where
-  pub few : more < 10
+  pub few : more < 19
   pub next : power ≡ 10 ^ suc more
   pub reached : 0 < more → 10 ^ more ≤ n
 
 pub counted-none : (n : ℕ) → Counted n 0 10
 counted-none n = record { few = omega arith; next = refl; reached = λ h. absurd (omega arith) }
 
-pub counted-more : (n more power : ℕ) → Counted n more power → power ≤ n → n < 2 ^ 32 → Counted n (more + 1) (power * 10)
+-- a number below 10 ^ 19 does not reach it
+nineteen-digits : (k n : ℕ) → 10 ^ k ≤ n → n < 10 ^ 19 → k < 19
+nineteen-digits k n h fits = by-test (ltb k 19) refl
+  where
+    by-test : (b : Bool) → ltb k 19 ≡ b → k < 19
+    by-test true e = ltb-true k 19 e
+    by-test false e = let many : 10 ^ 19 ≤ 10 ^ k = pow-le-pow-right (omega arith) (ltb-false k 19 e) in absurd (omega arith)
+
+pub counted-more : (n more power : ℕ) → Counted n more power → power ≤ n → n < 10 ^ 19 → Counted n (more + 1) (power * 10)
 counted-more n more power c h fits =
     let reaches : 10 ^ suc more ≤ n = omega arith in
-    rw add-one (record { few = ten-digits (suc more) n reaches fits; next = rw (c .next, pow-suc 10 (suc more)); reached = λ _. reaches })
+    rw add-one (record { few = nineteen-digits (suc more) n reaches fits; next = rw (c .next, pow-suc 10 (suc more)); reached = λ _. reaches })
 
-pub counted : (n more power : ℕ) → Counted n more power → n < power → decimal n ≡ lastDigits (more + 1) n
-unfolding decimal
-counted n more power c h = rw add-one (decimal-digits more 10 n (omega arith) (c .reached) (c .few))
+-- the next power fits in 64 bits
+pub counted-fits : (n more power : ℕ) → Counted n more power → power ≤ 10 ^ 19
+counted-fits n more power c = rw (c .next) (pow-le-pow-right (omega arith) (c .few))
 
-pub field-short : (n b : ℕ) → length (field n b) ≤ 11
-unfolding field decimal
-field-short n b = rw length-append (omega (arith, decimal-short 10 n))
+pub counted : (n more power : ℕ) → Counted n more power → n < power → decimal64 n ≡ lastDigits (more + 1) n
+unfolding decimal64
+counted n more power c h = rw add-one (decimal-digits more 20 n (omega arith) (c .reached) (omega arith))
 
--- no line is longer than the longest
-pub heading-fits : length heading ≤ longest
-unfolding heading
-heading-fits = omega arith
+-- those from 10 ^ 19 on have twenty
+pub twenty-digits : (n : ℕ) → 10 ^ 19 ≤ n → n < 2 ^ 64 → decimal64 n ≡ lastDigits 20 n
+unfolding decimal64
+twenty-digits n least h = decimal-digits 19 20 n (omega arith) (λ _. least) (omega arith)
 
-pub line-fits : (f : Fields) → length (lineOf f) ≤ longest
-unfolding lineOf
-line-fits f =
-    simp length-append
-    (omega
-    (arith, field-short (f .commit) 32, field-short (f .station) 32, field-short (f .transaction) 32, field-short (f .reads) 32, field-short (f .writes) 10))
+pub digits-length : (n k : ℕ) → decimal64 n ≡ lastDigits k n → length (decimal64 n) ≡ k
+digits-length n k e = rw (e, length-digits)
 
-pub end-fits : (last : ℕ) → length (endLine last) ≤ longest
-unfolding endLine
-end-fits last = omega (arith, field-short last 10)
+pub field64-length : (n b : ℕ) → length (field64 n b) ≡ length (decimal64 n) + 1
+unfolding field64
+field64-length n b = length-append (decimal64 n) (b ∷ [])
 
-pub refused-fits : (k last : ℕ) → length (refusedLine k last) ≤ longest
-unfolding refusedLine
-refused-fits k last = simp length-append (omega (arith, field-short k 32, field-short last 10))
+-- a number below 10 ^ k has at most k digits
+pub decimal64-short : (k n : ℕ) → n < 10 ^ k → 0 < k → k ≤ 20 → length (decimal64 n) ≤ k
+unfolding decimal64
+decimal64-short k n h some le = rw (decimal-same k 20 n h some le) (decimal-short k n)

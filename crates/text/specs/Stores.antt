@@ -9,8 +9,8 @@ use lib.ListN.{length, take, drop, set, length-append, length-drop}
 use lib.Seq.{sets, set-comm, length-take-le}
 use borrow.Author.Tests.{leb-true, not-true, not-false}
 use Rattle.lists.specs.Stores.{sets-join, put-part, copy-whole}
-use Rattle.report.specs.Text.{decimal, field, Put, put, putOf, longest, hasRoom, lineAt}
-use Rattle.report.specs.Decimal.{lastDigits, length-digits}
+use Rattle.text.specs.Text.{decimal64, field64, Put, put, putOf, hasRoom, lineWithin}
+use Rattle.text.specs.Decimal.{lastDigits, length-digits}
 
 -- a text behind a text is one text
 pub put-join : (s : List ℕ) (at : ℕ) (x y : List ℕ) {o : List ℕ} {r : ℕ} {p : Put} → put o r ≡ putOf s at x → p ≡ putOf o r y → p ≡ putOf s at (x ++ y)
@@ -41,14 +41,21 @@ unfolding lastDigits
 digits-done s at zero n h = refl
 digits-done s at (suc i) n h = absurd (omega arith)
 
--- the digits and the byte behind them
-pub field-stores : (n b k at : ℕ) (s : List ℕ) {s1 s2 : List ℕ}
-    → decimal n ≡ lastDigits k n → s1 ≡ sets s at (lastDigits k n) → s2 ≡ set s1 (at + k) b → put s2 (at + k + 1) ≡ putOf s at (field n b)
-unfolding putOf field
-field-stores n b k at s d e1 e2 =
-    let ends : at + k + 1 ≡ at + length (lastDigits k n ++ (b ∷ [])) = rw (length-append, length-digits) (omega arith) in
-    let stores : set (sets s at (lastDigits k n)) (at + k) b ≡ sets s at (lastDigits k n ++ (b ∷ [])) = sets-join (lastDigits k n) (b ∷ []) s at (at + k) (rw length-digits) in
-    rw (e2, e1, d, stores, ends)
+-- the digits of a number
+pub number-stores : (n k at : ℕ) (s : List ℕ) {o : List ℕ} → decimal64 n ≡ lastDigits k n → o ≡ sets s at (lastDigits k n) → put o (at + k) ≡ putOf s at (decimal64 n)
+unfolding putOf
+number-stores n k at s d e =
+    let ends : at + length (lastDigits k n) ≡ at + k = rw length-digits in
+    rw (d, e, ends)
+
+byte-put : (o : List ℕ) (r b : ℕ) {o2 : List ℕ} → o2 ≡ set o r b → put o2 (r + 1) ≡ putOf o r (b ∷ [])
+unfolding putOf
+byte-put o r b e = rw e
+
+-- a number and the byte behind it
+pub field-stores : (n b at : ℕ) (s : List ℕ) {o o2 : List ℕ} {r : ℕ} → put o r ≡ putOf s at (decimal64 n) → o2 ≡ set o r b → put o2 (r + 1) ≡ putOf s at (field64 n b)
+unfolding field64
+field-stores n b at s e e2 = put-join s at (decimal64 n) (b ∷ []) e (byte-put _ _ b e2)
 
 -- a text copied over the part of an output that it fills
 pub text-stores : (text y s : List ℕ) (at k : ℕ) → k ≡ length text → at + k ≤ length s
@@ -61,15 +68,16 @@ text-stores text y s at k e h copied =
     ap (λ (o : List ℕ). put o (at + length text)) (put-part text y s at k (copied ∙ copy-whole text (take k (drop at s)) same) e h)
 
 -- what the test for room tells
-pub has-room : (len at : ℕ) {r : Bool} → r ≡ hasRoom len at → not r ≡ false → at + longest ≤ len
+pub has-room : (longest len at : ℕ) {r : Bool} → r ≡ hasRoom longest len at → not r ≡ false → at + longest ≤ len
 unfolding hasRoom
-has-room len at {r} e h = leb-true (at + longest) len (sym e ∙ not-false r h)
+has-room longest len at {r} e h = leb-true (at + longest) len (sym e ∙ not-false r h)
 
 -- a line where it has room, and where it has none
-pub line-put : (s : List ℕ) (at : ℕ) (x : List ℕ) {r : Bool} {p : Put} → r ≡ hasRoom (length s) at → not r ≡ false → p ≡ putOf s at x → p ≡ lineAt s at x
-unfolding lineAt
-line-put s at x {r} e h line = rw (← e, not-false r h) line
+pub line-put : (longest : ℕ) (s : List ℕ) (at : ℕ) (x : List ℕ) {r : Bool} {p : Put}
+    → r ≡ hasRoom longest (length s) at → not r ≡ false → p ≡ putOf s at x → p ≡ lineWithin longest s at x
+unfolding lineWithin
+line-put longest s at x {r} e h line = rw (← e, not-false r h) line
 
-pub line-refused : (s : List ℕ) (at : ℕ) (x : List ℕ) {r : Bool} → r ≡ hasRoom (length s) at → not r ≡ true → put s at ≡ lineAt s at x
-unfolding lineAt
-line-refused s at x {r} e h = rw (← e, not-true r h)
+pub line-refused : (longest : ℕ) (s : List ℕ) (at : ℕ) (x : List ℕ) {r : Bool} → r ≡ hasRoom longest (length s) at → not r ≡ true → put s at ≡ lineWithin longest s at x
+unfolding lineWithin
+line-refused longest s at x {r} e h = rw (← e, not-true r h)

@@ -1,12 +1,12 @@
--- `report::put_text` meets its contract.
-use Rattle.report.specs.Stores.{text-stores}
+-- `text::put_text` meets its contract.
+use Rattle.text.specs.Stores.{text-stores}
 use mathlib.Core.Path.{refl}
 use Prim.Native.Nat.{_+_, _-_}
 use lib.ListN.{length}
 use native.Mathlib.Omega.{arith}
 use borrow.Author.Needs.{needs}
-use Rattle.report.proofs.put_text.Statement.{statement}
-use Rattle.report.proofs.put_text.Tie as tie
+use Rattle.text.proofs.put_text.Statement.{statement}
+use Rattle.text.proofs.put_text.Tie as tie
 
 add-e : tie.Need-add-e
 add-e c = search needs
