@@ -1,23 +1,38 @@
-// Plays back an archive from standard input: a heading, a line a commit, then `end N` or `refused N after K`.
+// Plays back an archive from standard input (docs/PLAYBACK.md): a line a commit, or a table of the counters.
 //
 // Memory is constant. The input buffer holds the longest record that two size fields can claim, 16 + 9 * (65,535 + 65,535)
 // bytes, so that a record is called short only where the archive itself ends inside it.
+mod output;
+mod table;
+
 ghost use mathlib.Core.Path.{_≡_};
 ghost use Prim.Native.Nat.{_≤_};
 ghost use lib.ListN.{length};
+use crate::output::complain;
+use crate::output::flush;
+use crate::output::least;
+use crate::output::make_room;
 use archive::Answer;
+use arguments::Mode;
 use libc::STDIN_FILENO;
 use libc::STDOUT_FILENO;
 
 // Bytes asked of one read: few enough to stay in the processor's cache while they are played.
 const CHUNK: usize = 131072;
 
-// Room that a line may need.
-const LINE: usize = 64;
+// No commit has this number.
+const NEVER: u64 = 4294967296;
 
-// How far the program has come: bytes in the input buffer that are not played yet, last commit number, bytes in the output
-// buffer that are not written yet, and whether there is more to do.
+// What to do: a line a commit, or a table as it stands behind the commit `until` or, for NEVER, at the end.
+struct Job {
+    table: bool,
+    until: u64,
+}
+
+// How far the program has come: where in the archive the input buffer starts, bytes there that are not played yet, last commit
+// number, bytes in the output buffer that are not written yet, and whether there is more to do.
 struct State {
+    start: u64,
     len: usize,
     last: u32,
     out: usize,
@@ -37,30 +52,6 @@ enum More {
     Bytes(usize),
     End,
     Failed,
-}
-
-fn least(a: usize, b: usize) -> usize
-    ensures { λ r. ⌜ (r ≤ a) × (r ≤ b) ⌝ }
-{
-    if a < b { a } else { b }
-}
-
-// Writes the lines so far.
-fn flush(output: &[u8], out: usize) {
-    let taken = least(out, output.len());
-    if !io::write_all(STDOUT_FILENO, &output[..taken]) {
-        os::fail(b"standard output");
-    }
-}
-
-// Writes the lines so far if there may be no room for one more, and answers where the next one goes.
-fn make_room(output: &[u8], out: usize) -> usize {
-    let taken = least(out, output.len());
-    if LINE <= output.len() - taken {
-        return taken;
-    }
-    flush(output, taken);
-    0
 }
 
 // Plays the records that are whole in the input, a line for each.
@@ -93,6 +84,24 @@ fn play(input: &[u8], last: u32, values: &mut [u64; 256], output: &mut [u8], out
                 };
             }
         }
+    }
+}
+
+// Tallies the records that are whole in the input.
+fn tally(
+    input: &[u8],
+    last: u32,
+    until: u64,
+    values: &mut [u64; 256],
+    counts: &mut [u64; 256],
+    out: usize,
+) -> Stop {
+    let stop = totals::tally(input, last, until, values, counts);
+    Stop {
+        at: stop.at,
+        last: stop.last,
+        out,
+        number: stop.number,
     }
 }
 
@@ -141,8 +150,19 @@ fn finish(output: &mut [u8], out: usize, number: u32, last: u32) {
     flush(output, e);
 }
 
+// The text's end: the table where that is asked for at the end, then the last line.
+fn close(output: &mut [u8], job: Job, stop: Stop, values: &[u64; 256], counts: &[u64; 256]) {
+    if job.table && job.until == NEVER {
+        let next = table::put_table(output, stop.out, values, counts);
+        finish(output, next, stop.number, stop.last);
+        return;
+    }
+    finish(output, stop.out, stop.number, stop.last);
+}
+
 fn stopped() -> State {
     State {
+        start: 0,
         len: 0,
         last: 0,
         out: 0,
@@ -150,40 +170,101 @@ fn stopped() -> State {
     }
 }
 
+// So many bytes further on in the archive, as far as 64 bits go.
+fn further(start: u64, n: usize) -> u64 {
+    let n = n as u64;
+    if start <= u64::MAX - n {
+        return start + n;
+    }
+    u64::MAX
+}
+
+// Plays the first `len` bytes of the buffer.
+fn play_part(
+    input: &[u8],
+    job: Job,
+    values: &mut [u64; 256],
+    counts: &mut [u64; 256],
+    output: &mut [u8],
+    s: State,
+) -> Stop {
+    if job.table {
+        return tally(input, s.last, job.until, values, counts, s.out);
+    }
+    play(input, s.last, values, output, s.out)
+}
+
 // Plays the first `len` bytes of the buffer and keeps the record that is cut by its end for the next turn.
 fn advance(
     input: &mut [u8],
     len: usize,
+    job: Job,
     values: &mut [u64; 256],
+    counts: &mut [u64; 256],
     output: &mut [u8],
     s: State,
 ) -> State
     requires { ⌜ len ≤ length (now input) ⌝ }
 {
-    let stop = play(&input[..len], s.last, values, output, s.out);
+    let stop = play_part(&input[..len], job, values, counts, output, s);
     if stop.number == 0 || stop.number == 12 {
         return State {
+            start: further(s.start, stop.at),
             len: move_down(input, stop.at, len),
             last: stop.last,
             out: stop.out,
             going: true,
         };
     }
-    finish(output, stop.out, stop.number, stop.last);
+    close(output, job, stop, values, counts);
+    let at = least(stop.at, len);
+    table::say_fault(&input[at..len], further(s.start, at), stop.last, values);
     stopped()
 }
 
-// One read, and the play of what is then there. Bytes that are left at the end of the archive are a record cut short.
-fn turn(input: &mut [u8], values: &mut [u64; 256], output: &mut [u8], s: State) -> State {
+// The end of the archive. Bytes that are left are a record cut short.
+fn ended(
+    left: &[u8],
+    job: Job,
+    values: &[u64; 256],
+    counts: &[u64; 256],
+    output: &mut [u8],
+    s: State,
+) {
+    let number = if left.len() == 0 { 0 } else { 12 };
+    let stop = Stop {
+        at: 0,
+        last: s.last,
+        out: s.out,
+        number,
+    };
+    close(output, job, stop, values, counts);
+    if number != 0 {
+        table::say_fault(left, s.start, s.last, values);
+        return;
+    }
+    if job.until < NEVER {
+        table::say_missing(job.until as u32, s.last);
+    }
+}
+
+// One read, and the play of what is then there.
+fn turn(
+    input: &mut [u8],
+    job: Job,
+    values: &mut [u64; 256],
+    counts: &mut [u64; 256],
+    output: &mut [u8],
+    s: State,
+) -> State {
     let len = least(s.len, input.len());
     match read_more(input, len) {
         More::Bytes(n) => {
             let have = least(n, input.len());
-            advance(input, have, values, output, s)
+            advance(input, have, job, values, counts, output, s)
         }
         More::End => {
-            let number = if len == 0 { 0 } else { 12 };
-            finish(output, s.out, number, s.last);
+            ended(&input[..len], job, values, counts, output, s);
             stopped()
         }
         More::Failed => {
@@ -194,12 +275,27 @@ fn turn(input: &mut [u8], values: &mut [u64; 256], output: &mut [u8], s: State) 
     }
 }
 
+// What is printed before the first record.
+fn begin(output: &mut [u8], job: Job) -> usize {
+    if job.table {
+        return 0;
+    }
+    report::heading_line(output, 0)
+}
+
 // A proved loop has to end, and nothing says that standard input does: it counts down from a number that no run uses up.
-fn run(input: &mut [u8], values: &mut [u64; 256], output: &mut [u8]) {
+fn run(
+    input: &mut [u8],
+    job: Job,
+    values: &mut [u64; 256],
+    counts: &mut [u64; 256],
+    output: &mut [u8],
+) {
     let mut s = State {
+        start: 0,
         len: 0,
         last: 0,
-        out: report::heading_line(output, 0),
+        out: begin(output, job),
         going: true,
     };
     let mut turns = u64::MAX;
@@ -207,19 +303,76 @@ fn run(input: &mut [u8], values: &mut [u64; 256], output: &mut [u8]) {
         if !s.going {
             return;
         }
-        s = turn(input, values, output, s);
+        if s.last as u64 == job.until {
+            table::print_at(output, s.last, values, counts);
+            return;
+        }
+        s = turn(input, job, values, counts, output, s);
         turns -= 1;
     }
 }
 
 // The buffer comes as an array: its length is then known by its type, and nothing has to be computed of its bytes.
-fn start(input: &mut [u8; 1310720]) {
+fn start(input: &mut [u8; 1310720], job: Job) {
     let mut values = [0u64; 256];
+    let mut counts = [0u64; 256];
     let mut output = io::large_buffer();
-    run(input, &mut values, &mut output);
+    run(input, job, &mut values, &mut counts, &mut output);
+}
+
+fn do_job(job: Job) {
+    let mut input = [0u8; 1310720];
+    start(&mut input, job);
+}
+
+fn say(line: &[u8]) {
+    if !io::write_all(STDOUT_FILENO, line) {
+        os::fail(b"standard output");
+    }
+}
+
+fn help() {
+    say(b"usage: playback [--totals | --at N | --help] <ARCHIVE\n");
+    say(b"Plays back the archive on standard input and prints a line a commit.\n");
+    say(b"  --totals  instead each counter's value at the end, and how often it was written\n");
+    say(b"  --at N    the same as it stood after commit N, from 0 to 4294967295\n");
+    say(b"  --help    this text\n");
+    say(
+        b"The last line is `end N`, `at N` or `refused N after K`; what is wrong goes to standard error.\n",
+    );
+}
+
+fn misunderstood() {
+    let line =
+        b"playback: the arguments are not understood; playback --help says which there are\n";
+    complain(line, line.len());
+}
+
+// How many words stand behind the program's name.
+fn words_behind(count: usize) -> usize {
+    if count == 0 { 0 } else { count - 1 }
 }
 
 fn main() {
-    let mut input = [0u8; 1310720];
-    start(&mut input);
+    let mut first = io::buffer();
+    let mut second = io::buffer();
+    let n = os::arg(1, &mut first);
+    let m = os::arg(2, &mut second);
+    let count = words_behind(os::arg_count());
+    match arguments::asked_for(count, &first[..n], &second[..m]) {
+        Mode::Lines => do_job(Job {
+            table: false,
+            until: NEVER,
+        }),
+        Mode::Totals => do_job(Job {
+            table: true,
+            until: NEVER,
+        }),
+        Mode::At(commit) => do_job(Job {
+            table: true,
+            until: commit as u64,
+        }),
+        Mode::Help => help(),
+        Mode::Unknown => misunderstood(),
+    }
 }
