@@ -12,7 +12,9 @@ use crate::output::complain;
 use crate::output::flush;
 use crate::output::least;
 use crate::output::make_room;
+ghost use Rattle.totals.specs.Tally.{noted, tallied, tallyOf};
 use archive::Answer;
+use archive::Fields;
 use arguments::Mode;
 use libc::STDIN_FILENO;
 use libc::STDOUT_FILENO;
@@ -47,6 +49,17 @@ struct Stop {
     number: u32,
 }
 
+fn stop_at(at: usize, last: u32, out: usize, number: u32) -> Stop
+    ensures { λ r. ⌜ (r .at ≡ at) × (r .last ≡ last) × (r .number ≡ number) ⌝ }
+{
+    Stop {
+        at,
+        last,
+        out,
+        number,
+    }
+}
+
 // What a read brings: the bytes that the buffer now has, the end, or a failure.
 enum More {
     Bytes(usize),
@@ -54,54 +67,54 @@ enum More {
     Failed,
 }
 
-// Plays the records that are whole in the input, a line for each.
-fn play(input: &[u8], last: u32, values: &mut [u64; 256], output: &mut [u8], out: usize) -> Stop {
+// Takes note of a record that was replayed, in the table's counts or as a line. `part` is the input from its start on.
+fn note(
+    part: &[u8],
+    f: Fields,
+    table: bool,
+    counts: &mut [u64; 256],
+    output: &mut [u8],
+    out: usize,
+) -> usize
+    ensures { λ _. ⌜ now (counts .exit) ≡ noted table (now (part .entry)) (now (counts .entry)) ⌝ }
+{
+    if table {
+        totals::count(part, counts);
+        return out;
+    }
+    let place = make_room(output, out);
+    report::commit_line(output, place, f)
+}
+
+// Plays the records that are whole in the input, up to the commit where the job ends. One loop serves lines and table: the
+// compiler writes replay in place only where it is called once.
+fn play(
+    input: &[u8],
+    last: u32,
+    job: Job,
+    values: &mut [u64; 256],
+    counts: &mut [u64; 256],
+    output: &mut [u8],
+    out: usize,
+) -> Stop
+    ensures { λ r. ⌜ tallied (now (values .exit)) (now (counts .exit)) (r .at) (r .last) (r .number) ≡ tallyOf (job .table) (now (input .entry)) last (job .until) (now (values .entry)) (now (counts .entry)) ⌝ }
+{
     let mut at = 0;
     let mut commit = last;
     let mut next = out;
     loop {
+        if le::long(commit) == job.until {
+            return stop_at(at, commit, next, 0);
+        }
         match replay::replay(input, at, commit, values) {
             Answer::Record(f) => {
-                let place = make_room(output, next);
-                next = report::commit_line(output, place, f);
+                next = note(&input[at..], f, job.table, counts, output, next);
                 at = f.end;
                 commit = f.commit;
             }
-            Answer::End => {
-                return Stop {
-                    at,
-                    last: commit,
-                    out: next,
-                    number: 0,
-                };
-            }
-            Answer::Refused(number) => {
-                return Stop {
-                    at,
-                    last: commit,
-                    out: next,
-                    number,
-                };
-            }
+            Answer::End => return stop_at(at, commit, next, 0),
+            Answer::Refused(number) => return stop_at(at, commit, next, number),
         }
-    }
-}
-
-// Tallies the records that are whole in the input.
-fn tally(
-    input: &[u8],
-    last: u32,
-    until: u64,
-    values: &mut [u64; 256],
-    counts: &mut [u64; 256],
-    out: usize,
-) -> Stop {
-    let stop = totals::tally(input, last, until, values, counts);
-    Stop {
-        at: stop.at,
-        last: stop.last,
-        out,
-        number: stop.number,
     }
 }
 
@@ -179,21 +192,6 @@ fn further(start: u64, n: usize) -> u64 {
     u64::MAX
 }
 
-// Plays the first `len` bytes of the buffer.
-fn play_part(
-    input: &[u8],
-    job: Job,
-    values: &mut [u64; 256],
-    counts: &mut [u64; 256],
-    output: &mut [u8],
-    s: State,
-) -> Stop {
-    if job.table {
-        return tally(input, s.last, job.until, values, counts, s.out);
-    }
-    play(input, s.last, values, output, s.out)
-}
-
 // Plays the first `len` bytes of the buffer and keeps the record that is cut by its end for the next turn.
 fn advance(
     input: &mut [u8],
@@ -206,7 +204,7 @@ fn advance(
 ) -> State
     requires { ⌜ len ≤ length (now input) ⌝ }
 {
-    let stop = play_part(&input[..len], job, values, counts, output, s);
+    let stop = play(&input[..len], s.last, job, values, counts, output, s.out);
     if stop.number == 0 || stop.number == 12 {
         return State {
             start: further(s.start, stop.at),
@@ -232,13 +230,13 @@ fn ended(
     s: State,
 ) {
     let number = if left.len() == 0 { 0 } else { 12 };
-    let stop = Stop {
-        at: 0,
-        last: s.last,
-        out: s.out,
-        number,
-    };
-    close(output, job, stop, values, counts);
+    close(
+        output,
+        job,
+        stop_at(0, s.last, s.out, number),
+        values,
+        counts,
+    );
     if number != 0 {
         table::say_fault(left, s.start, s.last, values);
         return;

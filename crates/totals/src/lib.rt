@@ -6,9 +6,7 @@ ghost use Rattle.text.specs.Text.{put, lineWithin};
 ghost use Rattle.report.specs.Text.{lineAt};
 ghost use Rattle.replay.specs.Replay.{addressAt};
 ghost use Rattle.totals.specs.Totals.{oneMore, countedTo, counted};
-ghost use Rattle.totals.specs.Tally.{stopped, tallied, tallyOf};
 ghost use Rattle.totals.specs.Table.{heading, counterLine, atLine, missingLine, longestMessage};
-use archive::Answer;
 
 // One more, where that fits.
 fn one_more(n: u64) -> u64
@@ -43,48 +41,6 @@ pub fn count(part: &[u8], counts: &mut [u64; 256])
     while c < m {
         count_entry(part, counts, n + c);
         c += 1;
-    }
-}
-
-// Where a tally stopped, the last commit number there, and the number that stopped it: 0 at the end or behind the commit asked for.
-pub struct Stop {
-    pub at: usize,
-    pub last: u32,
-    pub number: u32,
-}
-
-fn stop_at(at: usize, last: u32, number: u32) -> Stop
-    ensures { λ r. ⌜ r ≡ stopped at last number ⌝ }
-{
-    Stop { at, last, number }
-}
-
-// Replays the records from the archive's start on and counts their writes, up to the commit `until`. What stands behind that
-// commit is not looked at.
-pub fn tally(
-    archive: &[u8],
-    last: u32,
-    until: u64,
-    values: &mut [u64; 256],
-    counts: &mut [u64; 256],
-) -> Stop
-    ensures { λ r. ⌜ tallied (now (values .exit)) (now (counts .exit)) r ≡ tallyOf (now (archive .entry)) last until (now (values .entry)) (now (counts .entry)) ⌝ }
-{
-    let mut at = 0;
-    let mut commit = last;
-    loop {
-        if le::long(commit) == until {
-            return stop_at(at, commit, 0);
-        }
-        match replay::replay(archive, at, commit, values) {
-            Answer::Record(f) => {
-                count(&archive[at..], counts);
-                at = f.end;
-                commit = f.commit;
-            }
-            Answer::End => return stop_at(at, commit, 0),
-            Answer::Refused(number) => return stop_at(at, commit, number),
-        }
     }
 }
 

@@ -6,14 +6,14 @@ use borrow.Author.Needs.{needs}
 use Rattle.playback.proofs.advance.Statement.{statement}
 use Rattle.playback.proofs.advance.Tie as tie
 
-slice-reshare-prefix-play-part : tie.Need-slice-reshare-prefix-play-part
-slice-reshare-prefix-play-part c = search needs
+slice-reshare-prefix-play : tie.Need-slice-reshare-prefix-play
+slice-reshare-prefix-play c = search needs
 
-slice-aggregate-play-part : tie.Need-slice-aggregate-play-part
-slice-aggregate-play-part c = sym (length-take-le (c .before .before .before .args .len) (c .before .before .before .args .input .now) (omega arith))
+slice-aggregate-play : tie.Need-slice-aggregate-play
+slice-aggregate-play c = sym (length-take-le (c .before .before .before .args .len) (c .before .before .before .args .input .now) (omega arith))
 
-play-part-requires : tie.Need-play-part-requires
-play-part-requires c κs = search needs
+play-requires : tie.Need-play-requires
+play-requires c κs = search needs
 
 further-requires : tie.Need-further-requires
 further-requires c κs = search needs
@@ -67,9 +67,9 @@ pub advance-spec : {M : Type 1} → statement M
 advance-spec =
     tie.close
     (tie.spec
-    slice-reshare-prefix-play-part
-    slice-aggregate-play-part
-    play-part-requires
+    slice-reshare-prefix-play
+    slice-aggregate-play
+    play-requires
     further-requires
     move-down-requires
     same-length
