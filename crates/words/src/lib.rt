@@ -28,7 +28,7 @@ fn say(out: &mut [u8], at: usize, before: &[u8], n: u32, behind: &[u8]) -> usize
     say_long(out, at, before, le::long(n), behind)
 }
 
-// The words of the faults whose row is more than a `say`.
+// The words of the faults whose row is more than a `say`. No words name a place: the contracts have a 0 there.
 
 fn header_words(out: &mut [u8], at: usize, present: usize) -> usize
     requires { ⌜ at + 128 ≤ length (now out) ⌝ }
