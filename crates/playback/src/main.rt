@@ -183,15 +183,6 @@ fn stopped() -> State {
     }
 }
 
-// So many bytes further on in the archive, as far as 64 bits go.
-fn further(start: u64, n: usize) -> u64 {
-    let n = n as u64;
-    if start <= u64::MAX - n {
-        return start + n;
-    }
-    u64::MAX
-}
-
 // Plays the first `len` bytes of the buffer and keeps the record that is cut by its end for the next turn.
 fn advance(
     input: &mut [u8],
@@ -207,7 +198,7 @@ fn advance(
     let stop = play(&input[..len], s.last, job, values, counts, output, s.out);
     if stop.number == 0 || stop.number == 12 {
         return State {
-            start: further(s.start, stop.at),
+            start: words::further(s.start, stop.at),
             len: move_down(input, stop.at, len),
             last: stop.last,
             out: stop.out,
@@ -216,7 +207,12 @@ fn advance(
     }
     close(output, job, stop, values, counts);
     let at = least(stop.at, len);
-    table::say_fault(&input[at..len], further(s.start, at), stop.last, values);
+    table::say_fault(
+        &input[at..len],
+        words::further(s.start, at),
+        stop.last,
+        values,
+    );
     stopped()
 }
 

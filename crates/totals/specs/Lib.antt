@@ -3,3 +3,4 @@ pub mod Totals
 pub mod Tally
 pub mod Table
 pub mod Writers
+pub mod Whole

@@ -144,11 +144,13 @@ writers-few s a (f ∷ fs) = by-test (writes (drop (f .at) s) a) (writers-few s 
 
 -- what is read at a position: where its record starts, that it is one, and its number
 module _ (s : List ℕ) (at last : ℕ) (v : List ℕ) (f : Fields) (e : replayOf s at last v .answer ≡ Record f) where
-  checked-at : checkOf (drop (f .at) s) ≡ 0
+  pub starts-at : at ≡ f .at
   unfolding fieldsOf
+  starts-at = ap (λ (g : Fields). g .at) (recorded s at last f (replay-read s at last v f e) .fields)
+
+  checked-at : checkOf (drop (f .at) s) ≡ 0
   checked-at =
-      let r = recorded s at last f (replay-read s at last v f e) in
-      subst (λ (p : ℕ). checkOf (drop p s) ≡ 0) (ap (λ (g : Fields). g .at) (r .fields)) (r .checks)
+      subst (λ (p : ℕ). checkOf (drop p s) ≡ 0) starts-at (recorded s at last f (replay-read s at last v f e) .checks)
 
   commit-is : f .commit ≡ last + 1
   unfolding fieldsOf
@@ -156,7 +158,7 @@ module _ (s : List ℕ) (at last : ℕ) (v : List ℕ) (f : Fields) (e : replayO
       let r = recorded s at last f (replay-read s at last v f e) in
       sym (ap (λ (g : Fields). g .commit) (r .fields)) ∙ r .follows
 
-  commit-fits : Bytes s → f .commit < 2 ^ 32
+  pub commit-fits : Bytes s → f .commit < 2 ^ 32
   unfolding fieldsOf
   commit-fits b =
       let r = recorded s at last f (replay-read s at last v f e) in

@@ -5,7 +5,7 @@ use mathlib.Core.List.{List, [], _∷_}
 use Rattle.text.specs.Text.{ascii, decimalTo, decimal64}
 use Rattle.fault.specs.declared.Fault.{Fault}
 use Rattle.fault.specs.declared.Fault.the-variants.{Cut, Header, Reads, Writes, Transaction, Station, Kind, Zero, Order, Sequence, Read}
-use Rattle.words.specs.Words.{numbered, wordsOf, placed, whereOf, faultLine}
+use Rattle.words.specs.Words.{numbered, wordsOf, further, placed, whereOf, faultLine}
 
 -- a fault and its words
 pub record Row : Type 0 where
@@ -40,5 +40,5 @@ table = (refl, (refl, (refl, (refl, (refl, (refl, (refl, (refl, (refl, (refl, (r
 
 -- "playback: byte 46, in the record at byte 34: station 9, but stations are 0 to 7"
 pub example : faultLine 34 (Station 9) ≡ ascii "playback: byte 46, in the record at byte 34: station 9, but stations are 0 to 7\n"
-unfolding faultLine whereOf placed wordsOf numbered decimal64 decimalTo
+unfolding faultLine whereOf placed further wordsOf numbered decimal64 decimalTo
 example = refl

@@ -35,9 +35,13 @@ wordsOf (Read at address is left) =
 abbrev pub most : ℕ
 most = 18446744073709551615
 
--- the fault's byte in the archive, of a record at byte `start`: at most the largest number
+-- so many bytes further on, at most the largest number
+unfoldable pub further : ℕ → ℕ → ℕ
+further start more = cond (leb (start + more) most) (start + more) most
+
+-- the fault's byte in the archive, of a record at byte `start`
 unfoldable pub placed : ℕ → Fault → ℕ
-placed start f = cond (leb (start + placeOf f) most) (start + placeOf f) most
+placed start f = further start (placeOf f)
 
 -- where the fault is, and where the record starts: "byte 46, in the record at byte 34"
 unfoldable pub whereOf : ℕ → Fault → List ℕ

@@ -3,7 +3,7 @@ ghost use mathlib.Core.Path.{_≡_};
 ghost use Prim.Native.Nat.{_+_, _≤_};
 ghost use lib.ListN.{length};
 ghost use Rattle.text.specs.Text.{put, putOf, lineWithin};
-ghost use Rattle.words.specs.Words.{numbered, wordsOf, placed as Words·placed, whereOf, faultLine, longest};
+ghost use Rattle.words.specs.Words.{numbered, wordsOf, further as Words·further, placed as Words·placed, whereOf, faultLine, longest};
 use fault::Fault;
 
 // No line is longer.
@@ -99,15 +99,22 @@ fn put_words(out: &mut [u8], at: usize, f: Fault) -> usize
     }
 }
 
-// The fault's byte, of a record at byte `start`. It is cut at the largest number.
+// So many bytes further on in an archive. It is cut at the largest number.
+pub fn further(start: u64, more: usize) -> u64
+    ensures { λ r. ⌜ r ≡ Words·further start more ⌝ }
+{
+    let more = more as u64;
+    if start <= u64::MAX - more {
+        return start + more;
+    }
+    u64::MAX
+}
+
+// The fault's byte, of a record at byte `start`.
 fn placed(start: u64, f: Fault) -> u64
     ensures { λ r. ⌜ r ≡ Words·placed start f ⌝ }
 {
-    let place = fault::place(f) as u64;
-    if start <= u64::MAX - place {
-        return start + place;
-    }
-    u64::MAX
+    further(start, fault::place(f))
 }
 
 // Puts where the fault is, and where its record starts.
