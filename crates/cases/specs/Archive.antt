@@ -11,7 +11,8 @@ use Rattle.layout.specs.Record.{header}
 use Rattle.record.specs.Check.{headOk, headAt, riseAt, rises, addressesRise, checkOf}
 use Rattle.archive.specs.Read.{fieldsOf, firstOf, readOf}
 use Rattle.replay.specs.Replay.{readAgrees, readsAgree, storedTo, stored, replayOf}
-use Rattle.report.specs.Text.{ascii, decimalTo, decimal, field, heading, lineOf, endLine, refusedLine, linesFrom, printed}
+use Rattle.text.specs.Text.{ascii, decimalTo}
+use Rattle.report.specs.Text.{decimal, field, heading, lineOf, endLine, refusedLine, linesFrom, printed}
 
 -- a case: an archive's bytes, how many they are, record check's number for the first of them, and the text that playback prints
 pub record Case : Type 0 where

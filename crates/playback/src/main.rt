@@ -1,23 +1,40 @@
-// Plays back an archive from standard input: a heading, a line a commit, then `end N` or `refused N after K`.
+// Plays back an archive from standard input (docs/PLAYBACK.md): a line a commit, or a table of the counters.
 //
 // Memory is constant. The input buffer holds the longest record that two size fields can claim, 16 + 9 * (65,535 + 65,535)
 // bytes, so that a record is called short only where the archive itself ends inside it.
+mod output;
+mod table;
+
 ghost use mathlib.Core.Path.{_≡_};
 ghost use Prim.Native.Nat.{_≤_};
 ghost use lib.ListN.{length};
+use crate::output::complain;
+use crate::output::flush;
+use crate::output::least;
+use crate::output::make_room;
+ghost use Rattle.totals.specs.Tally.{noted, tallied, tallyOf};
 use archive::Answer;
+use archive::Fields;
+use arguments::Mode;
 use libc::STDIN_FILENO;
 use libc::STDOUT_FILENO;
 
 // Bytes asked of one read: few enough to stay in the processor's cache while they are played.
 const CHUNK: usize = 131072;
 
-// Room that a line may need.
-const LINE: usize = 64;
+// No commit has this number.
+const NEVER: u64 = 4294967296;
 
-// How far the program has come: bytes in the input buffer that are not played yet, last commit number, bytes in the output
-// buffer that are not written yet, and whether there is more to do.
+// What to do: a line a commit, or a table as it stands behind the commit `until` or, for NEVER, at the end.
+struct Job {
+    table: bool,
+    until: u64,
+}
+
+// How far the program has come: where in the archive the input buffer starts, bytes there that are not played yet, last commit
+// number, bytes in the output buffer that are not written yet, and whether there is more to do.
 struct State {
+    start: u64,
     len: usize,
     last: u32,
     out: usize,
@@ -32,6 +49,17 @@ struct Stop {
     number: u32,
 }
 
+fn stop_at(at: usize, last: u32, out: usize, number: u32) -> Stop
+    ensures { λ r. ⌜ (r .at ≡ at) × (r .last ≡ last) × (r .number ≡ number) ⌝ }
+{
+    Stop {
+        at,
+        last,
+        out,
+        number,
+    }
+}
+
 // What a read brings: the bytes that the buffer now has, the end, or a failure.
 enum More {
     Bytes(usize),
@@ -39,59 +67,53 @@ enum More {
     Failed,
 }
 
-fn least(a: usize, b: usize) -> usize
-    ensures { λ r. ⌜ (r ≤ a) × (r ≤ b) ⌝ }
+// Takes note of a record that was replayed, in the table's counts or as a line. `part` is the input from its start on.
+fn note(
+    part: &[u8],
+    f: Fields,
+    table: bool,
+    counts: &mut [u64; 256],
+    output: &mut [u8],
+    out: usize,
+) -> usize
+    ensures { λ _. ⌜ now (counts .exit) ≡ noted table (now (part .entry)) (now (counts .entry)) ⌝ }
 {
-    if a < b { a } else { b }
-}
-
-// Writes the lines so far.
-fn flush(output: &[u8], out: usize) {
-    let taken = least(out, output.len());
-    if !io::write_all(STDOUT_FILENO, &output[..taken]) {
-        os::fail(b"standard output");
+    if table {
+        totals::count(part, counts);
+        return out;
     }
+    let place = make_room(output, out);
+    report::commit_line(output, place, f)
 }
 
-// Writes the lines so far if there may be no room for one more, and answers where the next one goes.
-fn make_room(output: &[u8], out: usize) -> usize {
-    let taken = least(out, output.len());
-    if LINE <= output.len() - taken {
-        return taken;
-    }
-    flush(output, taken);
-    0
-}
-
-// Plays the records that are whole in the input, a line for each.
-fn play(input: &[u8], last: u32, values: &mut [u64; 256], output: &mut [u8], out: usize) -> Stop {
+// Plays the records that are whole in the input, up to the commit where the job ends. One loop serves lines and table: the
+// compiler writes replay in place only where it is called once.
+fn play(
+    input: &[u8],
+    last: u32,
+    job: Job,
+    values: &mut [u64; 256],
+    counts: &mut [u64; 256],
+    output: &mut [u8],
+    out: usize,
+) -> Stop
+    ensures { λ r. ⌜ tallied (now (values .exit)) (now (counts .exit)) (r .at) (r .last) (r .number) ≡ tallyOf (job .table) (now (input .entry)) last (job .until) (now (values .entry)) (now (counts .entry)) ⌝ }
+{
     let mut at = 0;
     let mut commit = last;
     let mut next = out;
     loop {
+        if le::long(commit) == job.until {
+            return stop_at(at, commit, next, 0);
+        }
         match replay::replay(input, at, commit, values) {
             Answer::Record(f) => {
-                let place = make_room(output, next);
-                next = report::commit_line(output, place, f);
+                next = note(&input[at..], f, job.table, counts, output, next);
                 at = f.end;
                 commit = f.commit;
             }
-            Answer::End => {
-                return Stop {
-                    at,
-                    last: commit,
-                    out: next,
-                    number: 0,
-                };
-            }
-            Answer::Refused(number) => {
-                return Stop {
-                    at,
-                    last: commit,
-                    out: next,
-                    number,
-                };
-            }
+            Answer::End => return stop_at(at, commit, next, 0),
+            Answer::Refused(number) => return stop_at(at, commit, next, number),
         }
     }
 }
@@ -141,8 +163,19 @@ fn finish(output: &mut [u8], out: usize, number: u32, last: u32) {
     flush(output, e);
 }
 
+// The text's end: the table where that is asked for at the end, then the last line.
+fn close(output: &mut [u8], job: Job, stop: Stop, values: &[u64; 256], counts: &[u64; 256]) {
+    if job.table && job.until == NEVER {
+        let next = table::put_table(output, stop.out, values, counts);
+        finish(output, next, stop.number, stop.last);
+        return;
+    }
+    finish(output, stop.out, stop.number, stop.last);
+}
+
 fn stopped() -> State {
     State {
+        start: 0,
         len: 0,
         last: 0,
         out: 0,
@@ -154,36 +187,78 @@ fn stopped() -> State {
 fn advance(
     input: &mut [u8],
     len: usize,
+    job: Job,
     values: &mut [u64; 256],
+    counts: &mut [u64; 256],
     output: &mut [u8],
     s: State,
 ) -> State
     requires { ⌜ len ≤ length (now input) ⌝ }
 {
-    let stop = play(&input[..len], s.last, values, output, s.out);
+    let stop = play(&input[..len], s.last, job, values, counts, output, s.out);
     if stop.number == 0 || stop.number == 12 {
         return State {
+            start: words::further(s.start, stop.at),
             len: move_down(input, stop.at, len),
             last: stop.last,
             out: stop.out,
             going: true,
         };
     }
-    finish(output, stop.out, stop.number, stop.last);
+    close(output, job, stop, values, counts);
+    let at = least(stop.at, len);
+    table::say_fault(
+        &input[at..len],
+        words::further(s.start, at),
+        stop.last,
+        values,
+    );
     stopped()
 }
 
-// One read, and the play of what is then there. Bytes that are left at the end of the archive are a record cut short.
-fn turn(input: &mut [u8], values: &mut [u64; 256], output: &mut [u8], s: State) -> State {
+// The end of the archive. Bytes that are left are a record cut short.
+fn ended(
+    left: &[u8],
+    job: Job,
+    values: &[u64; 256],
+    counts: &[u64; 256],
+    output: &mut [u8],
+    s: State,
+) {
+    let number = if left.len() == 0 { 0 } else { 12 };
+    close(
+        output,
+        job,
+        stop_at(0, s.last, s.out, number),
+        values,
+        counts,
+    );
+    if number != 0 {
+        table::say_fault(left, s.start, s.last, values);
+        return;
+    }
+    if job.until < NEVER {
+        table::say_missing(job.until as u32, s.last);
+    }
+}
+
+// One read, and the play of what is then there.
+fn turn(
+    input: &mut [u8],
+    job: Job,
+    values: &mut [u64; 256],
+    counts: &mut [u64; 256],
+    output: &mut [u8],
+    s: State,
+) -> State {
     let len = least(s.len, input.len());
     match read_more(input, len) {
         More::Bytes(n) => {
             let have = least(n, input.len());
-            advance(input, have, values, output, s)
+            advance(input, have, job, values, counts, output, s)
         }
         More::End => {
-            let number = if len == 0 { 0 } else { 12 };
-            finish(output, s.out, number, s.last);
+            ended(&input[..len], job, values, counts, output, s);
             stopped()
         }
         More::Failed => {
@@ -194,12 +269,27 @@ fn turn(input: &mut [u8], values: &mut [u64; 256], output: &mut [u8], s: State) 
     }
 }
 
+// What is printed before the first record.
+fn begin(output: &mut [u8], job: Job) -> usize {
+    if job.table {
+        return 0;
+    }
+    report::heading_line(output, 0)
+}
+
 // A proved loop has to end, and nothing says that standard input does: it counts down from a number that no run uses up.
-fn run(input: &mut [u8], values: &mut [u64; 256], output: &mut [u8]) {
+fn run(
+    input: &mut [u8],
+    job: Job,
+    values: &mut [u64; 256],
+    counts: &mut [u64; 256],
+    output: &mut [u8],
+) {
     let mut s = State {
+        start: 0,
         len: 0,
         last: 0,
-        out: report::heading_line(output, 0),
+        out: begin(output, job),
         going: true,
     };
     let mut turns = u64::MAX;
@@ -207,19 +297,76 @@ fn run(input: &mut [u8], values: &mut [u64; 256], output: &mut [u8]) {
         if !s.going {
             return;
         }
-        s = turn(input, values, output, s);
+        if s.last as u64 == job.until {
+            table::print_at(output, s.last, values, counts);
+            return;
+        }
+        s = turn(input, job, values, counts, output, s);
         turns -= 1;
     }
 }
 
 // The buffer comes as an array: its length is then known by its type, and nothing has to be computed of its bytes.
-fn start(input: &mut [u8; 1310720]) {
+fn start(input: &mut [u8; 1310720], job: Job) {
     let mut values = [0u64; 256];
+    let mut counts = [0u64; 256];
     let mut output = io::large_buffer();
-    run(input, &mut values, &mut output);
+    run(input, job, &mut values, &mut counts, &mut output);
+}
+
+fn do_job(job: Job) {
+    let mut input = [0u8; 1310720];
+    start(&mut input, job);
+}
+
+fn say(line: &[u8]) {
+    if !io::write_all(STDOUT_FILENO, line) {
+        os::fail(b"standard output");
+    }
+}
+
+fn help() {
+    say(b"usage: playback [--totals | --at N | --help] <ARCHIVE\n");
+    say(b"Plays back the archive on standard input and prints a line a commit.\n");
+    say(b"  --totals  instead each counter's value at the end, and how often it was written\n");
+    say(b"  --at N    the same as it stood after commit N, from 0 to 4294967295\n");
+    say(b"  --help    this text\n");
+    say(
+        b"The last line is `end N`, `at N` or `refused N after K`; what is wrong goes to standard error.\n",
+    );
+}
+
+fn misunderstood() {
+    let line =
+        b"playback: the arguments are not understood; playback --help says which there are\n";
+    complain(line, line.len());
+}
+
+// How many words stand behind the program's name.
+fn words_behind(count: usize) -> usize {
+    if count == 0 { 0 } else { count - 1 }
 }
 
 fn main() {
-    let mut input = [0u8; 1310720];
-    start(&mut input);
+    let mut first = io::buffer();
+    let mut second = io::buffer();
+    let n = os::arg(1, &mut first);
+    let m = os::arg(2, &mut second);
+    let count = words_behind(os::arg_count());
+    match arguments::asked_for(count, &first[..n], &second[..m]) {
+        Mode::Lines => do_job(Job {
+            table: false,
+            until: NEVER,
+        }),
+        Mode::Totals => do_job(Job {
+            table: true,
+            until: NEVER,
+        }),
+        Mode::At(commit) => do_job(Job {
+            table: true,
+            until: commit as u64,
+        }),
+        Mode::Help => help(),
+        Mode::Unknown => misunderstood(),
+    }
 }

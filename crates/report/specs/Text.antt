@@ -1,26 +1,12 @@
 -- Document 01, "Playback reads an archive on standard input": the text that it prints, as bytes, each line ended by byte 10.
-use Prim.Native.Nat.{ℕ, zero, suc, _+_, _/_, _%_}
-use Prim.Native.Char.{code}
-use Prim.Native.String.{String, [] as empty, _∷_ as _then_}
+use Prim.Native.Nat.{ℕ, zero, suc}
 use mathlib.Core.List.{List, [], _∷_, _++_}
-use mathlib.Core.Bool.{Bool, cond}
 use lib.ListN.{length, replicate}
-use lib.Dec.{ltb, leb}
-use lib.Seq.{sets}
+use Rattle.text.specs.Text.{ascii, decimalTo, Put, lineWithin}
 use Rattle.archive.specs.declared.Fields.{Fields}
 use Rattle.archive.specs.declared.Answer.{Answer}
 use Rattle.archive.specs.declared.Answer.the-variants.{Record, End, Refused}
 use Rattle.replay.specs.Replay.{replayOf}
-
--- the bytes of a text
-abbrev pub ascii : String → List ℕ
-ascii empty = []
-ascii (c then s) = code c ∷ ascii s
-
--- a number in decimal, the highest digit first and no zero in front of it, in at most k digits
-unfoldable pub decimalTo : ℕ → ℕ → List ℕ
-decimalTo zero n = []
-decimalTo (suc k) n = cond (ltb n 10) ((48 + n) ∷ []) (decimalTo k (n / 10) ++ ((48 + n % 10) ∷ []))
 
 -- ten digits are enough for 32 bits
 unfoldable pub decimal : ℕ → List ℕ
@@ -62,26 +48,10 @@ linesFrom (suc turns) s at last v = linesFor (linesFrom turns s) last (replayOf 
 unfoldable pub printed : List ℕ → List ℕ
 printed s = heading ++ linesFrom (suc (length s)) s 0 0 (replicate 256 0)
 
--- an output, and the position behind what was put there
-pub record Put : Type 0 where
-  pub out : List ℕ
-  pub at : ℕ
-
-abbrev pub put : List ℕ → ℕ → Put
-put out at = record { out = out; at = at }
-
--- x put at a position
-unfoldable pub putOf : List ℕ → ℕ → List ℕ → Put
-putOf out at x = put (sets out at x) (at + length x)
-
--- no line is longer (`heading-fits`, `line-fits`, `end-fits` and `refused-fits` in Decimal)
+-- no line is longer (`heading-fits`, `line-fits`, `end-fits` and `refused-fits` in Fits)
 abbrev pub longest : ℕ
 longest = 64
 
--- room for it from `at` on, in an output of this length
-unfoldable pub hasRoom : ℕ → ℕ → Bool
-hasRoom len at = leb (at + longest) len
-
 -- a line put at a position, where the longest line has room there; else nothing changes
-unfoldable pub lineAt : List ℕ → ℕ → List ℕ → Put
-lineAt out at line = cond (hasRoom (length out) at) (putOf out at line) (put out at)
+abbrev pub lineAt : List ℕ → ℕ → List ℕ → Put
+lineAt out at line = lineWithin longest out at line

@@ -1,6 +1,6 @@
 -- `playback::advance` meets its contract.
-use mathlib.Core.Path.{sym}
 use native.Mathlib.Omega.{arith}
+use mathlib.Core.Path.{sym}
 use lib.Seq.{length-take-le}
 use borrow.Author.Needs.{needs}
 use Rattle.playback.proofs.advance.Statement.{statement}
@@ -15,6 +15,9 @@ slice-aggregate-play c = sym (length-take-le (c .before .before .before .args .l
 play-requires : tie.Need-play-requires
 play-requires c κs = search needs
 
+further-requires : tie.Need-further-requires
+further-requires c κs = search needs
+
 move-down-requires : tie.Need-move-down-requires
 move-down-requires c κs = search needs
 
@@ -27,8 +30,26 @@ same-length-2 c = search needs
 returns : tie.Need-returns
 returns c = search needs
 
-finish-requires : tie.Need-finish-requires
-finish-requires c κs = search needs
+close-requires : tie.Need-close-requires
+close-requires c κs = search needs
+
+least-requires : tie.Need-least-requires
+least-requires c κs = search needs
+
+sub-say-fault : tie.Need-sub-say-fault
+sub-say-fault c = search needs
+
+part-say-fault-start : tie.Need-part-say-fault-start
+part-say-fault-start c = search needs
+
+part-say-fault-end : tie.Need-part-say-fault-end
+part-say-fault-end c = search needs
+
+further-requires-2 : tie.Need-further-requires-2
+further-requires-2 c κs = search needs
+
+say-fault-requires : tie.Need-say-fault-requires
+say-fault-requires c κs = search needs
 
 stopped-requires : tie.Need-stopped-requires
 stopped-requires c κs = search needs
@@ -49,11 +70,18 @@ advance-spec =
     slice-reshare-prefix-play
     slice-aggregate-play
     play-requires
+    further-requires
     move-down-requires
     same-length
     same-length-2
     returns
-    finish-requires
+    close-requires
+    least-requires
+    sub-say-fault
+    part-say-fault-start
+    part-say-fault-end
+    further-requires-2
+    say-fault-requires
     stopped-requires
     same-length-3
     same-length-4

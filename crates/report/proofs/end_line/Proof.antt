@@ -1,6 +1,6 @@
 -- `report::end_line` meets its contract.
 use Rattle.report.specs.Text.{endLine}
-use Rattle.report.specs.Stores.{put-join, has-room, line-put, line-refused}
+use Rattle.text.specs.Stores.{put-join, has-room, line-put, line-refused}
 use native.Mathlib.Omega.{arith}
 use borrow.Author.Needs.{needs}
 use Rattle.report.proofs.end_line.Statement.{statement}
@@ -10,23 +10,23 @@ room-requires : tie.Need-room-requires
 room-requires c κs = search needs
 
 returns : tie.Need-returns
-returns c = line-refused _ _ _ (c .before .room .ensures) (c .if1 .taken)
+returns c = line-refused _ _ _ _ (c .before .room .ensures) (c .if1 .taken)
 
 slice-aggregate-put-text : tie.Need-slice-aggregate-put-text
 slice-aggregate-put-text c = search needs
 
 put-text-requires : tie.Need-put-text-requires
-put-text-requires c κs = omega (arith, has-room _ _ (c .before .before .before .room .ensures) (c .before .before .if1 .left))
+put-text-requires c κs = omega (arith, has-room _ _ _ (c .before .before .before .room .ensures) (c .before .before .if1 .left))
 
 put-field-requires : tie.Need-put-field-requires
-put-field-requires c κs = omega (arith, has-room _ _ (c .before .before .before .before .before .before .before .room .ensures) (c .before .before .before .before .before .before .if1 .left))
+put-field-requires c κs = omega (arith, has-room _ _ _ (c .before .before .before .before .before .before .before .room .ensures) (c .before .before .before .before .before .before .if1 .left))
 
 same-length : tie.Need-same-length
 same-length c = search needs
 
 returns-2 : tie.Need-returns-2
 unfolding endLine
-returns-2 c = line-put _ _ _ (c .before .before .before .before .before .before .before .before .before .before .room .ensures) (c .before .before .before .before .before .before .before .before .before .if1 .left) (put-join _ _ _ _ (c .before .before .before .before .before .before .put-text .ensures .0) (c .before .before .put-field .ensures .0))
+returns-2 c = line-put _ _ _ _ (c .before .before .before .before .before .before .before .before .before .before .room .ensures) (c .before .before .before .before .before .before .before .before .before .if1 .left) (put-join _ _ _ _ (c .before .before .before .before .before .before .put-text .ensures .0) (c .before .before .put-field .ensures .0))
 
 pub end-line-spec : {M : Type 1} → statement M
 end-line-spec =

@@ -1,6 +1,6 @@
 -- `report::refused_line` meets its contract.
 use Rattle.report.specs.Text.{refusedLine}
-use Rattle.report.specs.Stores.{put-join, has-room, line-put, line-refused}
+use Rattle.text.specs.Stores.{put-join, has-room, line-put, line-refused}
 use native.Mathlib.Omega.{arith}
 use borrow.Author.Needs.{needs}
 use Rattle.report.proofs.refused_line.Statement.{statement}
@@ -10,32 +10,32 @@ room-requires : tie.Need-room-requires
 room-requires c κs = search needs
 
 returns : tie.Need-returns
-returns c = line-refused _ _ _ (c .before .room .ensures) (c .if1 .taken)
+returns c = line-refused _ _ _ _ (c .before .room .ensures) (c .if1 .taken)
 
 slice-aggregate-put-text : tie.Need-slice-aggregate-put-text
 slice-aggregate-put-text c = search needs
 
 put-text-requires : tie.Need-put-text-requires
-put-text-requires c κs = omega (arith, has-room _ _ (c .before .before .before .room .ensures) (c .before .before .if1 .left))
+put-text-requires c κs = omega (arith, has-room _ _ _ (c .before .before .before .room .ensures) (c .before .before .if1 .left))
 
 put-field-requires : tie.Need-put-field-requires
-put-field-requires c κs = omega (arith, has-room _ _ (c .before .before .before .before .before .before .before .room .ensures) (c .before .before .before .before .before .before .if1 .left))
+put-field-requires c κs = omega (arith, has-room _ _ _ (c .before .before .before .before .before .before .before .room .ensures) (c .before .before .before .before .before .before .if1 .left))
 
 slice-aggregate-put-text-2 : tie.Need-slice-aggregate-put-text-2
 slice-aggregate-put-text-2 c = search needs
 
 put-text-requires-2 : tie.Need-put-text-requires-2
-put-text-requires-2 c κs = omega (arith, has-room _ _ (c .before .before .before .before .before .before .before .before .before .before .before .before .room .ensures) (c .before .before .before .before .before .before .before .before .before .before .before .if1 .left))
+put-text-requires-2 c κs = omega (arith, has-room _ _ _ (c .before .before .before .before .before .before .before .before .before .before .before .before .room .ensures) (c .before .before .before .before .before .before .before .before .before .before .before .if1 .left))
 
 put-field-requires-2 : tie.Need-put-field-requires-2
-put-field-requires-2 c κs = omega (arith, has-room _ _ (c .before .before .before .before .before .before .before .before .before .before .before .before .before .before .before .before .room .ensures) (c .before .before .before .before .before .before .before .before .before .before .before .before .before .before .before .if1 .left))
+put-field-requires-2 c κs = omega (arith, has-room _ _ _ (c .before .before .before .before .before .before .before .before .before .before .before .before .before .before .before .before .room .ensures) (c .before .before .before .before .before .before .before .before .before .before .before .before .before .before .before .if1 .left))
 
 same-length : tie.Need-same-length
 same-length c = search needs
 
 returns-2 : tie.Need-returns-2
 unfolding refusedLine
-returns-2 c = line-put _ _ _ (c .before .before .before .before .before .before .before .before .before .before .before .before .before .before .before .before .before .before .before .room .ensures) (c .before .before .before .before .before .before .before .before .before .before .before .before .before .before .before .before .before .before .if1 .left) (put-join _ _ _ _ (c .before .before .before .before .before .before .before .before .before .before .before .before .before .before .before .put-text .ensures .0) (put-join _ _ _ _ (c .before .before .before .before .before .before .before .before .before .before .before .put-field .ensures .0) (put-join _ _ _ _ (c .before .before .before .before .before .before .put-text2 .ensures .0) (c .before .before .put-field2 .ensures .0))))
+returns-2 c = line-put _ _ _ _ (c .before .before .before .before .before .before .before .before .before .before .before .before .before .before .before .before .before .before .before .room .ensures) (c .before .before .before .before .before .before .before .before .before .before .before .before .before .before .before .before .before .before .if1 .left) (put-join _ _ _ _ (c .before .before .before .before .before .before .before .before .before .before .before .before .before .before .before .put-text .ensures .0) (put-join _ _ _ _ (c .before .before .before .before .before .before .before .before .before .before .before .put-field .ensures .0) (put-join _ _ _ _ (c .before .before .before .before .before .before .put-text2 .ensures .0) (c .before .before .put-field2 .ensures .0))))
 
 pub refused-line-spec : {M : Type 1} → statement M
 refused-line-spec =

@@ -1,0 +1,97 @@
+// The table of counters that playback prints: how often each counter was written, and the lines, put into a lent output.
+ghost use mathlib.Core.Path.{_≡_};
+ghost use Prim.Native.Nat.{_+_, _<_};
+ghost use lib.ListN.{length, getD, set};
+ghost use Rattle.text.specs.Text.{put, lineWithin};
+ghost use Rattle.report.specs.Text.{lineAt};
+ghost use Rattle.replay.specs.Replay.{addressAt};
+ghost use Rattle.totals.specs.Totals.{oneMore, countedTo, counted};
+ghost use Rattle.totals.specs.Table.{heading, counterLine, atLine, missingLine, longestMessage};
+
+// One more, where that fits.
+fn one_more(n: u64) -> u64
+    ensures { λ r. ⌜ r ≡ oneMore n ⌝ }
+{
+    if n < 18446744073709551615 {
+        return n + 1;
+    }
+    n
+}
+
+// Counts a write of entry i of the record at the start of `t`.
+fn count_entry(t: &[u8], counts: &mut [u64; 256], i: usize)
+    requires { ⌜ 16 + i < length (now t) ⌝ }
+    ensures { λ _. ⌜ now (counts .exit) ≡ set (now (counts .entry)) (addressAt (now (t .entry)) i) (oneMore (getD (now (counts .entry)) (addressAt (now (t .entry)) i) 0)) ⌝ }
+{
+    let a = le::index(le::wide(t[16 + i]));
+    let n = counts[a];
+    counts[a] = one_more(n);
+}
+
+// Counts the writes of the record at the start of `part`. Bytes that end inside it change nothing.
+pub fn count(part: &[u8], counts: &mut [u64; 256])
+    ensures { λ _. ⌜ now (counts .exit) ≡ counted (now (part .entry)) (now (counts .entry)) ⌝ }
+{
+    if part.len() < record::claimed_length(part) {
+        return;
+    }
+    let n = le::index(le::get_u16(part, 0));
+    let m = le::index(le::get_u16(part, 2));
+    let mut c = 0;
+    while c < m {
+        count_entry(part, counts, n + c);
+        c += 1;
+    }
+}
+
+// Each function below puts a line at `at` and answers the position behind it. Where fewer than 64 bytes are free from `at` on it
+// changes nothing and answers `at`.
+
+pub fn heading_line(out: &mut [u8], at: usize) -> usize
+    ensures { λ r. ⌜ put (now (out .exit)) r ≡ lineAt (now (out .entry)) at heading ⌝ }
+{
+    if !text::room(report::LINE, out.len(), at) {
+        return at;
+    }
+    text::put_text(out, at, b"counter page object value writes\n")
+}
+
+pub fn counter_line(out: &mut [u8], at: usize, address: u8, value: u64, writes: u64) -> usize
+    ensures { λ r. ⌜ put (now (out .exit)) r ≡ lineAt (now (out .entry)) at (counterLine address value writes) ⌝ }
+{
+    if !text::room(report::LINE, out.len(), at) {
+        return at;
+    }
+    let a = le::long(le::wide(address));
+    let at = text::put_field(out, at, a, b' ');
+    let at = text::put_field(out, at, a / 8, b' ');
+    let at = text::put_field(out, at, a % 8, b' ');
+    let at = text::put_field(out, at, value, b' ');
+    text::put_field(out, at, writes, b'\n')
+}
+
+pub fn at_line(out: &mut [u8], at: usize, commit: u32) -> usize
+    ensures { λ r. ⌜ put (now (out .exit)) r ≡ lineAt (now (out .entry)) at (atLine commit) ⌝ }
+{
+    if !text::room(report::LINE, out.len(), at) {
+        return at;
+    }
+    let at = text::put_text(out, at, b"at ");
+    text::put_field(out, at, le::long(commit), b'\n')
+}
+
+// No message is longer.
+pub const MESSAGE: usize = 128;
+
+// Puts the message that the archive ends before a commit, where 128 bytes are free.
+pub fn missing_line(out: &mut [u8], at: usize, commit: u32, last: u32) -> usize
+    ensures { λ r. ⌜ put (now (out .exit)) r ≡ lineWithin longestMessage (now (out .entry)) at (missingLine commit last) ⌝ }
+{
+    if !text::room(MESSAGE, out.len(), at) {
+        return at;
+    }
+    let at = text::put_text(out, at, b"playback: there is no commit ");
+    let at = text::put_field(out, at, le::long(commit), b':');
+    let at = text::put_text(out, at, b" the archive ends behind commit ");
+    text::put_field(out, at, le::long(last), b'\n')
+}

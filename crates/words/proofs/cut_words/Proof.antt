@@ -1,0 +1,29 @@
+-- `words::cut_words` meets its contract.
+use Rattle.text.specs.Stores.{put-join}
+use native.Mathlib.Omega.{arith}
+use Rattle.words.specs.Words.{wordsOf}
+use Rattle.words.specs.Fits.{number-short, said-at}
+use borrow.Author.Needs.{needs}
+use Rattle.words.proofs.cut_words.Statement.{statement}
+use Rattle.words.proofs.cut_words.Tie as tie
+
+slice-aggregate-say-long : tie.Need-slice-aggregate-say-long
+slice-aggregate-say-long c = search needs
+
+say-long-requires : tie.Need-say-long-requires
+say-long-requires c κs = search needs
+
+put-number-requires : tie.Need-put-number-requires
+put-number-requires c κs = omega (arith, said-at _ _ _ _ _ (c .before .before .before .say-long .ensures), number-short (c .before .before .before .before .before .before .before .before .before .args .whole))
+
+same-length : tie.Need-same-length
+same-length c = search needs
+
+returns : tie.Need-returns
+unfolding wordsOf
+returns c = put-join _ _ _ _ (c .before .before .before .before .before .before .say-long .ensures) (c .before .before .put-number .ensures .0)
+
+pub cut-words-spec : {M : Type 1} → statement M
+cut-words-spec =
+    tie.close
+    (tie.spec slice-aggregate-say-long say-long-requires put-number-requires same-length returns)
