@@ -3,4 +3,3 @@ pub mod Totals
 pub mod Tally
 pub mod Table
 pub mod Writers
-pub mod Whole

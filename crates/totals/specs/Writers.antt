@@ -1,30 +1,19 @@
--- What the counts are after an archive: for each address, how many of the records accepted write it.
-use Prim.Native.Nat.{ℕ, zero, suc, _+_, _-_, _^_, _≤_, _<_}
-use mathlib.Core.Path.{_≡_, refl, sym, ap, subst, _∙_}
-use mathlib.Core.List.{List, [], _∷_}
+-- What a record adds to the counts: one at each address that it writes.
+use Prim.Native.Nat.{ℕ, zero, suc, _+_, _-_, _≤_, _<_}
+use mathlib.Core.Path.{_≡_, refl, sym, _∙_}
+use mathlib.Core.List.{List}
 use mathlib.Core.Bool.{Bool, true, false, cond}
 use mathlib.Core.Logic.{⊎-elim}
 use native.Mathlib.Nat.{eq-or-lt-of-le, le-of-suc-le-suc}
 use native.Mathlib.Omega.{arith}
-use lib.ListN.{length, drop, getD, set, replicate, length-set, length-replicate, getD-replicate}
+use lib.ListN.{length, getD, length-set}
 use lib.Seq.{getD-set-same, getD-set-other}
-use lib.Dec.{eqb, ltb}
+use lib.Dec.{eqb}
 use borrow.Author.Tests.{lt-ltb, le-ltb, ltb-true, ne-eqb, eqb-true, eqb-false}
-use Rattle.lists.specs.Tests.{allTo, allTo-at, and-r}
-use Rattle.lists.specs.Bytes.{Bytes, bytes-drop}
-use Rattle.le.specs.Le.{u32At}
-use Rattle.le.specs.Width.{numAt, numAt-lt}
-use Rattle.le.specs.Laws.{u32At-is}
-use Rattle.record.specs.Check.{readCount, writeCount, commitNumber, lengthOf, claimedLength, riseAt, rises, headAt, addressesRise, checkOf}
+use Rattle.lists.specs.Tests.{allTo-at, and-r}
+use Rattle.record.specs.Check.{readCount, writeCount, lengthOf, claimedLength, riseAt, rises, headAt, addressesRise, checkOf}
 use Rattle.record.specs.Facts.{accepted}
-use Rattle.archive.specs.declared.Fields.{Fields}
-use Rattle.archive.specs.declared.Answer.{Answer}
-use Rattle.archive.specs.declared.Answer.the-variants.{Record, End, Refused}
-use Rattle.archive.specs.Read.{fieldsOf}
-use Rattle.archive.specs.Facts.{recorded}
-use Rattle.replay.specs.Replay.{addressAt, replayOf}
-use Rattle.replay.specs.Fuel.{replay-read}
-use Rattle.report.specs.Closing.{recordsFor, recordsFrom}
+use Rattle.replay.specs.Replay.{addressAt}
 use Rattle.totals.specs.Totals.{most, oneMore, countedTo, counted}
 
 -- entry n + i of the record at the start of t is address a
@@ -39,16 +28,6 @@ anyTo t n a (suc c) = cond (isAt t n a c) true (anyTo t n a c)
 -- the record at the start of t writes address a
 abbrev pub writes : List ℕ → ℕ → Bool
 writes t a = anyTo t (readCount t) a (writeCount t)
-
--- how many of these records of the archive s write address a
-abbrev pub writers : List ℕ → ℕ → List Fields → ℕ
-writers s a [] = 0
-writers s a (f ∷ fs) = cond (writes (drop (f .at) s) a) 1 0 + writers s a fs
-
--- the counts after these records of the archive s, one behind the other
-abbrev pub countsOf : List ℕ → List ℕ → List Fields → List ℕ
-countsOf s counts [] = counts
-countsOf s counts (f ∷ fs) = countsOf s (counted (drop (f .at) s) counts) fs
 
 length-countedTo : (t counts : List ℕ) (n c : ℕ) → length (countedTo t counts n c) ≡ length counts
 unfolding countedTo
@@ -117,92 +96,5 @@ module _ (t counts : List ℕ) (checks : checkOf t ≡ 0) where
   one-record a inside few =
       rw counted-is (all-entries t counts (readCount t) (writeCount t) a writes-rise inside few (writeCount t) (omega arith))
 
-  length-counted : length (counted t counts) ≡ length counts
+  pub length-counted : length (counted t counts) ≡ length counts
   length-counted = rw counted-is (length-countedTo t counts (readCount t) (writeCount t))
-
--- each of these records of the archive s is one
-abbrev AllChecked : List ℕ → List Fields → Type 0
-AllChecked s [] = Unit {0}
-AllChecked s (f ∷ fs) = (checkOf (drop (f .at) s) ≡ 0) × AllChecked s fs
-
-counts-are : (s counts : List ℕ) (fs : List Fields) (a : ℕ) → AllChecked s fs → a < length counts → getD counts a 0 + writers s a fs < most
-    → getD (countsOf s counts fs) a 0 ≡ getD counts a 0 + writers s a fs
-counts-are s counts [] a h inside few = omega arith
-counts-are s counts (f ∷ fs) a h inside few =
-    let t = drop (f .at) s in
-    let one = one-record t counts (h .0) a inside (omega arith) in
-    let still : a < length (counted t counts) = rw (length-counted t counts (h .0)) inside in
-    counts-are s (counted t counts) fs a (h .1) still (omega arith) ∙ omega arith
-
-writers-few : (s : List ℕ) (a : ℕ) (fs : List Fields) → writers s a fs ≤ length fs
-writers-few s a [] = omega arith
-writers-few s a (f ∷ fs) = by-test (writes (drop (f .at) s) a) (writers-few s a fs)
-  where
-    by-test : (b : Bool) → writers s a fs ≤ length fs → cond b 1 0 + writers s a fs ≤ suc (length fs)
-    by-test true h = omega arith
-    by-test false h = omega arith
-
--- what is read at a position: where its record starts, that it is one, and its number
-module _ (s : List ℕ) (at last : ℕ) (v : List ℕ) (f : Fields) (e : replayOf s at last v .answer ≡ Record f) where
-  pub starts-at : at ≡ f .at
-  unfolding fieldsOf
-  starts-at = ap (λ (g : Fields). g .at) (recorded s at last f (replay-read s at last v f e) .fields)
-
-  checked-at : checkOf (drop (f .at) s) ≡ 0
-  checked-at =
-      subst (λ (p : ℕ). checkOf (drop p s) ≡ 0) starts-at (recorded s at last f (replay-read s at last v f e) .checks)
-
-  commit-is : f .commit ≡ last + 1
-  unfolding fieldsOf
-  commit-is =
-      let r = recorded s at last f (replay-read s at last v f e) in
-      sym (ap (λ (g : Fields). g .commit) (r .fields)) ∙ r .follows
-
-  pub commit-fits : Bytes s → f .commit < 2 ^ 32
-  unfolding fieldsOf
-  commit-fits b =
-      let r = recorded s at last f (replay-read s at last v f e) in
-      let fits = numAt-lt 4 (drop at s) 4 (bytes-drop at s b) in
-      let is : f .commit ≡ numAt 4 (drop at s) 4 = sym (ap (λ (g : Fields). g .commit) (r .fields)) ∙ u32At-is (drop at s) 4 in
-      omega arith
-
-all-checked : (turns : ℕ) (s : List ℕ) (at last : ℕ) (v : List ℕ) → AllChecked s (recordsFrom turns s at last v)
-unfolding recordsFrom
-all-checked zero s at last v = tt
-all-checked (suc turns) s at last v = on-answer (λ p l w. all-checked turns s p l w) (replayOf s at last v .answer) refl
-  where
-    on-answer : ((p l : ℕ) (w : List ℕ) → AllChecked s (recordsFrom turns s p l w)) → (a : Answer) → replayOf s at last v .answer ≡ a
-        → AllChecked s (recordsFor (recordsFrom turns s) (replayOf s at last v .values) a)
-    on-answer rest (Record f) e = (checked-at s at last v f e, rest (f .end) (f .commit) (replayOf s at last v .values))
-    on-answer rest End e = tt
-    on-answer rest (Refused k) e = tt
-
--- commits are numbered one by one, in 32 bits
-few-records : (turns : ℕ) (s : List ℕ) (at last : ℕ) (v : List ℕ) → Bytes s → last < 2 ^ 32 → length (recordsFrom turns s at last v) + last < 2 ^ 32
-unfolding recordsFrom
-few-records zero s at last v b h = omega arith
-few-records (suc turns) s at last v b h = on-answer (λ p l w hl. few-records turns s p l w b hl) (replayOf s at last v .answer) refl
-  where
-    on-answer : ((p l : ℕ) (w : List ℕ) → l < 2 ^ 32 → length (recordsFrom turns s p l w) + l < 2 ^ 32) → (a : Answer) → replayOf s at last v .answer ≡ a
-        → length (recordsFor (recordsFrom turns s) (replayOf s at last v .values) a) + last < 2 ^ 32
-    on-answer rest (Record f) e =
-        let fits = commit-fits s at last v f e b in
-        let is = commit-is s at last v f e in
-        let more = rest (f .end) (f .commit) (replayOf s at last v .values) fits in
-        omega arith
-    on-answer rest End e = omega arith
-    on-answer rest (Refused k) e = omega arith
-
--- the records that playback accepts of an archive
-abbrev pub acceptedOf : List ℕ → List Fields
-acceptedOf s = recordsFrom (suc (length s)) s 0 0 (replicate 256 0)
-
--- counted from 0 over a whole archive, each counter has the number of records that write it
-pub totals-are : (s : List ℕ) (a : ℕ) → Bytes s → a < 256 → getD (countsOf s (replicate 256 0) (acceptedOf s)) a 0 ≡ writers s a (acceptedOf s)
-totals-are s a b h =
-    let zeros : List ℕ = replicate 256 0 in
-    let turns = suc (length s) in
-    let none-yet : getD zeros a 0 ≡ 0 = getD-replicate 256 a 0 0 h in
-    let few = few-records turns s 0 0 zeros b (omega arith) in
-    let inside : a < length zeros = rw length-replicate h in
-    counts-are s zeros (acceptedOf s) a (all-checked turns s 0 0 zeros) inside (omega (arith, writers-few s a (acceptedOf s))) ∙ omega arith
