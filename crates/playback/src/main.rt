@@ -319,19 +319,38 @@ fn do_job(job: Job) {
     start(&mut input, job);
 }
 
-fn say(line: &[u8]) {
-    if !io::write_all(STDOUT_FILENO, line) {
-        os::fail(b"standard output");
+// Prints a part of the help unless an earlier one could not be printed, and answers whether the next may be.
+fn say(going: bool, text: &[u8]) -> bool {
+    if !going {
+        return false;
     }
+    if io::write_all(STDOUT_FILENO, text) {
+        return true;
+    }
+    os::fail(b"standard output");
+    false
 }
 
 fn help() {
-    say(b"usage: playback [--totals | --at N | --help] <ARCHIVE\n");
-    say(b"Plays back the archive on standard input and prints a line a commit.\n");
-    say(b"  --totals  instead each counter's value at the end, and how often it was written\n");
-    say(b"  --at N    the same as it stood after commit N, from 0 to 4294967295\n");
-    say(b"  --help    this text\n");
+    let on = say(
+        true,
+        b"usage: playback [--totals | --at N | --help] <ARCHIVE\n",
+    );
+    let on = say(
+        on,
+        b"Plays back the archive on standard input and prints a line a commit.\n",
+    );
+    let on = say(
+        on,
+        b"  --totals  instead each counter's value at the end, and how often it was written\n",
+    );
+    let on = say(
+        on,
+        b"  --at N    the same as it stood after commit N, from 0 to 4294967295\n",
+    );
+    let on = say(on, b"  --help    this text\n");
     say(
+        on,
         b"The last line is `end N`, `at N` or `refused N after K`; what is wrong goes to standard error.\n",
     );
 }
