@@ -2,20 +2,14 @@
 //
 // Memory is constant. The input buffer holds the longest record that two size fields can claim, 16 + 9 * (65,535 + 65,535)
 // bytes, so that a record is called short only where the archive itself ends inside it.
-mod output;
-mod table;
-
 ghost use mathlib.Core.Path.{_≡_};
 ghost use Prim.Native.Nat.{_≤_};
 ghost use lib.ListN.{length};
-use crate::output::complain;
-use crate::output::flush;
-use crate::output::least;
-use crate::output::make_room;
 ghost use Rattle.totals.specs.Tally.{noted, tallied, tallyOf};
 use archive::Answer;
 use archive::Fields;
 use arguments::Mode;
+use libc::STDERR_FILENO;
 use libc::STDIN_FILENO;
 use libc::STDOUT_FILENO;
 
@@ -65,6 +59,36 @@ enum More {
     Bytes(usize),
     End,
     Failed,
+}
+
+fn least(a: usize, b: usize) -> usize
+    ensures { λ r. ⌜ (r ≤ a) × (r ≤ b) ⌝ }
+{
+    if a < b { a } else { b }
+}
+
+// Writes the lines so far.
+fn flush(output: &[u8], out: usize) {
+    let taken = least(out, output.len());
+    if !io::write_all(STDOUT_FILENO, &output[..taken]) {
+        os::fail(b"standard output");
+    }
+}
+
+// Writes the lines so far if there may be no room for one more, and answers where the next one goes.
+fn make_room(output: &[u8], out: usize) -> usize {
+    let taken = least(out, output.len());
+    if report::LINE <= output.len() - taken {
+        return taken;
+    }
+    flush(output, taken);
+    0
+}
+
+// Writes the first bytes of a message to standard error. Where that fails there is nobody to tell.
+fn complain(message: &[u8], length: usize) {
+    let taken = least(length, message.len());
+    io::write_all(STDERR_FILENO, &message[..taken]);
 }
 
 // Takes note of a record that was replayed, in the table's counts or as a line. `part` is the input from its start on.
@@ -151,6 +175,41 @@ fn read_more(input: &mut [u8], len: usize) -> More
     More::Bytes(len + n)
 }
 
+// Puts the heading and a line for each counter, and answers where the next line goes.
+fn put_table(output: &mut [u8], out: usize, values: &[u64; 256], counts: &[u64; 256]) -> usize {
+    let place = make_room(output, out);
+    let mut next = totals::heading_line(output, place);
+    let mut a: usize = 0;
+    while a < 256 {
+        let place = make_room(output, next);
+        next = totals::counter_line(output, place, a as u8, values[a], counts[a]);
+        a += 1;
+    }
+    next
+}
+
+// The whole text for `--at`: the table as it stands behind this commit.
+fn print_at(output: &mut [u8], commit: u32, values: &[u64; 256], counts: &[u64; 256]) {
+    let next = put_table(output, 0, values, counts);
+    let place = make_room(output, next);
+    let e = totals::at_line(output, place, commit);
+    flush(output, e);
+}
+
+// Says that the archive ends before a commit.
+fn say_missing(commit: u32, last: u32) {
+    let mut line = [0u8; 128];
+    let e = totals::missing_line(&mut line, 0, commit, last);
+    complain(&line, e);
+}
+
+// Says what is wrong with the record at the start of these bytes, which start at byte `start` of the archive.
+fn say_fault(part: &[u8], start: u64, last: u32, values: &[u64; 256]) {
+    let mut line = [0u8; 256];
+    let e = words::fault_line(&mut line, 0, start, fault::first_fault(part, last, values));
+    complain(&line, e);
+}
+
 // The last line, behind all others.
 fn finish(output: &mut [u8], out: usize, number: u32, last: u32) {
     let place = make_room(output, out);
@@ -166,7 +225,7 @@ fn finish(output: &mut [u8], out: usize, number: u32, last: u32) {
 // The text's end: the table where that is asked for at the end, then the last line.
 fn close(output: &mut [u8], job: Job, stop: Stop, values: &[u64; 256], counts: &[u64; 256]) {
     if job.table && job.until == NEVER {
-        let next = table::put_table(output, stop.out, values, counts);
+        let next = put_table(output, stop.out, values, counts);
         finish(output, next, stop.number, stop.last);
         return;
     }
@@ -207,7 +266,7 @@ fn advance(
     }
     close(output, job, stop, values, counts);
     let at = least(stop.at, len);
-    table::say_fault(
+    say_fault(
         &input[at..len],
         words::further(s.start, at),
         stop.last,
@@ -234,11 +293,11 @@ fn ended(
         counts,
     );
     if number != 0 {
-        table::say_fault(left, s.start, s.last, values);
+        say_fault(left, s.start, s.last, values);
         return;
     }
     if job.until < NEVER {
-        table::say_missing(job.until as u32, s.last);
+        say_missing(job.until as u32, s.last);
     }
 }
 
@@ -298,7 +357,7 @@ fn run(
             return;
         }
         if s.last as u64 == job.until {
-            table::print_at(output, s.last, values, counts);
+            print_at(output, s.last, values, counts);
             return;
         }
         s = turn(input, job, values, counts, output, s);

@@ -1,10 +1,10 @@
--- `playback::table::put_table` meets its contract.
+-- `playback::put_table` meets its contract.
 use borrow.Author.Needs.{needs}
 use mathlib.Core.Path.{_≡_}
 use Prim.Native.Nat.{_-_, _≤_}
 use lib.ListN.{length}
-use Rattle.playback.proofs.table.put_table.Statement.{statement}
-use Rattle.playback.proofs.table.put_table.Tie as tie
+use Rattle.playback.proofs.put_table.Statement.{statement}
+use Rattle.playback.proofs.put_table.Tie as tie
 
 abbrev Inv-loop : tie.InvT-loop
 Inv-loop output₀ out values counts place next₀ a₀ output next a = (a ≤ 256) × (length output ≡ length output₀)

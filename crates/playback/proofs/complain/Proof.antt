@@ -1,10 +1,10 @@
--- `playback::output::complain` meets its contract.
+-- `playback::complain` meets its contract.
 use native.Mathlib.Omega.{arith}
 use mathlib.Core.Path.{sym}
 use lib.Seq.{length-take-le}
 use borrow.Author.Needs.{needs}
-use Rattle.playback.proofs.output.complain.Statement.{statement}
-use Rattle.playback.proofs.output.complain.Tie as tie
+use Rattle.playback.proofs.complain.Statement.{statement}
+use Rattle.playback.proofs.complain.Tie as tie
 
 least-requires : tie.Need-least-requires
 least-requires c κs = search needs

@@ -1,10 +1,10 @@
--- `playback::output::flush` meets its contract.
+-- `playback::flush` meets its contract.
 use mathlib.Core.Path.{sym}
 use native.Mathlib.Omega.{arith}
 use lib.Seq.{length-take-le}
 use borrow.Author.Needs.{needs}
-use Rattle.playback.proofs.output.flush.Statement.{statement}
-use Rattle.playback.proofs.output.flush.Tie as tie
+use Rattle.playback.proofs.flush.Statement.{statement}
+use Rattle.playback.proofs.flush.Tie as tie
 
 least-requires : tie.Need-least-requires
 least-requires c κs = search needs
