@@ -48,29 +48,39 @@ differs-there s at last v f l one fails =
     differs (recordOf (drop at s)) (stands s at last f one) (one .number)
     (λ g. let passes : readsAgree (drop at s) v ≡ true = test .reads-pass g in let z : _≡_ {A = ℕ} 0 1 = cc in omega arith)
 
--- what a play on these values tells of the archive from `at` on, whatever its number
-record PlayedTo (s : List ℕ) (at last : ℕ) (v : List ℕ) (p : Played) : Type 0 where
-  records : List Record
-  rest : List ℕ
-  bytes : archiveOf records ++ rest ≡ drop at s
-  well-formed : AllWellFormed records
-  numbered : Numbered last records
-  last-is : p .last ≡ last + length records
-  replays : Replays records (valuesOf v)
-  values : valuesOf (p .values) ≡ left records (valuesOf v)
-  as-many : length (p .values) ≡ 256
-  -- number 0: nothing is left
-  whole : p .number ≡ 0 → rest ≡ []
-  -- any other: the rest is what that number refuses behind these records
-  why : 0 < p .number → PlayRefusal rest (p .last) (left records (valuesOf v)) (p .number)
+-- records of the archive from `at` on, played on these values behind this commit number, and what stands behind them: l and w are the
+-- last commit number and the values afterwards
+pub record Stretch (s : List ℕ) (at last : ℕ) (v : List ℕ) (l : ℕ) (w : List ℕ) : Type 0 where
+  pub records : List Record
+  pub rest : List ℕ
+  pub bytes : archiveOf records ++ rest ≡ drop at s
+  pub well-formed : AllWellFormed records
+  pub numbered : Numbered last records
+  pub replays : Replays records (valuesOf v)
+  pub last-is : l ≡ last + length records
+  pub values : valuesOf w ≡ left records (valuesOf v)
 
--- a record in front of a play
-play-step : (s : List ℕ) (at last : ℕ) (v : List ℕ) (f : Fields) (p : Played) → length v ≡ 256 → OneRead s at last f → readsAgree (drop at s) v ≡ true
-    → PlayedTo s (f .end) (suc last) (stored (drop at s) v) p → PlayedTo s at last v p
+unfoldable pub no-record-yet : (s : List ℕ) (at last : ℕ) (v : List ℕ) → Stretch s at last v last v
 unfolding archiveOf
-play-step s at last v f p l one agree more =
+no-record-yet s at last v =
+    record {
+      records = [];
+      rest = drop at s;
+      bytes = refl;
+      well-formed = tt;
+      numbered = tt;
+      replays = tt;
+      last-is = sym (add-zero last);
+      values = refl;
+    }
+
+-- a record in front
+unfoldable pub one-before : (s : List ℕ) (at last : ℕ) (v : List ℕ) (f : Fields) {l : ℕ} {w : List ℕ} → length v ≡ 256 → OneRead s at last f → readsAgree (drop at s) v ≡ true
+    → Stretch s (f .end) (suc last) (stored (drop at s) v) l w → Stretch s at last v l w
+unfolding archiveOf
+one-before s at last v f size one agree more =
     let t = drop at s in
-    let r = replaying t v l (one .well-formed .writes-fit) in
+    let r = replaying t v size (one .well-formed .writes-fit) in
     let after : valuesOf (stored t v) ≡ wrote (recordOf t .writes) (valuesOf v) = fun-ext (r .writes-are) in
     record {
       records = recordOf t ∷ more .records;
@@ -78,36 +88,37 @@ play-step s at last v f p l one agree more =
       bytes = rw (append-assoc, more .bytes) (one .bytes);
       well-formed = (one .well-formed, more .well-formed);
       numbered = (one .number, more .numbered);
-      last-is = omega (arith, more .last-is);
       replays = (r .reads-tell agree, rw after at (more .replays));
+      last-is = omega (arith, more .last-is);
       values = rw after at (more .values);
-      as-many = more .as-many;
-      whole = more .whole;
-      why = λ z. rw after at (more .why z);
     }
+
+-- what a play on these values tells of the archive from `at` on, whatever its number
+record PlayedTo (s : List ℕ) (at last : ℕ) (v : List ℕ) (p : Played) : Type 0 where
+  stretch : Stretch s at last v (p .last) (p .values)
+  as-many : length (p .values) ≡ 256
+  -- number 0: nothing is left
+  whole : p .number ≡ 0 → stretch .rest ≡ []
+  -- any other: the rest is what that number refuses behind these records
+  why : 0 < p .number → PlayRefusal (stretch .rest) (p .last) (valuesOf (p .values)) (p .number)
+
+-- a record in front of a play
+play-step : (s : List ℕ) (at last : ℕ) (v : List ℕ) (f : Fields) (p : Played) → length v ≡ 256 → OneRead s at last f → readsAgree (drop at s) v ≡ true
+    → PlayedTo s (f .end) (suc last) (stored (drop at s) v) p → PlayedTo s at last v p
+unfolding one-before
+play-step s at last v f p l one agree more =
+    record { stretch = one-before s at last v f l one agree (more .stretch); as-many = more .as-many; whole = more .whole; why = more .why }
 
 -- a play that goes no further
 play-stops : (s : List ℕ) (at last : ℕ) (v : List ℕ) (k : ℕ) → length v ≡ 256 → 0 < k → PlayRefusal (drop at s) last (valuesOf v) k
     → PlayedTo s at last v (played v last k)
-unfolding archiveOf
+unfolding no-record-yet
 play-stops s at last v k l h reason =
-    record {
-      records = [];
-      rest = drop at s;
-      bytes = refl;
-      well-formed = tt;
-      numbered = tt;
-      last-is = sym (add-zero last);
-      replays = tt;
-      values = refl;
-      as-many = l;
-      whole = λ z. absurd (omega arith);
-      why = λ z. reason;
-    }
+    record { stretch = no-record-yet s at last v; as-many = l; whole = λ z. absurd (omega arith); why = λ z. reason }
 
 play-to : (turns : ℕ) (s : List ℕ) (at last : ℕ) (v : List ℕ) → Bytes s → length v ≡ 256 → at ≤ length s → length s < at + turns
     → PlayedTo s at last v (playFrom turns s at last v)
-unfolding playFrom replayOf archiveOf
+unfolding playFrom replayOf no-record-yet
 play-to zero s at last v hs hv h ht = absurd (omega arith)
 play-to (suc turns) s at last v hs hv h ht = on-answer (λ p l w a b c. play-to turns s p l w hs a b c) (readOf s at last) refl
   where
@@ -132,16 +143,9 @@ play-to (suc turns) s at last v hs hv h ht = on-answer (λ p l w a b c. play-to 
     on-answer next Answer.End e =
         let there : at ≡ length s = rw e at (tells s at last hs h) in
         record {
-          records = [];
-          rest = [];
-          bytes = sym (drop-of-length-le s {i = at} (omega arith));
-          well-formed = tt;
-          numbered = tt;
-          last-is = sym (add-zero last);
-          replays = tt;
-          values = refl;
+          stretch = no-record-yet s at last v;
           as-many = hv;
-          whole = λ z. refl;
+          whole = λ z. drop-of-length-le s {i = at} (omega arith);
           why = λ z. absurd (omega arith);
         }
     on-answer next (Answer.Refused k) e =
@@ -167,17 +171,18 @@ pub played-archive : (s v : List ℕ) (last : ℕ) → Bytes s → length v ≡ 
     → Truth s (valuesOf v) last (archivePlayed s last v)
 unfolding archivePlayed
 played-archive s v last hs hv z =
-    let all = play-to (suc (length s)) s 0 last v hs hv (omega arith) (omega arith) in
+    let play = play-to (suc (length s)) s 0 last v hs hv (omega arith) (omega arith) in
+    let all = play .stretch in
     record {
       records = all .records;
-      bytes = sym (append-nil (archiveOf (all .records))) ∙ rw (all .whole z) at (all .bytes);
+      bytes = sym (append-nil (archiveOf (all .records))) ∙ rw (play .whole z) at (all .bytes);
       well-formed = all .well-formed;
       numbered = all .numbered;
       replays = all .replays;
       each-read-is = each-read (all .records) (valuesOf v) (all .replays);
       last-is = all .last-is;
       values = λ a. ap (λ (f : Values). f a) (all .values);
-      as-many = all .as-many;
+      as-many = play .as-many;
     }
 
 -- "refused N after K": what is true of an archive that is refused. Nothing of the refused record is kept: the last number and the
@@ -198,7 +203,8 @@ pub refused-archive : (s v : List ℕ) (last : ℕ) → Bytes s → length v ≡
     → TruthTo s (valuesOf v) last (archivePlayed s last v)
 unfolding archivePlayed
 refused-archive s v last hs hv z =
-    let all = play-to (suc (length s)) s 0 last v hs hv (omega arith) (omega arith) in
+    let play = play-to (suc (length s)) s 0 last v hs hv (omega arith) (omega arith) in
+    let all = play .stretch in
     record {
       records = all .records;
       rest = all .rest;
@@ -208,8 +214,8 @@ refused-archive s v last hs hv z =
       replays = all .replays;
       last-is = all .last-is;
       values = λ a. ap (λ (f : Values). f a) (all .values);
-      as-many = all .as-many;
-      why = all .why z;
+      as-many = play .as-many;
+      why = rw (all .values) at (play .why z);
     }
 
 -- a fresh playback

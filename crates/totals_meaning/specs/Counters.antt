@@ -1,9 +1,9 @@
 -- The table of counters (docs/PLAYBACK.md, `--totals` and `--at N`) means document 01's archive: the values are those that the first
 -- records leave, and the counts are how many of these records write each counter.
 use Prim.Native.Nat.{ℕ, zero, suc, _+_, _^_, _≤_, _<_}
-use mathlib.Core.Path.{_≡_, refl, sym, ap, _∙_, fun-ext}
+use mathlib.Core.Path.{_≡_, refl, sym, ap, _∙_}
 use mathlib.Core.Bool.{Bool, true, false, cond}
-use mathlib.Core.List.{List, [], _∷_, _++_, append-assoc}
+use mathlib.Core.List.{List, [], _++_}
 use native.Mathlib.Nat.{add-zero}
 use native.Mathlib.Omega.{arith}
 use lib.ListN.{length, drop, getD, drop-of-length-le}
@@ -21,43 +21,25 @@ use Rattle.archive.specs.Facts.{recorded}
 use Rattle.replay.specs.Replay.{readsAgree, stored, onAnswer, replayOf}
 use Rattle.replay.specs.Fuel.{onwards}
 use Rattle.archive_meaning.specs.Facts.{ReadRefusal, refused-number, OneRead, one-read, tells}
-use Rattle.archive_meaning.specs.Stored.{valuesOf, fresh-values, replaying}
-use Rattle.archive_meaning.specs.Replay.{fresh, onTest}
+use Rattle.archive_meaning.specs.Stored.{fresh-values, replaying}
+use Rattle.archive_meaning.specs.Replay.{fresh, onTest, Stretch, no-record-yet, one-before}
 use Rattle.totals.specs.Totals.{counted}
 use Rattle.totals.specs.Tally.{Tallied, tallied, noted, tallyFor, tallyFrom, tallyOf}
 use Rattle.totals.specs.Writers.{one-record, length-counted}
+use Rattle.totals_meaning.specs.Whole.{number-fits}
 use Rattle.totals_meaning.specs.Written.{writesTo, writersOf, written-is}
 
 -- a tally of the archive from `at` on, up to the commit `until`: the records that it played, and what they come to
 record TalliedTo (s : List ℕ) (until at last : ℕ) (v c : List ℕ) (t : Tallied) : Type 0 where
-  records : List Record
-  rest : List ℕ
-  bytes : archiveOf records ++ rest ≡ drop at s
-  well-formed : AllWellFormed records
-  numbered : Numbered last records
-  replays : Replays records (valuesOf v)
-  last-is : t .last ≡ last + length records
-  values : valuesOf (t .values) ≡ left records (valuesOf v)
-  counts : (a : ℕ) → a < 256 → getD (t .counts) a 0 ≡ getD c a 0 + writersOf a records
+  stretch : Stretch s at last v (t .last) (t .values)
+  counts : (a : ℕ) → a < 256 → getD (t .counts) a 0 ≡ getD c a 0 + writersOf a (stretch .records)
   -- it stops behind the commit asked for, at the end, or where a record is refused
-  whole : t .number ≡ 0 → (t .last ≡ until → ⊥) → rest ≡ []
+  whole : t .number ≡ 0 → (t .last ≡ until → ⊥) → stretch .rest ≡ []
 
 -- a tally that goes no further
 stops : (s : List ℕ) (until at last : ℕ) (v c : List ℕ) (k : ℕ) → (k ≡ 0 → (last ≡ until → ⊥) → drop at s ≡ []) → TalliedTo s until at last v c (tallied v c at last k)
-unfolding archiveOf
-stops s until at last v c k nothing =
-    record {
-      records = [];
-      rest = drop at s;
-      bytes = refl;
-      well-formed = tt;
-      numbered = tt;
-      replays = tt;
-      last-is = sym (add-zero last);
-      values = refl;
-      counts = λ a h. sym (add-zero (getD c a 0));
-      whole = nothing;
-    }
+unfolding no-record-yet
+stops s until at last v c k nothing = record { stretch = no-record-yet s at last v; counts = λ a h. sym (add-zero (getD c a 0)); whole = nothing }
 
 -- the counts are no more than the commits
 abbrev Few : List ℕ → ℕ → Type 0
@@ -67,20 +49,10 @@ Few c last = (a : ℕ) → a < 256 → getD c a 0 ≤ last
 step : (s : List ℕ) (until at last : ℕ) (v c : List ℕ) (f : Fields) (t : Tallied) → length v ≡ 256 → OneRead s at last f → readsAgree (drop at s) v ≡ true
     → ((a : ℕ) → a < 256 → getD (counted (drop at s) c) a 0 ≡ getD c a 0 + cond (writesTo a (recordOf (drop at s) .writes)) 1 0)
     → TalliedTo s until (f .end) (suc last) (stored (drop at s) v) (counted (drop at s) c) t → TalliedTo s until at last v c t
-unfolding archiveOf
+unfolding one-before
 step s until at last v c f t l one agree more-counts more =
-    let p = drop at s in
-    let r = replaying p v l (one .well-formed .writes-fit) in
-    let after : valuesOf (stored p v) ≡ wrote (recordOf p .writes) (valuesOf v) = fun-ext (r .writes-are) in
     record {
-      records = recordOf p ∷ more .records;
-      rest = more .rest;
-      bytes = rw (append-assoc, more .bytes) (one .bytes);
-      well-formed = (one .well-formed, more .well-formed);
-      numbered = (one .number, more .numbered);
-      replays = (r .reads-tell agree, rw after at (more .replays));
-      last-is = omega (arith, more .last-is);
-      values = rw after at (more .values);
+      stretch = one-before s at last v f l one agree (more .stretch);
       counts = λ a h. omega (arith, more .counts a h, more-counts a h);
       whole = more .whole;
     }
@@ -136,7 +108,7 @@ tally-to (suc turns) s until at last v c hs hv hc few fits h ht =
         let one = one-read s at last f hs e in
         let more = counting s at last c f e hc few fits in
         let size = replaying p v hv (one .well-formed .writes-fit) .as-many in
-        let below : suc last < 2 ^ 32 = rw (one .number) at (one .well-formed .commit-fits) in
+        let below : suc last < 2 ^ 32 = rw (one .commit-is) at (number-fits s at last f hs e) in
         rw (one .commit-is)
         (step s until at last v c f _ hv one agree (more .each) (next (f .end) (suc last) (stored p v) (counted p c) (size ∙ hv) (more .as-many) (more .few) below (o .within) (omega arith)))
     on-agree next f e false agree = stops s until at last v c 14 (λ z far. absurd (omega arith))
@@ -175,7 +147,8 @@ fresh-0 : (a : ℕ) → getD fresh a 0 ≡ 0
 fresh-0 a = ap (λ (f : ℕ → ℕ). f a) (fresh-values 256)
 
 from-fresh : (s : List ℕ) (until : ℕ) (t : Tallied) → TalliedTo s until 0 0 fresh fresh t → Counters s until t
-from-fresh s until t all =
+from-fresh s until t tally =
+    let all = tally .stretch in
     record {
       records = all .records;
       rest = all .rest;
@@ -185,8 +158,8 @@ from-fresh s until t all =
       replays = rw (fresh-values 256) at (all .replays);
       as-many = omega (arith, all .last-is);
       values = λ a. ap (λ (f : ℕ → ℕ). f a) (rw (fresh-values 256) at (all .values));
-      counts = λ a h. omega (arith, all .counts a h, fresh-0 a);
-      whole = all .whole;
+      counts = λ a h. omega (arith, tally .counts a h, fresh-0 a);
+      whole = tally .whole;
     }
 
 pub table-means : (s : List ℕ) (until : ℕ) → Bytes s → Counters s until (tallyOf true s 0 until fresh fresh)

@@ -22,7 +22,7 @@ abbrev pub told : Tallied → Played
 told t = played (t .values) (t .last) (t .number)
 
 -- a commit number has 32 bits
-number-fits : (s : List ℕ) (at last : ℕ) (f : Fields) → Bytes s → readOf s at last ≡ Record f → f .commit < 2 ^ 32
+pub number-fits : (s : List ℕ) (at last : ℕ) (f : Fields) → Bytes s → readOf s at last ≡ Record f → f .commit < 2 ^ 32
 number-fits s at last f b e = let one = one-read s at last f b e in rw (one .commit-is, ← one .number) (one .well-formed .commit-fits)
 
 module _ (s : List ℕ) (until : ℕ) (b : Bytes s) (never : 2 ^ 32 ≤ until) where
