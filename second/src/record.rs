@@ -1,11 +1,14 @@
 //! The record: its check, its writer, and a form that owns its entries.
 
+use crate::line::little::LONG;
+use crate::line::places::{header, Place};
 use crate::Refusal;
 
 /// Bytes before the addresses.
-pub const HEADER: usize = 16;
-/// Bytes of one entry: an address and a value.
-pub const ENTRY: usize = 9;
+pub const HEADER: usize = header::LENGTH;
+/// Bytes of a value, and of an entry: an address and a value.
+pub const VALUE: usize = LONG;
+pub const ENTRY: usize = 1 + VALUE;
 /// Reads, and writes, of one record at most.
 pub const MOST: u32 = 256;
 /// Length of the longest record.
@@ -95,7 +98,7 @@ impl<'a> View<'a> {
         let entries = header.entries() as usize;
         let body = rest.get(..ENTRY * entries).ok_or(Refusal::Short)?;
         let (addresses, values) = body.split_at(entries);
-        let spare = head[14] | head[15];
+        let spare = header::Field::Spare.byte_of(head, 0) | header::Field::Spare.byte_of(head, 1);
         if header.in_range() & (spare == 0) & both_rise(addresses, header.reads as usize) {
             Ok(View {
                 header,
@@ -116,13 +119,13 @@ impl<'a> View<'a> {
     #[inline]
     pub fn reads(&self) -> impl Iterator<Item = (u8, u64)> + 'a {
         let reads = self.header.reads as usize;
-        entries(&self.addresses[..reads], &self.values[..8 * reads])
+        entries(&self.addresses[..reads], &self.values[..VALUE * reads])
     }
 
     #[inline]
     pub fn writes(&self) -> impl Iterator<Item = (u8, u64)> + 'a {
         let reads = self.header.reads as usize;
-        entries(&self.addresses[reads..], &self.values[8 * reads..])
+        entries(&self.addresses[reads..], &self.values[VALUE * reads..])
     }
 }
 
@@ -178,7 +181,7 @@ pub fn write(
     }
     // the counts now fit in memory, so in a usize
     let entries = header.entries() as usize;
-    let lengths_fit = (addresses.len() == entries) & (values.len() == 8 * entries);
+    let lengths_fit = (addresses.len() == entries) & (values.len() == VALUE * entries);
     if !(header.in_range() && lengths_fit && both_rise(addresses, header.reads as usize)) {
         return Err(Refusal::Record);
     }
@@ -186,7 +189,7 @@ pub fn write(
     let (to_addresses, rest) = rest.split_at_mut(entries);
     head.copy_from_slice(&header.bytes());
     to_addresses.copy_from_slice(addresses);
-    rest[..8 * entries].copy_from_slice(values);
+    rest[..VALUE * entries].copy_from_slice(values);
     Ok(HEADER + ENTRY * entries)
 }
 

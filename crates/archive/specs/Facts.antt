@@ -15,16 +15,17 @@ use Rattle.archive.specs.declared.Answer.the-variants.{Record, End, Refu
 use Rattle.archive.specs.Read.{fieldsOf, firstOf, readOf}
 use Rattle.lists.specs.Tests.{and-l, and-r}
 use Rattle.archive.specs.Parts.{holdsAt}
+use Rattle.layout.specs.Record.{headerLength, entryLength}
 
 pub record Holds (s : List ℕ) (at k : ℕ) : Type 0 where
   pub starts : at ≤ length s
-  pub ends : 16 + 9 * k ≤ length s - at
+  pub ends : headerLength + entryLength * k ≤ length s - at
 
 pub holds : (s : List ℕ) (at k : ℕ) → holdsAt s at k ≡ true → Holds s at k
 unfolding holdsAt
 holds s at k h =
     let a = leb at (length s) in
-    let b = leb (16 + 9 * k) (length s - at) in
+    let b = leb (headerLength + entryLength * k) (length s - at) in
     record { starts = leb-true _ _ (and-l a b h); ends = leb-true _ _ (and-r a b h) }
 
 below : (a b : ℕ) → a ≤ b → (a ≡ b → ⊥) → a < b

@@ -8,6 +8,7 @@ ghost use Rattle.record.specs.Check.{lengthOf};
 ghost use Rattle.archive.specs.Read.{fieldsOf, readOf};
 ghost use Rattle.archive.specs.Parts.{holdsAt, addressPart, valuePart, entryOf};
 ghost use Rattle.archive.specs.Told.{told, fieldList, toldReadOf, toldEntryOf};
+ghost use Rattle.layout.specs.Record.{headerLength};
 
 // A record's fields, with the positions where it starts and ends.
 pub struct Fields {
@@ -43,20 +44,20 @@ fn follows(last: u32, commit: u32) -> bool
 
 // The fields of the record that starts at `at`; `part` is the archive from there on.
 fn fields_at(part: &[u8], at: usize) -> Fields
-    requires { ⌜ (16 ≤ length (now part)) × (at + lengthOf (now part) < 2 ^ 64) ⌝ }
+    requires { ⌜ (headerLength ≤ length (now part)) × (at + lengthOf (now part) < 2 ^ 64) ⌝ }
     ensures { λ r. ⌜ r ≡ fieldsOf (now (part .entry)) at ⌝ }
 {
-    let reads = le::get_u16(part, 0);
-    let writes = le::get_u16(part, 2);
+    let reads = le::get_u16(part, record::READS);
+    let writes = le::get_u16(part, record::WRITES);
     Fields {
         at,
-        end: at + (16 + 9 * (le::index(reads) + le::index(writes))),
+        end: at + (record::HEADER + record::ENTRY * (le::index(reads) + le::index(writes))),
         reads,
         writes,
-        commit: le::get_u32(part, 4),
-        transaction: le::get_u32(part, 8),
-        station: le::wide(part[12]),
-        kind: le::wide(part[13]),
+        commit: le::get_u32(part, record::COMMIT),
+        transaction: le::get_u32(part, record::TRANSACTION),
+        station: le::wide(part[record::STATION]),
+        kind: le::wide(part[record::KIND]),
     }
 }
 
@@ -75,7 +76,7 @@ pub fn read(archive: &[u8], at: usize, last: u32) -> Answer
     if number != 0 {
         return Answer::Refused(number);
     }
-    if !follows(last, le::get_u32(part, 4)) {
+    if !follows(last, le::get_u32(part, record::COMMIT)) {
         return Answer::Refused(13);
     }
     Answer::Record(fields_at(part, at))
@@ -88,7 +89,7 @@ fn holds(archive: &[u8], at: usize, entries: u32) -> bool
     if archive.len() < at {
         return false;
     }
-    16 + 9 * le::index(entries) <= archive.len() - at
+    record::HEADER + record::ENTRY * le::index(entries) <= archive.len() - at
 }
 
 // The addresses of the record of so many entries at `at`, reads first: that part of the archive itself. Empty where there is none.
@@ -98,7 +99,7 @@ pub fn address_part(archive: &[u8], at: usize, entries: u32) -> &[u8]
     if !holds(archive, at, entries) {
         return &archive[..0];
     }
-    let a = at + 16;
+    let a = at + record::HEADER;
     let e = a + le::index(entries);
     &archive[a..e]
 }
@@ -111,8 +112,8 @@ pub fn value_part(archive: &[u8], at: usize, entries: u32) -> &[u8]
         return &archive[..0];
     }
     let k = le::index(entries);
-    let a = at + 16 + k;
-    let e = a + 8 * k;
+    let a = at + record::HEADER + k;
+    let e = a + record::VALUE * k;
     &archive[a..e]
 }
 
@@ -126,10 +127,13 @@ pub fn entry(archive: &[u8], at: usize, entries: u32, i: u32) -> Found
     if entries <= i {
         return Found::Nothing;
     }
-    let start = at + 16;
+    let start = at + record::HEADER;
     Found::Entry {
         address: archive[start + le::index(i)],
-        value: le::get_u64(archive, start + le::index(entries) + 8 * le::index(i)),
+        value: le::get_u64(
+            archive,
+            start + le::index(entries) + record::VALUE * le::index(i),
+        ),
     }
 }
 

@@ -10,7 +10,7 @@ use lib.Seq.{drop-drop}
 use lib.Dec.{eqb, ltb}
 use borrow.Author.Tests.{le-ltb, eq-eqb, ne-eqb, ltb-true, eqb-true, eqb-false}
 use Rattle.lists.specs.Bytes.{Bytes, bytes-drop}
-use Rattle.layout.specs.Record.{Record, WellFormed, bytesOf}
+use Rattle.layout.specs.Record.{headerLength, Record, WellFormed, bytesOf}
 use Rattle.record.specs.Check.{commitNumber, lengthOf, laidOut, checkOf}
 use Rattle.record_meaning.specs.Parse.{recordOf}
 use Rattle.record_meaning.specs.Layout.{length-bytesOf}
@@ -155,7 +155,7 @@ data CheckNumber : ℕ → Type 0 where
 
 check-number : (t : List ℕ) → CheckNumber (checkOf t)
 unfolding checkOf
-check-number t = by-tests (ltb (length t) 16) (ltb (length t) (lengthOf t)) (laidOut t)
+check-number t = by-tests (ltb (length t) headerLength) (ltb (length t) (lengthOf t)) (laidOut t)
   where
     by-tests : (a b c : Bool) → CheckNumber (cond a 12 (cond b 12 (cond c 0 5)))
     by-tests true b c = is-12

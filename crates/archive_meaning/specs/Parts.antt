@@ -12,7 +12,7 @@ use Rattle.lists.specs.Bytes.{Bytes, bytes-drop}
 use Rattle.le.specs.Le.{u64At}
 use Rattle.le.specs.Laws.{u64At-is}
 use Rattle.le.specs.Parts.{numAt-drop}
-use Rattle.layout.specs.Record.{Entry, entries, addresses, values}
+use Rattle.layout.specs.Record.{headerLength, entryLength, Entry, entries, addresses, values}
 use Rattle.record.specs.Check.{readCount, writeCount}
 use Rattle.record.specs.Facts.{accepted}
 use Rattle.record_meaning.specs.Parse.{entryAt, entriesAt, recordOf}
@@ -55,7 +55,7 @@ shown s at last f hs h =
     let k = readCount t + writeCount t in
     let count : f .reads + f .writes ≡ k = rw (← r .fields) in
     let l = length-drop at s in
-    let holds : holdsAt s at k ≡ true = rw (le-leb at (length s) (omega arith), le-leb (16 + 9 * k) (length s - at) (omega arith)) in
+    let holds : holdsAt s at k ≡ true = rw (le-leb at (length s) (omega arith), le-leb (headerLength + entryLength * k) (length s - at) (omega arith)) in
     record {
       entries-count = rw (count, entries-of t) (length-entriesAt t k 0 k);
       addresses-are = rw (count, holds, addresses-of t (a .all-there), drop-drop);

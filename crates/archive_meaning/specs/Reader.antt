@@ -42,7 +42,7 @@ onRead next t Answer.End = parsed [] 0
 onRead next t (Answer.Refused k) = parsed [] k
 
 -- the archive from `at` on, record by record, to its end or the first record refused. Each record takes a turn and at least
--- 16 bytes, so one turn more than there are bytes suffices (`enough-turns`).
+-- a header, so one turn more than there are bytes suffices (`enough-turns`).
 unfoldable pub readAll : ℕ → List ℕ → ℕ → ℕ → Parsed
 readAll zero s at last = parsed [] 12
 readAll (suc turns) s at last = onRead (readAll turns s) (drop at s) (readOf s at last)

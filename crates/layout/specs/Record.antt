@@ -29,10 +29,29 @@ Rising [] = Unit {0}
 Rising (e ∷ []) = Unit {0}
 Rising (e ∷ f ∷ es) = (e .address < f .address) × Rising (f ∷ es)
 
+-- "Length 16 + 9 × (n + m)": a header, and for each entry an address of one byte and a value of 8; "n and m are 0 to 256", "at most 4,624"
+abbrev pub headerLength : ℕ
+headerLength = 16
+
+abbrev pub valueLength : ℕ
+valueLength = 8
+
+abbrev pub entryLength : ℕ
+entryLength = 1 + valueLength
+
+abbrev pub recordLength : ℕ → ℕ → ℕ
+recordLength n m = headerLength + entryLength * (n + m)
+
+abbrev pub mostEntries : ℕ
+mostEntries = 256
+
+abbrev pub longestRecord : ℕ
+longestRecord = recordLength mostEntries mostEntries
+
 -- "n + m addresses of one byte", "n + m values of 8 bytes"
 pub record EntryFits (e : Entry) : Type 0 where
   pub address : e .address < 256
-  pub value : e .value < 256 ^ 8
+  pub value : e .value < 256 ^ valueLength
 
 abbrev pub AllFit : List Entry → Type 0
 AllFit [] = Unit {0}
@@ -41,8 +60,8 @@ AllFit (e ∷ es) = EntryFits e × AllFit es
 -- what makes these fields a record
 pub record WellFormed (r : Record) : Type 0 where
   -- "n and m are 0 to 256"
-  pub reads-count : length (r .reads) ≤ 256
-  pub writes-count : length (r .writes) ≤ 256
+  pub reads-count : length (r .reads) ≤ mostEntries
+  pub writes-count : length (r .writes) ≤ mostEntries
   -- "addresses rise strictly within reads and within writes"
   pub reads-rise : Rising (r .reads)
   pub writes-rise : Rising (r .writes)
@@ -68,17 +87,13 @@ addresses (e ∷ es) = e .address ∷ addresses es
 -- "then n + m values of 8 bytes"
 abbrev pub values : List Entry → List ℕ
 values [] = []
-values (e ∷ es) = bytes 8 (e .value) ++ values es
+values (e ∷ es) = bytes valueLength (e .value) ++ values es
 
 -- a record's bytes
 unfoldable pub bytesOf : Record → List ℕ
 bytesOf r =
     header (length (r .reads)) (length (r .writes)) (r .commit) (r .transaction) (r .station) (r .kind)
     ++ (addresses (entries r) ++ values (entries r))
-
--- "Length 16 + 9 × (n + m)"
-abbrev pub recordLength : ℕ → ℕ → ℕ
-recordLength n m = 16 + 9 * (n + m)
 
 -- an archive: records one behind the other
 unfoldable pub archiveOf : List Record → List ℕ

@@ -1,14 +1,11 @@
 -- The table holds.
-use Prim.Native.Nat.{ℕ, suc, _<_}
-use mathlib.Core.Path.{_≡_, refl, sym, ap, _∙_}
+use Prim.Native.Nat.{ℕ}
+use mathlib.Core.Path.{_≡_, refl, ap, _∙_}
 use mathlib.Core.Bool.{true}
-use mathlib.Core.List.{List, [], _∷_, _++_}
-use native.Mathlib.Omega.{arith}
-use lib.Dec.{ltb}
+use mathlib.Core.List.{List, [], _++_}
 use lib.ListN.{length, getD}
 use borrow.Author.Tests.{ne-eqb}
 use Rattle.lists.specs.Tests.{allTo}
-use Rattle.sets.specs.Laws.{ltb-yes}
 use Rattle.le.specs.Le.{u16At, u32At}
 use Rattle.le.specs.Width.{bytes}
 use Rattle.layout.specs.Record.{header, bytesOf}
@@ -35,20 +32,15 @@ kinds-ok : kindsOk kinds ≡ true
 unfolding kindsOk most mostAt allTo
 kinds-ok = refl
 
-names-many : (cs : List CallB) → length (namesOf cs) ≡ length cs
-names-many [] = refl
-names-many (c ∷ cs) = ap suc (names-many cs)
-
 abbrev line : World
 line = fresh (λ i. getD kinds i 0)
 
 -- a row holds if the model's calls show its steps: the archive is what they show to be archived
-runs : (l : List Step) (a : List ℕ) → allRight (calls l) ≡ true → ltb (length (calls l)) 9223372036854775807 ≡ true → each inBytes (seen (calls l) line) ≡ l → joined l ≡ a
+runs : (l : List Step) (a : List ℕ) → allRight (calls l) ≡ true → each inBytes (seen (calls l) line) ≡ l → joined l ≡ a
     → (cs : List CallB) → namesOf cs ≡ calls l → AllRoom cs → Runs l a cs
-runs l a right few shows archived cs names room =
+runs l a right shows archived cs names room =
     let rights : allRight (namesOf cs) ≡ true = rw names right in
-    let many : length cs < 9223372036854775807 = omega (arith, sym (names-many cs) ∙ ap length names, ltb-yes (length (calls l)) 9223372036854775807 few) in
-    let shown : seenB cs (freshB kinds) ≡ l = seen-is kinds kinds-ok cs rights room many ∙ ap (λ (n : List Call). each inBytes (seen n line)) names ∙ shows in
+    let shown : seenB cs (freshB kinds) ≡ l = seen-is kinds kinds-ok cs rights room ∙ ap (λ (n : List Call). each inBytes (seen n line)) names ∙ shows in
     record { shown = shown; archive = archive-is cs (freshB kinds) rights ∙ ap joined shown ∙ archived }
 
 -- the server's step on a commit that has one of the numbers 2 to 5
@@ -59,39 +51,39 @@ comes b size number e f =
 
 C1-holds : Holds C1
 unfolding C1 seen message bytes bytesOf header
-C1-holds = (runs _ _ refl refl refl refl, tt)
+C1-holds = (runs _ _ refl refl refl, tt)
 
 C2-holds : Holds C2
 unfolding C2 seen message bytes bytesOf header
-C2-holds = (runs _ _ refl refl refl refl, tt)
+C2-holds = (runs _ _ refl refl refl, tt)
 
 C3-holds : Holds C3
 unfolding C3 seen message bytes bytesOf header
-C3-holds = (runs _ _ refl refl refl refl, tt)
+C3-holds = (runs _ _ refl refl refl, tt)
 
 C4-holds : Holds C4
 unfolding C4 seen message bytes bytesOf header
-C4-holds = (runs _ _ refl refl refl refl, tt)
+C4-holds = (runs _ _ refl refl refl, tt)
 
 C5-holds : Holds C5
 unfolding C5 seen message bytes bytesOf header
-C5-holds = (runs _ _ refl refl refl refl, tt)
+C5-holds = (runs _ _ refl refl refl, tt)
 
 C6-holds : Holds C6
 unfolding C6 seen message bytes bytesOf header
-C6-holds = (runs _ _ refl refl refl refl, tt)
+C6-holds = (runs _ _ refl refl refl, tt)
 
 C7-holds : Holds C7
 unfolding C7 seen message bytes bytesOf header
-C7-holds = (runs _ _ refl refl refl refl, tt)
+C7-holds = (runs _ _ refl refl refl, tt)
 
 C8-holds : Holds C8
 unfolding C8 seen message bytes bytesOf header
-C8-holds = (runs _ _ refl refl refl refl, tt)
+C8-holds = (runs _ _ refl refl refl, tt)
 
 C9-holds : Holds C9
 unfolding C9 seen message bytes bytesOf header
-C9-holds = (runs _ _ refl refl refl refl, tt)
+C9-holds = (runs _ _ refl refl refl, tt)
 
 C10-holds : Holds C10
 unfolding C10 File.table upNumber Number.kindsOk kindOk lengthOk upRange commitLengthOk versionOk pagesTo recordAgrees commitNumber zeroAt zeros commitOk upFieldsOk allTo u16At u32At headOk headAt riseAt rises addressesRise checkOf
@@ -99,15 +91,15 @@ C10-holds = (comes _ 4864 0 refl refl, (File.table-holds .0, (comes _ 2569 5 ref
 
 C11-holds : Holds C11
 unfolding C11 File.table seen
-C11-holds = (runs [] [] refl refl refl refl, (File.table-holds .1 .1 .0, tt))
+C11-holds = (runs [] [] refl refl refl, (File.table-holds .1 .1 .0, tt))
 
 pub C12-archived : PartHolds (OfLine commits12 File.c12)
 unfolding seen message bytes bytesOf header
-C12-archived = runs _ _ refl refl refl refl
+C12-archived = runs _ _ refl refl refl
 
 pub C12-followed : PartHolds (OfLine (commits12 ++ readOf8By1) (File.c12 ++ File.readOf8))
 unfolding seen message bytes bytesOf header
-C12-followed = runs _ _ refl refl refl refl
+C12-followed = runs _ _ refl refl refl
 
 C12-holds : Holds C12
 unfolding C12 File.table

@@ -1,5 +1,5 @@
 -- A message that a station takes is, byte for byte, document 01's of what it is read as: kinds 16 to 23.
-use Prim.Native.Nat.{ℕ, zero, suc, _+_, _*_, _/_, _%_, _≤_}
+use Prim.Native.Nat.{ℕ, zero, suc, _+_, _-_, _*_, _/_, _%_, _≤_}
 use mathlib.Core.Path.{_≡_, refl, sym, ap, _∙_}
 use mathlib.Core.List.{List, [], _++_, append-nil}
 use native.Mathlib.Omega.{arith}
@@ -11,14 +11,14 @@ use Rattle.sets.specs.Base.{table}
 use Rattle.sets.specs.Laws.{byEq, eqb-yes, eqb-no, eqb-same}
 use Rattle.line.specs.Messages.{address, NoLock, ObjectLock, WholeLock, Down, Deescalate, Callback, Committed, Aborted, Invalidate, Sent, To}
 use Rattle.line.specs.Fields.{oneSet, objectSet, downFields}
-use Rattle.message.specs.Layout.{kindOf, stationOf, pageOf, requesterOf, objectOf, causeOf, transactionOf, pagesOf, versionOf, setOf, valueOf}
+use Rattle.message.specs.Layout.{pageFrom, objectFrom, transactionFrom, pagesFrom, versionFrom, setsFrom, valuesFrom, valuesLength, messageLength, kindOf, stationOf, pageOf, requesterOf, objectOf, causeOf, transactionOf, pagesOf, versionOf, setOf, valueOf}
 use Rattle.message.specs.Accepted.{PageFields, DeescalateFields, CallbackFields, CommittedFields, AbortedFields, InvalidateFields, DownAccepted, down-accepted}
 use Rattle.message_meaning.specs.Meant.{objectsOn, objectsIn, pagesIn, setsOf, valuesOn, pageAt, downOf}
 use Rattle.message_meaning.specs.Kinds.{down-16, down-17, down-18, down-19, down-20, down-21, down-22, down-23, sets-at}
 use Rattle.message_meaning.specs.Inverse.{values-written}
 use Rattle.step_meaning.specs.Relation.{ReadAs}
 use Rattle.line_cases.specs.Wire.{words, wire}
-use Rattle.line_cases.specs.Parts.{made, inside, zero-at, zero-32, bits-back, table-same, table-back, words-table, set-of-page, pages-back, one-set, no-sets, no-values, from-8}
+use Rattle.line_cases.specs.Parts.{made, inside, zero-at, zero-32, bits-back, table-same, table-back, words-table, set-of-page, pages-back, one-set, no-sets, no-values, none-from-pages}
 
 -- VALUES OF A PAGE
 
@@ -33,7 +33,7 @@ values-of-page p m (suc n) j l =
 
 -- THE KINDS
 
-module _ (i : ℕ) (m : List ℕ) (hm : Bytes m) (hl : length m ≡ 112) (own : stationOf m ≡ i) where
+module _ (i : ℕ) (m : List ℕ) (hm : Bytes m) (hl : length m ≡ messageLength) (own : stationOf m ≡ i) where
   -- "16 page (page, object, transaction, version, unavailable set, values)": its parts, where a is page and object
   module _ (f : PageFields m) where
     abbrev a : ℕ
@@ -46,9 +46,9 @@ module _ (i : ℕ) (m : List ℕ) (hm : Bytes m) (hl : length m ≡ 112) (own : 
     object-is = omega (arith, f .object-is)
 
     set-is : setsOf m ≡ oneSet (objectSet (objectsOn (pageOf m) (setOf m 0)) (a / 8))
-    set-is = one-set m (omega arith) (f .unnamed-17) ∙ ap oneSet (sym (set-of-page (pageOf m) (setOf m 0) (byte-at m 16 hm)) ∙ ap (objectSet (objectsOn (pageOf m) (setOf m 0))) page-is)
+    set-is = one-set m (omega arith) (f .unnamed-17) ∙ ap oneSet (sym (set-of-page (pageOf m) (setOf m 0) (byte-at m setsFrom hm)) ∙ ap (objectSet (objectsOn (pageOf m) (setOf m 0))) page-is)
 
-    values-are : drop 48 m ≡ words 8 (table 8 (address (a / 8) 0) (valuesOn (pageOf m) m)) ++ []
+    values-are : drop valuesFrom m ≡ words 8 (table 8 (address (a / 8) 0) (valuesOn (pageOf m) m)) ++ []
     values-are =
         sym (values-written m hm hl)
         ∙ sym (words-table 8 8 0 (valueOf m))
@@ -57,55 +57,55 @@ module _ (i : ℕ) (m : List ℕ) (hm : Bytes m) (hl : length m ≡ 112) (own : 
 
   bytes-16 : kindOf m ≡ 16 → PageFields m → m ≡ wire (downFields (To i (pageAt NoLock m)))
   unfolding pageAt
-  bytes-16 e f = made m hm (omega arith) e own (page-is f) (object-is f) refl (zero-32 m 8 (f .unnamed-8)) refl (set-is f) (values-are f)
+  bytes-16 e f = made m hm (omega arith) e own (page-is f) (object-is f) refl (zero-32 m pagesFrom (f .unnamed-8)) refl (set-is f) (values-are f)
 
   bytes-17 : kindOf m ≡ 17 → PageFields m → m ≡ wire (downFields (To i (pageAt ObjectLock m)))
   unfolding pageAt
-  bytes-17 e f = made m hm (omega arith) e own (page-is f) (object-is f) refl (zero-32 m 8 (f .unnamed-8)) refl (set-is f) (values-are f)
+  bytes-17 e f = made m hm (omega arith) e own (page-is f) (object-is f) refl (zero-32 m pagesFrom (f .unnamed-8)) refl (set-is f) (values-are f)
 
   bytes-18 : kindOf m ≡ 18 → PageFields m → m ≡ wire (downFields (To i (pageAt WholeLock m)))
   unfolding pageAt
-  bytes-18 e f = made m hm (omega arith) e own (page-is f) (object-is f) refl (zero-32 m 8 (f .unnamed-8)) refl (set-is f) (values-are f)
+  bytes-18 e f = made m hm (omega arith) e own (page-is f) (object-is f) refl (zero-32 m pagesFrom (f .unnamed-8)) refl (set-is f) (values-are f)
 
   bytes-19 : kindOf m ≡ 19 → DeescalateFields m → m ≡ wire (downFields (To i (Deescalate (pageOf m) (transactionOf m))))
   bytes-19 e f =
-      let r = from-8 m hl (f .unnamed-8) in
-      made m hm (omega arith) e own refl (zero-at m 3 1 (f .unnamed-3) (omega arith)) refl (r .0) (r .1) (r .2) (r .3)
+      let r = none-from-pages m hl (f .unnamed-8) in
+      made m hm (omega arith) e own refl (zero-at m objectFrom 1 (f .unnamed-3) (omega arith)) refl (r .0) (r .1) (r .2) (r .3)
 
   -- "object sets by page"
   sets-back : table 32 0 (objectSet (objectsIn (setsOf m))) ≡ setsOf m
   sets-back =
-      table-same 32 0 (objectSet (objectsIn (setsOf m))) (λ p. getD m (16 + p) 0)
+      table-same 32 0 (objectSet (objectsIn (setsOf m))) (λ p. getD m (setsFrom + p) 0)
       (λ p l q.
-      bits-back 8 (address p 0) (getD m (16 + p) 0) (objectsIn (setsOf m)) (omega (arith, byte-at m (16 + p) hm))
+      bits-back 8 (address p 0) (getD m (setsFrom + p) 0) (objectsIn (setsOf m)) (omega (arith, byte-at m (setsFrom + p) hm))
       (λ k r.
       let page : (address p 0 + k) / 8 ≡ p = omega arith in
       let object : (address p 0 + k) % 8 ≡ k = omega arith in
       rw (page, object, sets-at m p, lt-ltb p 32 q)))
-      ∙ table-same 32 0 (λ p. getD m (16 + p) 0) (λ p. getD (drop 16 m) p 0) (λ p l q. sym (getD-drop 16 m p 0))
-      ∙ table-back 32 0 (drop 16 m) (rw length-drop (omega arith))
+      ∙ table-same 32 0 (λ p. getD m (setsFrom + p) 0) (λ p. getD (drop setsFrom m) p 0) (λ p l q. sym (getD-drop setsFrom m p 0))
+      ∙ table-back 32 0 (drop setsFrom m) (rw length-drop (omega arith))
 
   bytes-20 : kindOf m ≡ 20 → CallbackFields i m → m ≡ wire (downFields (To i (Callback (requesterOf m) (transactionOf m) (objectsIn (setsOf m)))))
   bytes-20 e f =
-      made m hm (omega arith) e own refl (zero-at m 3 1 (f .unnamed-3) (omega arith)) refl (zero-32 m 8 (inside m 8 8 0 4 (f .unnamed-8) (omega arith)))
-      (zero-32 m 12 (inside m 8 8 4 4 (f .unnamed-8) (omega arith))) (sym sets-back) (no-values m hl (f .unnamed-48))
+      made m hm (omega arith) e own refl (zero-at m objectFrom 1 (f .unnamed-3) (omega arith)) refl (zero-32 m pagesFrom (inside m pagesFrom (setsFrom - pagesFrom) pagesFrom 4 (f .unnamed-8) (omega arith) (omega arith)))
+      (zero-32 m versionFrom (inside m pagesFrom (setsFrom - pagesFrom) versionFrom 4 (f .unnamed-8) (omega arith) (omega arith))) (sym sets-back) (no-values m hl (f .unnamed-48))
 
   bytes-21 : kindOf m ≡ 21 → CommittedFields m → m ≡ wire (downFields (To i (Committed (transactionOf m) (versionOf m))))
   bytes-21 e f =
-      made m hm (omega arith) e own (zero-at m 2 2 (f .unnamed-2) (omega arith)) (zero-at m 3 1 (inside m 2 2 1 1 (f .unnamed-2) (omega arith)) (omega arith)) refl
-      (zero-32 m 8 (f .unnamed-8)) refl (no-sets m (omega arith) (inside m 16 96 0 32 (f .unnamed-16) (omega arith))) (no-values m hl (inside m 16 96 32 64 (f .unnamed-16) (omega arith)))
+      made m hm (omega arith) e own (zero-at m pageFrom (transactionFrom - pageFrom) (f .unnamed-2) (omega arith)) (zero-at m objectFrom 1 (inside m pageFrom (transactionFrom - pageFrom) objectFrom 1 (f .unnamed-2) (omega arith) (omega arith)) (omega arith)) refl
+      (zero-32 m pagesFrom (f .unnamed-8)) refl (no-sets m (omega arith) (inside m setsFrom (messageLength - setsFrom) setsFrom 32 (f .unnamed-16) (omega arith) (omega arith))) (no-values m hl (inside m setsFrom (messageLength - setsFrom) valuesFrom valuesLength (f .unnamed-16) (omega arith) (omega arith)))
 
   bytes-22 : kindOf m ≡ 22 → AbortedFields m → m ≡ wire (downFields (To i (Aborted (transactionOf m) (causeOf m))))
   bytes-22 e f =
-      let r = from-8 m hl (f .unnamed-8) in
-      made m hm (omega arith) e own (zero-at m 2 1 (f .unnamed-2) (omega arith)) refl refl (r .0) (r .1) (r .2) (r .3)
+      let r = none-from-pages m hl (f .unnamed-8) in
+      made m hm (omega arith) e own (zero-at m pageFrom 1 (f .unnamed-2) (omega arith)) refl refl (r .0) (r .1) (r .2) (r .3)
 
   bytes-23 : kindOf m ≡ 23 → InvalidateFields m → m ≡ wire (downFields (To i (Invalidate (pagesIn (pagesOf m)))))
   bytes-23 e f =
       let z = f .unnamed-12 in
-      made m hm (omega arith) e own (zero-at m 2 6 (f .unnamed-2) (omega arith)) (zero-at m 3 1 (inside m 2 6 1 1 (f .unnamed-2) (omega arith)) (omega arith))
-      (zero-32 m 4 (inside m 2 6 2 4 (f .unnamed-2) (omega arith))) (sym (pages-back m hm)) (zero-32 m 12 (inside m 12 100 0 4 z (omega arith)))
-      (no-sets m (omega arith) (inside m 12 100 4 32 z (omega arith))) (no-values m hl (inside m 12 100 36 64 z (omega arith)))
+      made m hm (omega arith) e own (zero-at m pageFrom (pagesFrom - pageFrom) (f .unnamed-2) (omega arith)) (zero-at m objectFrom 1 (inside m pageFrom (pagesFrom - pageFrom) objectFrom 1 (f .unnamed-2) (omega arith) (omega arith)) (omega arith))
+      (zero-32 m transactionFrom (inside m pageFrom (pagesFrom - pageFrom) transactionFrom 4 (f .unnamed-2) (omega arith) (omega arith))) (sym (pages-back m hm)) (zero-32 m versionFrom (inside m versionFrom (messageLength - versionFrom) versionFrom 4 z (omega arith) (omega arith)))
+      (no-sets m (omega arith) (inside m versionFrom (messageLength - versionFrom) setsFrom 32 z (omega arith) (omega arith))) (no-values m hl (inside m versionFrom (messageLength - versionFrom) valuesFrom valuesLength z (omega arith) (omega arith)))
 
   -- every kind that a station takes
   written : DownAccepted i m → m ≡ wire (downFields (To i (downOf m)))

@@ -7,6 +7,7 @@ use lib.ListN.{length}
 use Rattle.sets.specs.Laws.{and-l, and-r}
 use Rattle.line.specs.Line.{Begin, Call, Owner, ServerTakes, StationTakes, Broken}
 use Rattle.cases.specs.Archive.{c12}
+use Rattle.message.specs.Commit.{stationRoom, commitRoom, serverRoom, recordsRoom}
 use Rattle.line_bytes.specs.Bytes.{CallB, OwnerB, ServerTakesB, StationTakesB}
 use Rattle.line_bytes.specs.Whole.{nameOf, namesOf, Room, AllRoom}
 use Rattle.line_cases.specs.Shown.{right, allRight}
@@ -38,7 +39,7 @@ module _ (o c m q : List ℕ) where
   lend-names [] e = refl
   lend-names (n ∷ ns) e = λ t. lend-name n (and-l (right n) (allRight ns) e) t ∷ lend-names ns (and-r (right n) (allRight ns) e) t
 
-  module _ (lo : 896 ≤ length o) (lc : 4864 ≤ length c) (lm : 14336 ≤ length m) (lq : 36992 ≤ length q) where
+  module _ (lo : stationRoom ≤ length o) (lc : commitRoom ≤ length c) (lm : serverRoom ≤ length m) (lq : recordsRoom ≤ length q) where
     lend-room : (n : Call) → Room (lend n)
     lend-room (Owner i op) = (lo, lc)
     lend-room (ServerTakes i) = (lm, lq)

@@ -1,5 +1,5 @@
 -- Parts of a message, read and written again: fields, zeros, sets and tables.
-use Prim.Native.Nat.{ℕ, zero, suc, _+_, _*_, _/_, _%_, _^_, _≤_, _<_}
+use Prim.Native.Nat.{ℕ, zero, suc, _+_, _-_, _*_, _/_, _%_, _^_, _≤_, _<_}
 use mathlib.Core.Path.{_≡_, refl, sym, ap, subst, _∙_}
 use mathlib.Core.Bool.{Bool}
 use mathlib.Core.List.{List, [], _++_}
@@ -17,7 +17,7 @@ use Rattle.le.specs.Laws.{u32At-is}
 use Rattle.cells.specs.Bits.{tb}
 use Rattle.line.specs.Messages.{address}
 use Rattle.line.specs.Fields.{oneSet, noSets, noValues, bitsFrom, objectSet, pageSet}
-use Rattle.message.specs.Layout.{kindOf, stationOf, pageOf, objectOf, transactionOf, pagesOf, versionOf, setOf, message}
+use Rattle.message.specs.Layout.{kindFrom, stationFrom, pageFrom, objectFrom, transactionFrom, pagesFrom, versionFrom, setsFrom, secondSet, valuesFrom, valuesLength, messageLength, kindOf, stationOf, pageOf, objectOf, transactionOf, pagesOf, versionOf, setOf, message}
 use Rattle.message.specs.Accepted.{Zero, fields-fit}
 use Rattle.message_meaning.specs.Meant.{objectsOn, pagesIn, setsOf}
 use Rattle.message_meaning.specs.Numbers.{numbers}
@@ -29,39 +29,41 @@ use Rattle.line_cases.specs.Wire.{words}
 pub part-rest : (k a b : ℕ) (s : List ℕ) → b ≡ a + k → take k (drop a s) ++ drop b s ≡ drop a s
 part-rest k a b s e = rw (e, ← drop-drop k a s) (take-append-drop k (drop a s))
 
-module _ (m : List ℕ) (hm : Bytes m) (hl : 48 ≤ length m) where
+module _ (m : List ℕ) (hm : Bytes m) (hl : valuesFrom ≤ length m) where
   -- the message of the fields that are read is the one that they were read from, whatever follows
-  fields-back : message (kindOf m) (stationOf m) (pageOf m) (objectOf m) (transactionOf m) (pagesOf m) (versionOf m) (setsOf m) (drop 48 m) ≡ m
+  fields-back : message (kindOf m) (stationOf m) (pageOf m) (objectOf m) (transactionOf m) (pagesOf m) (versionOf m) (setsOf m) (drop valuesFrom m) ≡ m
   unfolding message
   fields-back =
       rw (
-        u32At-is m 4,
-        u32At-is m 8,
-        u32At-is m 12,
-        bytes-numAt 4 m 4 hm (omega arith),
-        bytes-numAt 4 m 8 hm (omega arith),
-        bytes-numAt 4 m 12 hm (omega arith),
-        part-rest 32 16 48 m refl,
-        part-rest 4 12 16 m refl,
-        part-rest 4 8 12 m refl,
-        part-rest 4 4 8 m refl,
-        ← drop-cons m 3 0 (omega arith),
-        ← drop-cons m 2 0 (omega arith),
-        ← drop-cons m 1 0 (omega arith),
-        ← drop-cons m 0 0 (omega arith),
+        u32At-is m transactionFrom,
+        u32At-is m pagesFrom,
+        u32At-is m versionFrom,
+        bytes-numAt 4 m transactionFrom hm (omega arith),
+        bytes-numAt 4 m pagesFrom hm (omega arith),
+        bytes-numAt 4 m versionFrom hm (omega arith),
+        part-rest 32 setsFrom valuesFrom m refl,
+        part-rest 4 versionFrom setsFrom m refl,
+        part-rest 4 pagesFrom versionFrom m refl,
+        part-rest 4 transactionFrom pagesFrom m refl,
+        ← drop-cons m objectFrom 0 (omega arith),
+        ← drop-cons m pageFrom 0 (omega arith),
+        ← drop-cons m stationFrom 0 (omega arith),
+        ← drop-cons m kindFrom 0 (omega arith),
       )
 
   -- so it is the message of these fields
   pub made : {k i p o t d v : ℕ} {sets values : List ℕ} → kindOf m ≡ k → stationOf m ≡ i → pageOf m ≡ p → objectOf m ≡ o → transactionOf m ≡ t
-      → pagesOf m ≡ d → versionOf m ≡ v → setsOf m ≡ sets → drop 48 m ≡ values → m ≡ message k i p o t d v sets values
+      → pagesOf m ≡ d → versionOf m ≡ v → setsOf m ≡ sets → drop valuesFrom m ≡ values → m ≡ message k i p o t d v sets values
   made ek ei ep eo et ed ev es ex = sym fields-back ∙ rw (ek, ei, ep, eo, et, ed, ev, es, ex)
 
 -- ZEROS: "Fields that a kind doesn't name are 0"
 
 module _ (m : List ℕ) where
   -- a part of the zeros
-  pub inside : (a n d k : ℕ) → Zero m a n → d + k ≤ n → Zero m (a + d) k
-  inside a n d k h l i q = let place : a + (d + i) ≡ a + d + i = omega arith in subst (λ (j : ℕ). getD m j 0 ≡ 0) place (h (d + i) (omega arith))
+  pub inside : (a n b k : ℕ) → Zero m a n → a ≤ b → b + k ≤ a + n → Zero m b k
+  inside a n b k h l r i q =
+      let place : a + (b - a + i) ≡ b + i = omega arith in
+      subst (λ (j : ℕ). getD m j 0 ≡ 0) place (h (b - a + i) (omega arith))
 
   pub zero-at : (a n : ℕ) → Zero m a n → 0 < n → getD m a 0 ≡ 0
   zero-at a n h l = let place : a + 0 ≡ a = omega arith in subst (λ (j : ℕ). getD m j 0 ≡ 0) place (h 0 l)
@@ -119,29 +121,29 @@ unfolding numbers
 words-table w zero j f = refl
 words-table w (suc n) j f = rw (words-table w n (suc j) f)
 
--- WHAT STANDS BEHIND BYTE 16
+-- WHAT STANDS BEHIND THE FIRST SET
 
-pub zero-values : replicate 64 0 ≡ words 8 noValues ++ []
+pub zero-values : replicate valuesLength 0 ≡ words 8 noValues ++ []
 unfolding bytes
 zero-values = refl
 
-module _ (m : List ℕ) (hl : 48 ≤ length m) where
-  -- byte 16 alone
-  pub one-set : Zero m 17 31 → setsOf m ≡ oneSet (setOf m 0)
-  one-set z = rw (drop-cons m 16 0 (omega arith), zero-part m 17 31 z (omega arith))
+module _ (m : List ℕ) (hl : valuesFrom ≤ length m) where
+  -- "one set of a single page: byte 16"
+  pub one-set : Zero m secondSet (valuesFrom - secondSet) → setsOf m ≡ oneSet (setOf m 0)
+  one-set z = rw (drop-cons m setsFrom 0 (omega arith), zero-part m secondSet (valuesFrom - secondSet) z (omega arith))
 
-  pub no-sets : Zero m 16 32 → setsOf m ≡ noSets
-  no-sets z = zero-part m 16 32 z (omega arith)
+  pub no-sets : Zero m setsFrom 32 → setsOf m ≡ noSets
+  no-sets z = zero-part m setsFrom 32 z (omega arith)
 
-module _ (m : List ℕ) (hl : length m ≡ 112) where
-  pub no-values : Zero m 48 64 → drop 48 m ≡ words 8 noValues ++ []
-  no-values z = sym (take-all 64 (drop 48 m) (rw length-drop (omega arith))) ∙ zero-part m 48 64 z (omega arith) ∙ zero-values
+module _ (m : List ℕ) (hl : length m ≡ messageLength) where
+  pub no-values : Zero m valuesFrom valuesLength → drop valuesFrom m ≡ words 8 noValues ++ []
+  no-values z = sym (take-all valuesLength (drop valuesFrom m) (rw length-drop (omega arith))) ∙ zero-part m valuesFrom valuesLength z (omega arith) ∙ zero-values
 
-  -- from byte 8 on there is nothing
-  pub from-8 : Zero m 8 104 → (pagesOf m ≡ 0) × (versionOf m ≡ 0) × (setsOf m ≡ noSets) × (drop 48 m ≡ words 8 noValues ++ [])
-  from-8 z = (
-    zero-32 m 8 (inside m 8 104 0 4 z (omega arith)),
-    zero-32 m 12 (inside m 8 104 4 4 z (omega arith)),
-    no-sets m (omega arith) (inside m 8 104 8 32 z (omega arith)),
-    no-values (inside m 8 104 40 64 z (omega arith)),
+  -- from the page set on there is nothing
+  pub none-from-pages : Zero m pagesFrom (messageLength - pagesFrom) → (pagesOf m ≡ 0) × (versionOf m ≡ 0) × (setsOf m ≡ noSets) × (drop valuesFrom m ≡ words 8 noValues ++ [])
+  none-from-pages z = (
+    zero-32 m pagesFrom (inside m pagesFrom (messageLength - pagesFrom) pagesFrom 4 z (omega arith) (omega arith)),
+    zero-32 m versionFrom (inside m pagesFrom (messageLength - pagesFrom) versionFrom 4 z (omega arith) (omega arith)),
+    no-sets m (omega arith) (inside m pagesFrom (messageLength - pagesFrom) setsFrom 32 z (omega arith) (omega arith)),
+    no-values (inside m pagesFrom (messageLength - pagesFrom) valuesFrom valuesLength z (omega arith) (omega arith)),
   )

@@ -3,9 +3,8 @@ use Prim.Native.Nat.{ℕ, _+_, _<_}
 use mathlib.Core.Path.{_≡_, refl, sym, ap, subst, _∙_}
 use mathlib.Core.Bool.{Bool, true, false, _&&_}
 use mathlib.Core.List.{List, [], _∷_, _++_}
-use native.Mathlib.Omega.{arith}
 use lib.Dec.{ltb}
-use lib.ListN.{length, getD, length-append}
+use lib.ListN.{length, getD}
 use borrow.Author.Tests.{lt-ltb}
 use Rattle.sets.specs.Laws.{byB, ltb-yes, and-l, and-r}
 use Rattle.line.specs.Messages.{Up, Down, Sent, Nothing}
@@ -33,7 +32,7 @@ use Rattle.line_bytes.specs.Served.{messages-are, records-are}
 use Rattle.line_bytes.specs.Simulates.{Sim, AllDown, asCall, owner-told, step-told-at, lent, check-is, serves, act-sim}
 use Rattle.line_bytes.specs.Runs.{same-kinds, fresh-sim}
 use Rattle.line_bytes.specs.Ready.{Ready, ready-of-run}
-use Rattle.line_bytes.specs.Whole.{nameOf, namesOf, Room, AllRoom}
+use Rattle.line_bytes.specs.Whole.{nameOf, namesOf, Room, AllRoom, run-more, fit-more}
 use Rattle.line_cases.specs.Wire.{wire, wireRecords}
 use Rattle.line_cases.specs.Records.{records-same}
 use Rattle.line_cases.specs.Down.{down-written}
@@ -160,48 +159,34 @@ call-right (ServerTakesB i o q) e = (ltb-yes i 8 e, tt)
 call-right (StationTakesB i o c) e = (ltb-yes i 8 e, tt)
 
 -- b is what calls leave of a fresh line: so number 1 turns back no state of it
-record Reached (kinds : List ℕ) (b : WorldB) (n : ℕ) : Type 0 where
+record Reached (kinds : List ℕ) (b : WorldB) : Type 0 where
   calls : List CallB
   fit : AllFit calls
   left : runB calls (freshB kinds) ≡ b
-  many : length calls ≡ n
 
-run-more : (ds : List CallB) (c : CallB) (b : WorldB) → runB (ds ++ (c ∷ [])) b ≡ actB c (runB ds b)
-unfolding runB
-run-more [] c b = refl
-run-more (d ∷ ds) c b = run-more ds c (actB d b)
-
-fit-more : (ds : List CallB) (c : CallB) → AllFit ds → Fits c → AllFit (ds ++ (c ∷ []))
-fit-more [] c f g = (g, tt)
-fit-more (d ∷ ds) c f g = (f .0, fit-more ds c (f .1) g)
-
-reached-more : (kinds : List ℕ) (b : WorldB) (n : ℕ) (c : CallB) → Fits c → Reached kinds b n → Reached kinds (actB c b) (n + 1)
-reached-more kinds b n c f h =
+reached-more : (kinds : List ℕ) (b : WorldB) (c : CallB) → Fits c → Reached kinds b → Reached kinds (actB c b)
+reached-more kinds b c f h =
     record {
       calls = h .calls ++ (c ∷ []);
       fit = fit-more (h .calls) c (h .fit) f;
       left = run-more (h .calls) c (freshB kinds) ∙ ap (actB c) (h .left);
-      many = length-append (h .calls) (c ∷ []) ∙ ap (λ (k : ℕ). k + 1) (h .many);
     }
 
 module _ (kinds : List ℕ) (ok : kindsOk kinds ≡ true) where
-  ready-at : (b : WorldB) (n : ℕ) → Reached kinds b n → n < 9223372036854775807 → Ready b
-  ready-at b n h l = subst Ready (h .left) (ready-of-run kinds ok (h .calls) (h .fit) (omega (arith, h .many)))
+  ready-at : (b : WorldB) → Reached kinds b → Ready b
+  ready-at b h = subst Ready (h .left) (ready-of-run kinds ok (h .calls) (h .fit))
 
-  seen-from : (cs : List CallB) (b : WorldB) (w : World) (n : ℕ) → Sim kinds b w → Reached kinds b n → allRight (namesOf cs) ≡ true → AllRoom cs
-      → n + length cs < 9223372036854775807 → seenB cs b ≡ each inBytes (seen (namesOf cs) w)
+  seen-from : (cs : List CallB) (b : WorldB) (w : World) → Sim kinds b w → Reached kinds b → allRight (namesOf cs) ≡ true → AllRoom cs → seenB cs b ≡ each inBytes (seen (namesOf cs) w)
   unfolding seenB seen
-  seen-from [] b w n h y e r l = refl
-  seen-from (c ∷ cs) b w n h y e r l =
+  seen-from [] b w h y e r = refl
+  seen-from (c ∷ cs) b w h y e r =
       let g = call-right c (and-l (right (nameOf c)) (allRight (namesOf cs)) e) in
-      let now = call-shown kinds (kinds-length kinds ok) (same-kinds kinds ok) b w h c (g .0) (g .1) (r .0) (ready-at b n y (omega arith)) in
-      let more = reached-more kinds b n c (g .1) y in
-      let rest = seen-from cs (actB c b) ((act (nameOf c) w) .world) (n + 1) (now .1) more (and-r (right (nameOf c)) (allRight (namesOf cs)) e) (r .1) (omega arith) in
+      let now = call-shown kinds (kinds-length kinds ok) (same-kinds kinds ok) b w h c (g .0) (g .1) (r .0) (ready-at b y) in
+      let more = reached-more kinds b c (g .1) y in
+      let rest = seen-from cs (actB c b) ((act (nameOf c) w) .world) (now .1) more (and-r (right (nameOf c)) (allRight (namesOf cs)) e) (r .1) in
       λ t. now .0 t ∷ rest t
 
   -- from a fresh line
-  pub seen-is : (cs : List CallB) → allRight (namesOf cs) ≡ true → AllRoom cs → length cs < 9223372036854775807
-      → seenB cs (freshB kinds) ≡ each inBytes (seen (namesOf cs) (fresh (λ i. getD kinds i 0)))
+  pub seen-is : (cs : List CallB) → allRight (namesOf cs) ≡ true → AllRoom cs → seenB cs (freshB kinds) ≡ each inBytes (seen (namesOf cs) (fresh (λ i. getD kinds i 0)))
   unfolding runB
-  seen-is cs e r l =
-      seen-from cs (freshB kinds) (fresh (λ i. getD kinds i 0)) 0 (fresh-sim kinds ok) (record { calls = []; fit = tt; left = refl; many = refl }) e r (omega arith)
+  seen-is cs e r = seen-from cs (freshB kinds) (fresh (λ i. getD kinds i 0)) (fresh-sim kinds ok) (record { calls = []; fit = tt; left = refl }) e r

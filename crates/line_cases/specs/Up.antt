@@ -1,5 +1,5 @@
 -- A message that the server takes is, byte for byte, document 01's of what it is read as: kinds 1 to 8.
-use Prim.Native.Nat.{ℕ, _+_, _*_, _/_, _%_, _≤_}
+use Prim.Native.Nat.{ℕ, _+_, _-_, _*_, _/_, _%_, _≤_}
 use mathlib.Core.Path.{_≡_, refl, sym, ap, _∙_}
 use mathlib.Core.List.{List, [], _++_, append-nil}
 use mathlib.Core.Logic.{_≢_}
@@ -19,20 +19,21 @@ use Rattle.record_meaning.specs.Meaning.{read-written}
 use Rattle.line.specs.Messages.{address, Up, ReadRequest, WriteRequest, Commit, Abort, Purge, Busy, Done, WrittenSet}
 use Rattle.line.specs.Server.{usedPage}
 use Rattle.line.specs.Fields.{noValues, oneSet, pageSet, workFields, upFields}
-use Rattle.message.specs.Layout.{kindOf, stationOf, pageOf, requesterOf, objectOf, transactionOf, pagesOf, setOf}
+use Rattle.message.specs.Layout.{pageFrom, objectFrom, transactionFrom, pagesFrom, versionFrom, setsFrom, secondSet, valuesFrom, valuesLength, messageLength, kindOf, stationOf, pageOf, requesterOf, objectOf, transactionOf, pagesOf, setOf}
 use Rattle.message.specs.Accepted.{fields-fit}
+use Rattle.message.specs.Commit.{versionsAt, versionWidth, recordAt}
 use Rattle.message_meaning.specs.Meant.{objectsOn, pagesIn, versionAt, workAt, upOf}
 use Rattle.message_meaning.specs.Kinds.{up-1, up-2, up-3, up-4, up-5, up-6, up-7, up-8}
 use Rattle.message_meaning.specs.Numbers.{numbers-written}
 use Rattle.message_meaning.specs.Sent.{Reads}
 use Rattle.message_meaning.specs.UpAccepted.{RequestFields, AbortFields, PurgeFields, BusyFields, DoneFields, WrittenSetFields, CommitFields, UpAccepted, up-accepted, commit-record}
 use Rattle.line_cases.specs.Wire.{words, wireRecord, wire}
-use Rattle.line_cases.specs.Parts.{part-rest, made, inside, zero-at, zero-32, zero-part, bits-back, table-same, words-table, set-of-page, pages-back, zero-values, one-set, no-sets, no-values, from-8}
+use Rattle.line_cases.specs.Parts.{part-rest, made, inside, zero-at, zero-32, zero-part, bits-back, table-same, words-table, set-of-page, pages-back, zero-values, one-set, no-sets, no-values, none-from-pages}
 use Rattle.line_cases.specs.Records.{record-back}
 
 -- KINDS OF 112 BYTES
 
-module _ (i k : ℕ) (m : List ℕ) (hm : Bytes m) (hl : length m ≡ 112) (own : stationOf m ≡ i) where
+module _ (i k : ℕ) (m : List ℕ) (hm : Bytes m) (hl : length m ≡ messageLength) (own : stationOf m ≡ i) where
   -- page and object are one address
   module _ (f : RequestFields m) where
     abbrev a : ℕ
@@ -45,83 +46,83 @@ module _ (i k : ℕ) (m : List ℕ) (hm : Bytes m) (hl : length m ≡ 112) (own 
     object-is = omega (arith, f .object-is)
 
   bytes-1 : kindOf m ≡ 1 → RequestFields m → m ≡ wire (upFields i k (ReadRequest (address (pageOf m) (objectOf m)) (transactionOf m)))
-  bytes-1 e f = let r = from-8 m hl (f .unnamed-8) in made m hm (omega arith) e own (page-is f) (object-is f) refl (r .0) (r .1) (r .2) (r .3)
+  bytes-1 e f = let r = none-from-pages m hl (f .unnamed-8) in made m hm (omega arith) e own (page-is f) (object-is f) refl (r .0) (r .1) (r .2) (r .3)
 
   bytes-2 : kindOf m ≡ 2 → RequestFields m → m ≡ wire (upFields i k (WriteRequest (address (pageOf m) (objectOf m)) (transactionOf m)))
-  bytes-2 e f = let r = from-8 m hl (f .unnamed-8) in made m hm (omega arith) e own (page-is f) (object-is f) refl (r .0) (r .1) (r .2) (r .3)
+  bytes-2 e f = let r = none-from-pages m hl (f .unnamed-8) in made m hm (omega arith) e own (page-is f) (object-is f) refl (r .0) (r .1) (r .2) (r .3)
 
   bytes-4 : kindOf m ≡ 4 → AbortFields m → m ≡ wire (upFields i k (Abort (transactionOf m)))
   bytes-4 e f =
-      let r = from-8 m hl (f .unnamed-8) in
-      made m hm (omega arith) e own (zero-at m 2 2 (f .unnamed-2) (omega arith)) (zero-at m 3 1 (inside m 2 2 1 1 (f .unnamed-2) (omega arith)) (omega arith)) refl
+      let r = none-from-pages m hl (f .unnamed-8) in
+      made m hm (omega arith) e own (zero-at m pageFrom (transactionFrom - pageFrom) (f .unnamed-2) (omega arith)) (zero-at m objectFrom 1 (inside m pageFrom (transactionFrom - pageFrom) objectFrom 1 (f .unnamed-2) (omega arith) (omega arith)) (omega arith)) refl
       (r .0) (r .1) (r .2) (r .3)
 
   bytes-5 : kindOf m ≡ 5 → PurgeFields m → m ≡ wire (upFields i k (Purge (pageOf m)))
   bytes-5 e f =
       let z = f .unnamed-3 in
-      let r = from-8 m hl (inside m 3 109 5 104 z (omega arith)) in
-      made m hm (omega arith) e own refl (zero-at m 3 109 z (omega arith)) (zero-32 m 4 (inside m 3 109 1 4 z (omega arith))) (r .0) (r .1) (r .2) (r .3)
+      let r = none-from-pages m hl (inside m objectFrom (messageLength - objectFrom) pagesFrom (messageLength - pagesFrom) z (omega arith) (omega arith)) in
+      made m hm (omega arith) e own refl (zero-at m objectFrom (messageLength - objectFrom) z (omega arith)) (zero-32 m transactionFrom (inside m objectFrom (messageLength - objectFrom) transactionFrom 4 z (omega arith) (omega arith))) (r .0) (r .1) (r .2) (r .3)
 
   bytes-6 : kindOf m ≡ 6 → BusyFields m → m ≡ wire (upFields i k (Busy (requesterOf m) (transactionOf m)))
   bytes-6 e f =
-      let r = from-8 m hl (f .unnamed-8) in
-      made m hm (omega arith) e own refl (zero-at m 3 1 (f .unnamed-3) (omega arith)) refl (r .0) (r .1) (r .2) (r .3)
+      let r = none-from-pages m hl (f .unnamed-8) in
+      made m hm (omega arith) e own refl (zero-at m objectFrom 1 (f .unnamed-3) (omega arith)) refl (r .0) (r .1) (r .2) (r .3)
 
   bytes-7 : kindOf m ≡ 7 → DoneFields m → m ≡ wire (upFields i k (Done (requesterOf m) (transactionOf m) (pagesIn (pagesOf m))))
   bytes-7 e f =
       let z = f .unnamed-12 in
-      made m hm (omega arith) e own refl (zero-at m 3 1 (f .unnamed-3) (omega arith)) refl (sym (pages-back m hm)) (zero-32 m 12 (inside m 12 100 0 4 z (omega arith)))
-      (no-sets m (omega arith) (inside m 12 100 4 32 z (omega arith))) (no-values m hl (inside m 12 100 36 64 z (omega arith)))
+      made m hm (omega arith) e own refl (zero-at m objectFrom 1 (f .unnamed-3) (omega arith)) refl (sym (pages-back m hm)) (zero-32 m versionFrom (inside m versionFrom (messageLength - versionFrom) versionFrom 4 z (omega arith) (omega arith)))
+      (no-sets m (omega arith) (inside m versionFrom (messageLength - versionFrom) setsFrom 32 z (omega arith) (omega arith))) (no-values m hl (inside m versionFrom (messageLength - versionFrom) valuesFrom valuesLength z (omega arith) (omega arith)))
 
   bytes-8 : kindOf m ≡ 8 → WrittenSetFields m → m ≡ wire (upFields i k (WrittenSet (pageOf m) (transactionOf m) (objectsOn (pageOf m) (setOf m 0))))
   bytes-8 e f =
       let z = f .unnamed-17 in
-      let set-is = one-set m (omega arith) (inside m 17 95 0 31 z (omega arith)) ∙ ap oneSet (sym (set-of-page (pageOf m) (setOf m 0) (byte-at m 16 hm))) in
-      made m hm (omega arith) e own refl (zero-at m 3 1 (f .unnamed-3) (omega arith)) refl (zero-32 m 8 (inside m 8 8 0 4 (f .unnamed-8) (omega arith)))
-      (zero-32 m 12 (inside m 8 8 4 4 (f .unnamed-8) (omega arith))) set-is (no-values m hl (inside m 17 95 31 64 z (omega arith)))
+      let set-is = one-set m (omega arith) (inside m secondSet (messageLength - secondSet) secondSet (valuesFrom - secondSet) z (omega arith) (omega arith)) ∙ ap oneSet (sym (set-of-page (pageOf m) (setOf m 0) (byte-at m setsFrom hm))) in
+      made m hm (omega arith) e own refl (zero-at m objectFrom 1 (f .unnamed-3) (omega arith)) refl (zero-32 m pagesFrom (inside m pagesFrom (setsFrom - pagesFrom) pagesFrom 4 (f .unnamed-8) (omega arith) (omega arith)))
+      (zero-32 m versionFrom (inside m pagesFrom (setsFrom - pagesFrom) versionFrom 4 (f .unnamed-8) (omega arith) (omega arith))) set-is (no-values m hl (inside m secondSet (messageLength - secondSet) valuesFrom valuesLength z (omega arith) (omega arith)))
 
 -- THE COMMIT: "followed by 32 versions of 4 bytes .. and a record"
 
 module _ (i k : ℕ) (m : List ℕ) (hm : Bytes m) (own : stationOf m ≡ i) (f : CommitFields k m) where
   abbrev s : List ℕ
-  s = drop 240 m
+  s = drop recordAt m
 
-  long : 240 ≤ length m
+  long : recordAt ≤ length m
   long = omega (arith, f .length-is)
 
   pages-are : pagesOf m ≡ pageSet (usedPage (workAt m))
   pages-are = sym (bits-back 32 0 (pagesOf m) (usedPage (workAt m)) ((fields-fit m hm) .pages-fit) (λ p l. ap (usedPage (workAt m)) (zero-add p) ∙ sym (f .pages-are p)))
 
-  versions-are : take 128 (drop 112 m) ≡ words 4 (table 32 0 (versionAt m))
+  versions-are : take (32 * versionWidth) (drop versionsAt m) ≡ words 4 (table 32 0 (versionAt m))
   unfolding versionAt
   versions-are =
-      sym (numbers-written 4 112 m 32 0 hm (omega (arith, long)))
-      ∙ sym (words-table 4 32 0 (λ p. numAt 4 m (112 + p * 4)))
-      ∙ ap (words 4) (table-same 32 0 (λ p. numAt 4 m (112 + p * 4)) (versionAt m) (λ p l q. rw (lt-ltb p 32 q) (sym (u32At-is m (112 + p * 4)))))
+      sym (numbers-written versionWidth versionsAt m 32 0 hm (omega (arith, long)))
+      ∙ sym (words-table 4 32 0 (λ p. numAt 4 m (versionsAt + p * versionWidth)))
+      ∙ ap (words 4) (table-same 32 0 (λ p. numAt 4 m (versionsAt + p * versionWidth)) (versionAt m) (λ p l q. rw (lt-ltb p 32 q) (sym (u32At-is m (versionsAt + p * versionWidth)))))
 
   record-is : s ≡ wireRecord (workFields i k (workAt m)) ++ []
   unfolding workAt
   record-is =
       let w = commit-record k m hm f in
-      let size : lengthOf s ≡ length s = omega (arith, f .length-is, length-drop 240 m) in
-      let back = read-written s (bytes-drop 240 m hm) (f .record-accepted) .bytes-are in
+      let size : lengthOf s ≡ length s = omega (arith, f .length-is, length-drop recordAt m) in
+      let back = read-written s (bytes-drop recordAt m hm) (f .record-accepted) .bytes-are in
       sym (take-all (lengthOf s) s (omega (arith, size)))
       ∙ sym back
       ∙ sym (record-back (recordOf s) w 0 (transactionOf m) i k (f .commit-0) (f .transaction-is) (f .station-is ∙ own) (f .kind-is))
       ∙ sym (append-nil (wireRecord (workFields i k (workAt m))))
 
-  behind-48 : drop 48 m ≡ words 8 noValues ++ (words 4 (table 32 0 (versionAt m)) ++ (wireRecord (workFields i k (workAt m)) ++ []))
-  behind-48 =
-      let zeros = inside m 12 100 36 64 (f .unnamed-12) (omega arith) in
-      let values : take 64 (drop 48 m) ≡ words 8 noValues = zero-part m 48 64 zeros (omega (arith, long)) ∙ zero-values ∙ append-nil (words 8 noValues) in
-      sym (part-rest 64 48 112 m refl) ∙ rw values (ap (λ (x : List ℕ). words 8 noValues ++ x) (sym (part-rest 128 112 240 m refl) ∙ rw (versions-are, ← record-is)))
+  behind-sets : drop valuesFrom m ≡ words 8 noValues ++ (words 4 (table 32 0 (versionAt m)) ++ (wireRecord (workFields i k (workAt m)) ++ []))
+  behind-sets =
+      let zeros = inside m versionFrom (messageLength - versionFrom) valuesFrom valuesLength (f .unnamed-12) (omega arith) (omega arith) in
+      let values : take valuesLength (drop valuesFrom m) ≡ words 8 noValues = zero-part m valuesFrom valuesLength zeros (omega (arith, long)) ∙ zero-values ∙ append-nil (words 8 noValues) in
+      sym (part-rest valuesLength valuesFrom versionsAt m refl) ∙ rw values (ap (λ (x : List ℕ). words 8 noValues ++ x) (sym (part-rest (32 * versionWidth) versionsAt recordAt m refl) ∙ rw (versions-are, ← record-is)))
 
   bytes-3 : kindOf m ≡ 3 → m ≡ wire (upFields i k (Commit (workAt m)))
   unfolding workAt
   bytes-3 e =
-      made m hm (omega (arith, long)) e own (zero-at m 2 2 (f .unnamed-2) (omega arith)) (zero-at m 3 1 (inside m 2 2 1 1 (f .unnamed-2) (omega arith)) (omega arith)) refl
-      pages-are (zero-32 m 12 (inside m 12 100 0 4 (f .unnamed-12) (omega arith))) (no-sets m (omega (arith, long)) (inside m 12 100 4 32 (f .unnamed-12) (omega arith)))
-      behind-48
+      made m hm (omega (arith, long)) e own (zero-at m pageFrom (transactionFrom - pageFrom) (f .unnamed-2) (omega arith)) (zero-at m objectFrom 1 (inside m pageFrom (transactionFrom - pageFrom) objectFrom 1 (f .unnamed-2) (omega arith) (omega arith)) (omega arith)) refl
+      pages-are (zero-32 m versionFrom (inside m versionFrom (messageLength - versionFrom) versionFrom 4 (f .unnamed-12) (omega arith) (omega arith))) (no-sets m (omega (arith, long)) (inside m versionFrom (messageLength - versionFrom) setsFrom 32 (f .unnamed-12) (omega arith) (omega arith)))
+      behind-sets
 
 -- EVERY KIND THAT THE SERVER TAKES
 
@@ -159,7 +160,7 @@ module _ (kinds : List ℕ) (i : ℕ) (m : List ℕ) (hm : Bytes m) (own : stati
       let q : c ≡ 8 = omega (arith, l7, h .kind-to, eqb-no c 7 e7) in
       bytes-8 i k m hm (short 8 q (omega arith)) own q (h .written-set q) ∙ said (up-8 m q))))))))
     where
-      short : (n : ℕ) → kindOf m ≡ n → n ≢ 3 → length m ≡ 112
+      short : (n : ℕ) → kindOf m ≡ n → n ≢ 3 → length m ≡ messageLength
       short n e d = h .length-is (λ q. d (sym e ∙ q))
 
       said : {u : Up} → upOf m ≡ u → wire (upFields i k u) ≡ wire (upFields i k (upOf m))

@@ -1,5 +1,5 @@
 -- What a message that a station takes tells of its bytes: numbers 2 to 4 are not due.
-use Prim.Native.Nat.{ℕ, suc, _+_, _*_, _^_, _≤_, _<_}
+use Prim.Native.Nat.{ℕ, suc, _+_, _-_, _*_, _^_, _≤_, _<_}
 use mathlib.Core.Path.{_≡_, refl}
 use mathlib.Core.Bool.{Bool, true, false, _&&_, cond}
 use mathlib.Core.List.{List}
@@ -13,7 +13,8 @@ use Rattle.lists.specs.Bytes.{Bytes, byte-at}
 use Rattle.le.specs.Width.{numAt-lt}
 use Rattle.le.specs.Laws.{u32At-is, u64At-is}
 use Rattle.sets.specs.Laws.{byEq, eqb-no}
-use Rattle.message.specs.Layout.{kindOf, stationOf, pageOf, requesterOf, objectOf, causeOf, transactionOf, pagesOf, versionOf, setOf, valueOf}
+use Rattle.layout.specs.Record.{valueLength}
+use Rattle.message.specs.Layout.{pageFrom, objectFrom, transactionFrom, pagesFrom, versionFrom, setsFrom, secondSet, valuesFrom, messageLength, kindOf, stationOf, pageOf, requesterOf, objectOf, causeOf, transactionOf, pagesOf, versionOf, setOf, valueOf}
 use Rattle.message.specs.Range.{zeroAt, zeros, stationOk, pageOk, objectOk, requesterOk, transactionOk, pageMessageOk, deescalateOk, callbackOk, committedOk, abortedOk, invalidateOk, downFieldsOk}
 use Rattle.message.specs.Number.{lengthOk, downRange, downNumber}
 
@@ -38,13 +39,13 @@ pub record Fits (m : List ℕ) : Type 0 where
 pub fields-fit : (m : List ℕ) → Bytes m → Fits m
 fields-fit m h =
     record {
-      page-fits = byte-at m 2 h;
-      object-fits = byte-at m 3 h;
-      transaction-fits = rw u32At-is (numAt-lt 4 m 4 h);
-      pages-fit = rw u32At-is (numAt-lt 4 m 8 h);
-      version-fits = rw u32At-is (numAt-lt 4 m 12 h);
-      set-fits = λ p. byte-at m (16 + p) h;
-      value-fits = λ o. rw u64At-is (numAt-lt 8 m (48 + o * 8) h);
+      page-fits = byte-at m pageFrom h;
+      object-fits = byte-at m objectFrom h;
+      transaction-fits = rw u32At-is (numAt-lt 4 m transactionFrom h);
+      pages-fit = rw u32At-is (numAt-lt 4 m pagesFrom h);
+      version-fits = rw u32At-is (numAt-lt 4 m versionFrom h);
+      set-fits = λ p. byte-at m (setsFrom + p) h;
+      value-fits = λ o. rw u64At-is (numAt-lt valueLength m (valuesFrom + o * valueLength) h);
     }
 
 -- what each test of a field tells
@@ -76,8 +77,8 @@ pub record PageFields (m : List ℕ) : Type 0 where
   pub page-is : pageOf m < 32
   pub object-is : objectOf m < 8
   pub transaction-not-0 : transactionOf m ≢ 0
-  pub unnamed-8 : Zero m 8 4
-  pub unnamed-17 : Zero m 17 31
+  pub unnamed-8 : Zero m pagesFrom (versionFrom - pagesFrom)
+  pub unnamed-17 : Zero m secondSet (valuesFrom - secondSet)
 
 page-fields : (m : List ℕ) → pageMessageOk m ≡ true → PageFields m
 unfolding pageMessageOk
@@ -86,16 +87,16 @@ page-fields m h =
       page-is = page-lt m (search (and-l, and-r));
       object-is = object-lt m (search (and-l, and-r));
       transaction-not-0 = transaction-named m (search (and-l, and-r));
-      unnamed-8 = zeros-are m 8 4 (search (and-l, and-r));
-      unnamed-17 = zeros-are m 17 31 (search (and-l, and-r));
+      unnamed-8 = zeros-are m pagesFrom (versionFrom - pagesFrom) (search (and-l, and-r));
+      unnamed-17 = zeros-are m secondSet (valuesFrom - secondSet) (search (and-l, and-r));
     }
 
 -- "19 de-escalate (page, transaction)"
 pub record DeescalateFields (m : List ℕ) : Type 0 where
   pub page-is : pageOf m < 32
   pub transaction-not-0 : transactionOf m ≢ 0
-  pub unnamed-3 : Zero m 3 1
-  pub unnamed-8 : Zero m 8 104
+  pub unnamed-3 : Zero m objectFrom 1
+  pub unnamed-8 : Zero m pagesFrom (messageLength - pagesFrom)
 
 deescalate-fields : (m : List ℕ) → deescalateOk m ≡ true → DeescalateFields m
 unfolding deescalateOk
@@ -103,8 +104,8 @@ deescalate-fields m h =
     record {
       page-is = page-lt m (search (and-l, and-r));
       transaction-not-0 = transaction-named m (search (and-l, and-r));
-      unnamed-3 = zeros-are m 3 1 (search (and-l, and-r));
-      unnamed-8 = zeros-are m 8 104 (search (and-l, and-r));
+      unnamed-3 = zeros-are m objectFrom 1 (search (and-l, and-r));
+      unnamed-8 = zeros-are m pagesFrom (messageLength - pagesFrom) (search (and-l, and-r));
     }
 
 -- "20 callback (requester, its transaction, object sets by page)": it comes to `at`
@@ -112,9 +113,9 @@ pub record CallbackFields (at : ℕ) (m : List ℕ) : Type 0 where
   pub requester-is : requesterOf m < 8
   pub requester-other : requesterOf m ≢ at
   pub transaction-not-0 : transactionOf m ≢ 0
-  pub unnamed-3 : Zero m 3 1
-  pub unnamed-8 : Zero m 8 8
-  pub unnamed-48 : Zero m 48 64
+  pub unnamed-3 : Zero m objectFrom 1
+  pub unnamed-8 : Zero m pagesFrom (setsFrom - pagesFrom)
+  pub unnamed-48 : Zero m valuesFrom (messageLength - valuesFrom)
 
 callback-fields : (at : ℕ) (m : List ℕ) → callbackOk at m ≡ true → CallbackFields at m
 unfolding callbackOk
@@ -123,18 +124,18 @@ callback-fields at m h =
       requester-is = requester-lt m (search (and-l, and-r) depth 7);
       requester-other = eqb-false (requesterOf m) at (not-true (eqb (requesterOf m) at) (search (and-l, and-r) depth 7));
       transaction-not-0 = transaction-named m (search (and-l, and-r));
-      unnamed-3 = zeros-are m 3 1 (search (and-l, and-r));
-      unnamed-8 = zeros-are m 8 8 (search (and-l, and-r));
-      unnamed-48 = zeros-are m 48 64 (search (and-l, and-r));
+      unnamed-3 = zeros-are m objectFrom 1 (search (and-l, and-r));
+      unnamed-8 = zeros-are m pagesFrom (setsFrom - pagesFrom) (search (and-l, and-r));
+      unnamed-48 = zeros-are m valuesFrom (messageLength - valuesFrom) (search (and-l, and-r));
     }
 
 -- "21 committed (transaction, commit number)"
 pub record CommittedFields (m : List ℕ) : Type 0 where
   pub transaction-not-0 : transactionOf m ≢ 0
   pub number-not-0 : versionOf m ≢ 0
-  pub unnamed-2 : Zero m 2 2
-  pub unnamed-8 : Zero m 8 4
-  pub unnamed-16 : Zero m 16 96
+  pub unnamed-2 : Zero m pageFrom (transactionFrom - pageFrom)
+  pub unnamed-8 : Zero m pagesFrom (versionFrom - pagesFrom)
+  pub unnamed-16 : Zero m setsFrom (messageLength - setsFrom)
 
 committed-fields : (m : List ℕ) → committedOk m ≡ true → CommittedFields m
 unfolding committedOk
@@ -142,9 +143,9 @@ committed-fields m h =
     record {
       transaction-not-0 = transaction-named m (search (and-l, and-r));
       number-not-0 = eqb-false (versionOf m) 0 (not-true (eqb (versionOf m) 0) (search (and-l, and-r)));
-      unnamed-2 = zeros-are m 2 2 (search (and-l, and-r));
-      unnamed-8 = zeros-are m 8 4 (search (and-l, and-r));
-      unnamed-16 = zeros-are m 16 96 (search (and-l, and-r));
+      unnamed-2 = zeros-are m pageFrom (transactionFrom - pageFrom) (search (and-l, and-r));
+      unnamed-8 = zeros-are m pagesFrom (versionFrom - pagesFrom) (search (and-l, and-r));
+      unnamed-16 = zeros-are m setsFrom (messageLength - setsFrom) (search (and-l, and-r));
     }
 
 -- "22 aborted (transaction, cause)"
@@ -152,8 +153,8 @@ pub record AbortedFields (m : List ℕ) : Type 0 where
   pub cause-not-0 : causeOf m ≢ 0
   pub cause-is : causeOf m ≤ 4
   pub transaction-not-0 : transactionOf m ≢ 0
-  pub unnamed-2 : Zero m 2 1
-  pub unnamed-8 : Zero m 8 104
+  pub unnamed-2 : Zero m pageFrom 1
+  pub unnamed-8 : Zero m pagesFrom (messageLength - pagesFrom)
 
 aborted-fields : (m : List ℕ) → abortedOk m ≡ true → AbortedFields m
 unfolding abortedOk
@@ -163,24 +164,24 @@ aborted-fields m h =
       cause-not-0 = omega arith;
       cause-is = leb-true (causeOf m) 4 (search (and-l, and-r));
       transaction-not-0 = transaction-named m (search (and-l, and-r));
-      unnamed-2 = zeros-are m 2 1 (search (and-l, and-r));
-      unnamed-8 = zeros-are m 8 104 (search (and-l, and-r));
+      unnamed-2 = zeros-are m pageFrom 1 (search (and-l, and-r));
+      unnamed-8 = zeros-are m pagesFrom (messageLength - pagesFrom) (search (and-l, and-r));
     }
 
 -- "23 invalidate (page set)"
 pub record InvalidateFields (m : List ℕ) : Type 0 where
-  pub unnamed-2 : Zero m 2 6
-  pub unnamed-12 : Zero m 12 100
+  pub unnamed-2 : Zero m pageFrom (pagesFrom - pageFrom)
+  pub unnamed-12 : Zero m versionFrom (messageLength - versionFrom)
 
 invalidate-fields : (m : List ℕ) → invalidateOk m ≡ true → InvalidateFields m
 unfolding invalidateOk
 invalidate-fields m h =
-    record { unnamed-2 = zeros-are m 2 6 (and-l (zeros m 2 6) (zeros m 12 100) h); unnamed-12 = zeros-are m 12 100 (and-r (zeros m 2 6) (zeros m 12 100) h) }
+    record { unnamed-2 = zeros-are m pageFrom (pagesFrom - pageFrom) (and-l (zeros m pageFrom (pagesFrom - pageFrom)) (zeros m versionFrom (messageLength - versionFrom)) h); unnamed-12 = zeros-are m versionFrom (messageLength - versionFrom) (and-r (zeros m pageFrom (pagesFrom - pageFrom)) (zeros m versionFrom (messageLength - versionFrom)) h) }
 
 -- WHAT A STATION TAKES
 
 pub record DownAccepted (at : ℕ) (m : List ℕ) : Type 0 where
-  pub length-is : length m ≡ 112
+  pub length-is : length m ≡ messageLength
   pub at-is : at < 8
   pub station-is : stationOf m < 8
   pub kind-from : 16 ≤ kindOf m
@@ -194,9 +195,9 @@ pub record DownAccepted (at : ℕ) (m : List ℕ) : Type 0 where
   pub invalidate : kindOf m ≡ 23 → InvalidateFields m
 
 -- no commit comes to a station
-length-down : (m : List ℕ) → 16 ≤ kindOf m → lengthOk m ≡ true → length m ≡ 112
+length-down : (m : List ℕ) → 16 ≤ kindOf m → lengthOk m ≡ true → length m ≡ messageLength
 unfolding lengthOk
-length-down m k h = eqb-true (length m) 112 (rw (ne-eqb (kindOf m) 3 (λ e. omega arith)) at h)
+length-down m k h = eqb-true (length m) messageLength (rw (ne-eqb (kindOf m) 3 (λ e. omega arith)) at h)
 
 page-kind : (at : ℕ) (m : List ℕ) → 16 ≤ kindOf m → kindOf m ≤ 18 → downFieldsOk at m ≡ true → PageFields m
 unfolding downFieldsOk

@@ -9,29 +9,30 @@ use lib.Dec.{eqb, leb}
 use borrow.Author.Tests.{eqb-true, leb-true, eq-eqb}
 use Rattle.lists.specs.Tests.{allTo, and-l, and-r}
 use Rattle.le.specs.Le.{u16At}
-use Rattle.layout.specs.Record.{recordLength}
-use Rattle.message.specs.Layout.{kindOf, stationOf}
+use Rattle.layout.specs.Record.{entryLength, recordLength}
+use Rattle.record.specs.Check.{readCountFrom, writeCountFrom}
+use Rattle.message.specs.Layout.{messageLength, kindOf, stationOf}
 use Rattle.message.specs.Range.{stationOk, upFieldsOk}
-use Rattle.message.specs.Commit.{entriesOf, commitLengthOk}
+use Rattle.message.specs.Commit.{recordAt, addressesAt, entriesOf, commitLengthOk}
 use Rattle.message.specs.Number.{lengthOk, upRange, kindOk, kindsOk}
 
-pub commit-length : (m : List ℕ) → commitLengthOk m ≡ true → length m ≡ 256 + 9 * entriesOf m
+pub commit-length : (m : List ℕ) → commitLengthOk m ≡ true → length m ≡ addressesAt + entryLength * entriesOf m
 unfolding commitLengthOk
 commit-length m h =
-    let l = 240 + recordLength (u16At m 240) (u16At m 242) in
-    omega (arith, eqb-true (length m) l (and-r (leb 256 (length m)) (eqb (length m) l) h))
+    let l = recordAt + recordLength (u16At m (recordAt + readCountFrom)) (u16At m (recordAt + writeCountFrom)) in
+    omega (arith, eqb-true (length m) l (and-r (leb addressesAt (length m)) (eqb (length m) l) h))
 
-pub commit-there : (m : List ℕ) → lengthOk m ≡ true → kindOf m ≡ 3 → length m ≡ 256 + 9 * entriesOf m
+pub commit-there : (m : List ℕ) → lengthOk m ≡ true → kindOf m ≡ 3 → length m ≡ addressesAt + entryLength * entriesOf m
 unfolding lengthOk
 commit-there m h e = commit-length m (simp (eq-eqb (kindOf m) 3 e) at h)
 
-pub message-there : (m : List ℕ) → lengthOk m ≡ true → 112 ≤ length m
+pub message-there : (m : List ℕ) → lengthOk m ≡ true → messageLength ≤ length m
 unfolding lengthOk
 message-there m h = by-kind (eqb (kindOf m) 3) h
   where
-    by-kind : (b : Bool) → cond b (commitLengthOk m) (eqb (length m) 112) ≡ true → 112 ≤ length m
+    by-kind : (b : Bool) → cond b (commitLengthOk m) (eqb (length m) messageLength) ≡ true → messageLength ≤ length m
     by-kind true e = omega (arith, commit-length m e)
-    by-kind false e = omega (arith, eqb-true (length m) 112 e)
+    by-kind false e = omega (arith, eqb-true (length m) messageLength e)
 
 pub kinds-there : (kinds : List ℕ) → kindsOk kinds ≡ true → length kinds ≡ 8
 unfolding kindsOk

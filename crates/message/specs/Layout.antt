@@ -4,47 +4,81 @@ use mathlib.Core.List.{List, [], _∷_, _++_}
 use lib.ListN.{getD, replicate}
 use Rattle.le.specs.Le.{u32At, u64At}
 use Rattle.le.specs.Width.{bytes}
+use Rattle.layout.specs.Record.{valueLength}
 
--- "Byte 0 kind, 1 station on the line"
+-- "Byte 0 kind, 1 station on the line, 2 page or requester, 3 object or cause, 4–7 transaction, 8–11 page set, 12–15 version or commit
+-- number, 16–47 object sets by page (one set of a single page: byte 16), 48–111 eight values": where each stands
+abbrev pub kindFrom : ℕ
+kindFrom = 0
+
+abbrev pub stationFrom : ℕ
+stationFrom = kindFrom + 1
+
+abbrev pub pageFrom : ℕ
+pageFrom = stationFrom + 1
+
+abbrev pub objectFrom : ℕ
+objectFrom = pageFrom + 1
+
+abbrev pub transactionFrom : ℕ
+transactionFrom = objectFrom + 1
+
+abbrev pub pagesFrom : ℕ
+pagesFrom = transactionFrom + 4
+
+abbrev pub versionFrom : ℕ
+versionFrom = pagesFrom + 4
+
+abbrev pub setsFrom : ℕ
+setsFrom = versionFrom + 4
+
+-- behind one set of a single page
+abbrev pub secondSet : ℕ
+secondSet = setsFrom + 1
+
+abbrev pub valuesFrom : ℕ
+valuesFrom = setsFrom + 32
+
+abbrev pub valuesLength : ℕ
+valuesLength = 8 * valueLength
+
+abbrev pub messageLength : ℕ
+messageLength = valuesFrom + valuesLength
+
 abbrev pub kindOf : List ℕ → ℕ
-kindOf m = getD m 0 0
+kindOf m = getD m kindFrom 0
 
 abbrev pub stationOf : List ℕ → ℕ
-stationOf m = getD m 1 0
+stationOf m = getD m stationFrom 0
 
--- "2 page or requester"
 abbrev pub pageOf : List ℕ → ℕ
-pageOf m = getD m 2 0
+pageOf m = getD m pageFrom 0
 
 abbrev pub requesterOf : List ℕ → ℕ
-requesterOf m = getD m 2 0
+requesterOf m = getD m pageFrom 0
 
--- "3 object or cause"
 abbrev pub objectOf : List ℕ → ℕ
-objectOf m = getD m 3 0
+objectOf m = getD m objectFrom 0
 
 abbrev pub causeOf : List ℕ → ℕ
-causeOf m = getD m 3 0
+causeOf m = getD m objectFrom 0
 
--- "4–7 transaction, 8–11 page set, 12–15 version or commit number"
 abbrev pub transactionOf : List ℕ → ℕ
-transactionOf m = u32At m 4
+transactionOf m = u32At m transactionFrom
 
 abbrev pub pagesOf : List ℕ → ℕ
-pagesOf m = u32At m 8
+pagesOf m = u32At m pagesFrom
 
 abbrev pub versionOf : List ℕ → ℕ
-versionOf m = u32At m 12
+versionOf m = u32At m versionFrom
 
--- "16–47 object sets by page (one set of a single page: byte 16)"
 abbrev pub setOf : List ℕ → ℕ → ℕ
-setOf m p = getD m (16 + p) 0
+setOf m p = getD m (setsFrom + p) 0
 
--- "48–111 eight values"
 abbrev pub valueOf : List ℕ → ℕ → ℕ
-valueOf m o = u64At m (48 + o * 8)
+valueOf m o = u64At m (valuesFrom + o * valueLength)
 
--- a message of these fields: `sets` are 32 bytes, `values` 64
+-- a message of these fields: `sets` are 32 bytes, `values` eight numbers
 unfoldable pub message : ℕ → ℕ → ℕ → ℕ → ℕ → ℕ → ℕ → List ℕ → List ℕ → List ℕ
 message kind station page object transaction pages version sets values =
     kind ∷ station ∷ page ∷ object ∷ (bytes 4 transaction ++ (bytes 4 pages ++ (bytes 4 version ++ (sets ++ values))))
@@ -56,4 +90,4 @@ single x = x ∷ replicate 31 0
 -- what stations send: no version and no values; "Fields that a kind doesn't name are 0"
 abbrev pub upMessage : ℕ → ℕ → ℕ → ℕ → ℕ → ℕ → ℕ → List ℕ
 upMessage kind station page object transaction pages set =
-    message kind station page object transaction pages 0 (single set) (replicate 64 0)
+    message kind station page object transaction pages 0 (single set) (replicate valuesLength 0)

@@ -5,13 +5,13 @@ use mathlib.Core.Bool.{Bool, _&&_, cond}
 use lib.ListN.{length, getD}
 use lib.Dec.{eqb, leb}
 use Rattle.lists.specs.Tests.{allTo}
-use Rattle.message.specs.Layout.{kindOf, stationOf}
+use Rattle.message.specs.Layout.{messageLength, kindOf, stationOf}
 use Rattle.message.specs.Range.{stationOk, upFieldsOk, downFieldsOk}
 use Rattle.message.specs.Commit.{commitLengthOk, commitNumber}
 
 -- number 2: "a message isn't 112 bytes, or a commit isn't 240 and its record's length"; kind 3 makes a commit, at either end
 unfoldable pub lengthOk : List ℕ → Bool
-lengthOk m = cond (eqb (kindOf m) 3) (commitLengthOk m) (eqb (length m) 112)
+lengthOk m = cond (eqb (kindOf m) 3) (commitLengthOk m) (eqb (length m) messageLength)
 
 -- numbers 3 and 4: "this end doesn't take the kind", then the fields
 unfoldable pub upRange : List ℕ → ℕ

@@ -1,12 +1,12 @@
 -- Number 4: "a station, page, object, requester or cause lies outside its range, a callback's requester is the station it comes to,
 -- a named transaction or commit is 0, or an unnamed field isn't 0". One test for each form of message, by the fields that it names.
-use Prim.Native.Nat.{ℕ, _+_}
+use Prim.Native.Nat.{ℕ, _+_, _-_}
 use mathlib.Core.List.{List}
 use mathlib.Core.Bool.{Bool, false, not, _&&_, cond}
 use lib.ListN.{getD}
 use lib.Dec.{eqb, leb}
 use Rattle.lists.specs.Tests.{allTo}
-use Rattle.message.specs.Layout.{kindOf, stationOf, pageOf, requesterOf, objectOf, causeOf, transactionOf, versionOf}
+use Rattle.message.specs.Layout.{pageFrom, objectFrom, transactionFrom, pagesFrom, versionFrom, setsFrom, secondSet, valuesFrom, messageLength, kindOf, stationOf, pageOf, requesterOf, objectOf, causeOf, transactionOf, versionOf}
 
 unfoldable pub zeroAt : List ℕ → ℕ → ℕ → Bool
 zeroAt m a i = eqb (getD m (a + i) 0) 0
@@ -34,57 +34,57 @@ transactionOk m = not (eqb (transactionOf m) 0)
 
 -- 1 and 2: page, object, transaction
 unfoldable pub requestOk : List ℕ → Bool
-requestOk m = pageOk m && objectOk m && transactionOk m && zeros m 8 104
+requestOk m = pageOk m && objectOk m && transactionOk m && zeros m pagesFrom (messageLength - pagesFrom)
 
 -- 3: transaction, set of pages used
 unfoldable pub commitOk : List ℕ → Bool
-commitOk m = zeros m 2 2 && transactionOk m && zeros m 12 100
+commitOk m = zeros m pageFrom (transactionFrom - pageFrom) && transactionOk m && zeros m versionFrom (messageLength - versionFrom)
 
 -- 4: transaction
 unfoldable pub abortOk : List ℕ → Bool
-abortOk m = zeros m 2 2 && transactionOk m && zeros m 8 104
+abortOk m = zeros m pageFrom (transactionFrom - pageFrom) && transactionOk m && zeros m pagesFrom (messageLength - pagesFrom)
 
 -- 5: page
 unfoldable pub purgeOk : List ℕ → Bool
-purgeOk m = pageOk m && zeros m 3 109
+purgeOk m = pageOk m && zeros m objectFrom (messageLength - objectFrom)
 
 -- 6: requester, its transaction
 unfoldable pub busyOk : List ℕ → Bool
-busyOk m = requesterOk m && zeros m 3 1 && transactionOk m && zeros m 8 104
+busyOk m = requesterOk m && zeros m objectFrom 1 && transactionOk m && zeros m pagesFrom (messageLength - pagesFrom)
 
 -- 7: the same, and the set of dropped pages
 unfoldable pub doneOk : List ℕ → Bool
-doneOk m = requesterOk m && zeros m 3 1 && transactionOk m && zeros m 12 100
+doneOk m = requesterOk m && zeros m objectFrom 1 && transactionOk m && zeros m versionFrom (messageLength - versionFrom)
 
 -- 8: page, transaction, set
 unfoldable pub writtenSetOk : List ℕ → Bool
-writtenSetOk m = pageOk m && zeros m 3 1 && transactionOk m && zeros m 8 8 && zeros m 17 95
+writtenSetOk m = pageOk m && zeros m objectFrom 1 && transactionOk m && zeros m pagesFrom (setsFrom - pagesFrom) && zeros m secondSet (messageLength - secondSet)
 
 -- down
 
 -- 16, 17 and 18: page, object, transaction, version, unavailable set, values
 unfoldable pub pageMessageOk : List ℕ → Bool
-pageMessageOk m = pageOk m && objectOk m && transactionOk m && zeros m 8 4 && zeros m 17 31
+pageMessageOk m = pageOk m && objectOk m && transactionOk m && zeros m pagesFrom (versionFrom - pagesFrom) && zeros m secondSet (valuesFrom - secondSet)
 
 -- 19: page, transaction
 unfoldable pub deescalateOk : List ℕ → Bool
-deescalateOk m = pageOk m && zeros m 3 1 && transactionOk m && zeros m 8 104
+deescalateOk m = pageOk m && zeros m objectFrom 1 && transactionOk m && zeros m pagesFrom (messageLength - pagesFrom)
 
 -- 20: requester, its transaction, object sets by page; at is the station it comes to
 unfoldable pub callbackOk : ℕ → List ℕ → Bool
-callbackOk at m = requesterOk m && not (eqb (requesterOf m) at) && zeros m 3 1 && transactionOk m && zeros m 8 8 && zeros m 48 64
+callbackOk at m = requesterOk m && not (eqb (requesterOf m) at) && zeros m objectFrom 1 && transactionOk m && zeros m pagesFrom (setsFrom - pagesFrom) && zeros m valuesFrom (messageLength - valuesFrom)
 
 -- 21: transaction, commit number
 unfoldable pub committedOk : List ℕ → Bool
-committedOk m = zeros m 2 2 && transactionOk m && zeros m 8 4 && not (eqb (versionOf m) 0) && zeros m 16 96
+committedOk m = zeros m pageFrom (transactionFrom - pageFrom) && transactionOk m && zeros m pagesFrom (versionFrom - pagesFrom) && not (eqb (versionOf m) 0) && zeros m setsFrom (messageLength - setsFrom)
 
 -- 22: transaction, cause ("Causes are 1 to 4")
 unfoldable pub abortedOk : List ℕ → Bool
-abortedOk m = zeros m 2 1 && leb 1 (causeOf m) && leb (causeOf m) 4 && transactionOk m && zeros m 8 104
+abortedOk m = zeros m pageFrom 1 && leb 1 (causeOf m) && leb (causeOf m) 4 && transactionOk m && zeros m pagesFrom (messageLength - pagesFrom)
 
 -- 23: page set
 unfoldable pub invalidateOk : List ℕ → Bool
-invalidateOk m = zeros m 2 6 && zeros m 12 100
+invalidateOk m = zeros m pageFrom (pagesFrom - pageFrom) && zeros m versionFrom (messageLength - versionFrom)
 
 -- "Kinds 1 to 8 go to the server": an arm for each
 unfoldable pub upFieldsOk : List ℕ → Bool

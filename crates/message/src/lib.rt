@@ -4,12 +4,90 @@ ghost use Prim.Native.Nat.{_+_, _^_, _≤_, _<_};
 ghost use lib.ListN.{length, replicate};
 ghost use lib.Seq.{sets};
 ghost use mathlib.Core.Bool.{cond};
-ghost use Rattle.message.specs.Layout.{kindOf, message as Layout·message, upMessage};
+ghost use Rattle.message.specs.Layout.{setsFrom, valuesLength, messageLength, kindOf, message as Layout·message, upMessage};
 ghost use Rattle.message.specs.Range.{zeroAt, zeros as Range·zeros, requestOk, commitOk, abortOk, purgeOk, busyOk, doneOk, writtenSetOk, pageMessageOk, deescalateOk, callbackOk, committedOk, abortedOk, invalidateOk, upFieldsOk, downFieldsOk};
-ghost use Rattle.message.specs.Commit.{entriesOf, commitLengthOk, versionOk, pagesTo, recordAgrees, commitNumber};
+ghost use Rattle.message.specs.Commit.{recordAt, addressesAt, entriesOf, commitLengthOk, versionOk, pagesTo, recordAgrees, commitNumber};
 ghost use Rattle.message.specs.Number.{lengthOk, upRange, downRange, downNumber, kindOk, kindsOk, upNumber};
 ghost use Rattle.lists.specs.Tests.{allTo};
 ghost use Rattle.message.specs.Stores.{cleared, front};
+
+// Document 01, "Messages, 112 bytes": where each field stands. A message starts with its kind; PAGE is also the requester's place and
+// OBJECT the cause's.
+pub const KIND: usize = 0;
+
+pub const STATION: usize = KIND + 1;
+
+pub const PAGE: usize = STATION + 1;
+
+pub const OBJECT: usize = PAGE + 1;
+
+pub const TRANSACTION: usize = OBJECT + 1;
+
+pub const PAGES: usize = TRANSACTION + 4;
+
+pub const VERSION: usize = PAGES + 4;
+
+pub const SETS: usize = VERSION + 4;
+
+pub const VALUES: usize = SETS + 32;
+
+pub const LENGTH: usize = VALUES + 8 * record::VALUE;
+
+// "A commit is followed by 32 versions of 4 bytes .. and a record": where these stand, the record's fields and its addresses.
+pub const VERSIONS: usize = LENGTH;
+
+pub const VERSION_WIDTH: usize = 4;
+
+pub const RECORD: usize = VERSIONS + 32 * VERSION_WIDTH;
+
+pub const RECORD_READS: usize = RECORD + record::READS;
+
+pub const RECORD_WRITES: usize = RECORD + record::WRITES;
+
+pub const RECORD_COMMIT: usize = RECORD + record::COMMIT;
+
+pub const RECORD_TRANSACTION: usize = RECORD + record::TRANSACTION;
+
+pub const RECORD_STATION: usize = RECORD + record::STATION;
+
+pub const RECORD_KIND: usize = RECORD + record::KIND;
+
+pub const ADDRESSES: usize = RECORD + record::HEADER;
+
+// What number 1 asks of outputs: "8 messages and 4,864 commit bytes (station)", "128 messages and 36,992 record bytes (server)".
+pub const STATION_ROOM: usize = 8 * LENGTH;
+
+pub const COMMIT_ROOM: usize = RECORD + record::LONGEST;
+
+pub const SERVER_ROOM: usize = 128 * LENGTH;
+
+pub const RECORDS_ROOM: usize = 8 * record::LONGEST;
+
+// Runs of fields that a kind may leave unnamed: page and object, page to transaction, the page set with or without the version, all
+// sets but the first, and what stands from a field to the end.
+const PAGE_OBJECT: usize = TRANSACTION - PAGE;
+
+const PAGE_TRANSACTION: usize = PAGES - PAGE;
+
+const PAGES_ALONE: usize = VERSION - PAGES;
+
+const PAGES_VERSION: usize = SETS - PAGES;
+
+const SECOND_SET: usize = SETS + 1;
+
+const OTHER_SETS: usize = VALUES - SECOND_SET;
+
+const FROM_OBJECT: usize = LENGTH - OBJECT;
+
+const FROM_PAGES: usize = LENGTH - PAGES;
+
+const FROM_VERSION: usize = LENGTH - VERSION;
+
+const FROM_SETS: usize = LENGTH - SETS;
+
+const FROM_SECOND_SET: usize = LENGTH - SECOND_SET;
+
+const FROM_VALUES: usize = LENGTH - VALUES;
 
 // Writes 0 to the n bytes from `at`.
 fn zero(o: &mut [u8], at: usize, n: usize)
@@ -23,7 +101,7 @@ fn zero(o: &mut [u8], at: usize, n: usize)
     }
 }
 
-// Writes the first 16 bytes of a message.
+// Writes the fields of a message in front of its sets.
 fn put_front(
     o: &mut [u8],
     at: usize,
@@ -35,16 +113,16 @@ fn put_front(
     pages: u32,
     version: u32,
 )
-    requires { ⌜ at + 16 ≤ length (now o) ⌝ }
+    requires { ⌜ at + setsFrom ≤ length (now o) ⌝ }
     ensures { λ _. ⌜ now (o .exit) ≡ sets (now (o .entry)) at (front kind station page object transaction pages version) ⌝ }
 {
     le::put_u8(o, at, kind);
-    le::put_u8(o, at + 1, station);
-    le::put_u8(o, at + 2, page);
-    le::put_u8(o, at + 3, object);
-    le::put_u32(o, at + 4, transaction);
-    le::put_u32(o, at + 8, pages);
-    le::put_u32(o, at + 12, version);
+    le::put_u8(o, at + STATION, station);
+    le::put_u8(o, at + PAGE, page);
+    le::put_u8(o, at + OBJECT, object);
+    le::put_u32(o, at + TRANSACTION, transaction);
+    le::put_u32(o, at + PAGES, pages);
+    le::put_u32(o, at + VERSION, version);
 }
 
 // Writes a message without sets and values. `page` is the requester and `object` the cause in the kinds that have those.
@@ -59,8 +137,8 @@ pub fn put_message(
     pages: u32,
     version: u32,
 )
-    requires { ⌜ at + 112 ≤ length (now o) ⌝ }
-    ensures { λ _. ⌜ now (o .exit) ≡ sets (now (o .entry)) at (Layout·message kind station page object transaction pages version (replicate 32 0) (replicate 64 0)) ⌝ }
+    requires { ⌜ at + messageLength ≤ length (now o) ⌝ }
+    ensures { λ _. ⌜ now (o .exit) ≡ sets (now (o .entry)) at (Layout·message kind station page object transaction pages version (replicate 32 0) (replicate valuesLength 0)) ⌝ }
 {
     put_front(
         o,
@@ -73,7 +151,7 @@ pub fn put_message(
         pages,
         version,
     );
-    zero(o, at + 16, 96);
+    zero(o, at + SETS, FROM_SETS);
 }
 
 // Writes a message of a station: no version and no values, and `set` the one set of a single page.
@@ -88,12 +166,12 @@ pub fn put_up(
     pages: u32,
     set: u8,
 )
-    requires { ⌜ at + 112 ≤ length (now o) ⌝ }
+    requires { ⌜ at + messageLength ≤ length (now o) ⌝ }
     ensures { λ _. ⌜ now (o .exit) ≡ sets (now (o .entry)) at (upMessage kind station page object transaction pages set) ⌝ }
 {
     put_front(o, at, kind, station, page, object, transaction, pages, 0);
-    le::put_u8(o, at + 16, set);
-    zero(o, at + 17, 95);
+    le::put_u8(o, at + SETS, set);
+    zero(o, at + SECOND_SET, FROM_SECOND_SET);
 }
 
 fn zero_at(m: &[u8], a: usize, i: usize) -> bool
@@ -119,111 +197,137 @@ fn zeros(m: &[u8], a: usize, n: usize) -> bool
 
 // One function for each form: the fields that it names are in range, the others 0.
 fn request_ok(m: &[u8]) -> bool
-    requires { ⌜ 112 ≤ length (now m) ⌝ }
+    requires { ⌜ messageLength ≤ length (now m) ⌝ }
     ensures { λ r. ⌜ r ≡ requestOk (now (m .entry)) ⌝ }
 {
-    (m[2] <= 31) & (m[3] <= 7) & (le::get_u32(m, 4) != 0) & zeros(m, 8, 104)
+    (m[PAGE] <= 31)
+        & (m[OBJECT] <= 7)
+        & (le::get_u32(m, TRANSACTION) != 0)
+        & zeros(m, PAGES, FROM_PAGES)
 }
 
 fn commit_ok(m: &[u8]) -> bool
-    requires { ⌜ 112 ≤ length (now m) ⌝ }
+    requires { ⌜ messageLength ≤ length (now m) ⌝ }
     ensures { λ r. ⌜ r ≡ commitOk (now (m .entry)) ⌝ }
 {
-    zeros(m, 2, 2) & (le::get_u32(m, 4) != 0) & zeros(m, 12, 100)
+    zeros(m, PAGE, PAGE_OBJECT)
+        & (le::get_u32(m, TRANSACTION) != 0)
+        & zeros(m, VERSION, FROM_VERSION)
 }
 
 fn abort_ok(m: &[u8]) -> bool
-    requires { ⌜ 112 ≤ length (now m) ⌝ }
+    requires { ⌜ messageLength ≤ length (now m) ⌝ }
     ensures { λ r. ⌜ r ≡ abortOk (now (m .entry)) ⌝ }
 {
-    zeros(m, 2, 2) & (le::get_u32(m, 4) != 0) & zeros(m, 8, 104)
+    zeros(m, PAGE, PAGE_OBJECT) & (le::get_u32(m, TRANSACTION) != 0) & zeros(m, PAGES, FROM_PAGES)
 }
 
 fn purge_ok(m: &[u8]) -> bool
-    requires { ⌜ 112 ≤ length (now m) ⌝ }
+    requires { ⌜ messageLength ≤ length (now m) ⌝ }
     ensures { λ r. ⌜ r ≡ purgeOk (now (m .entry)) ⌝ }
 {
-    (m[2] <= 31) & zeros(m, 3, 109)
+    (m[PAGE] <= 31) & zeros(m, OBJECT, FROM_OBJECT)
 }
 
 fn busy_ok(m: &[u8]) -> bool
-    requires { ⌜ 112 ≤ length (now m) ⌝ }
+    requires { ⌜ messageLength ≤ length (now m) ⌝ }
     ensures { λ r. ⌜ r ≡ busyOk (now (m .entry)) ⌝ }
 {
-    (m[2] <= 7) & zeros(m, 3, 1) & (le::get_u32(m, 4) != 0) & zeros(m, 8, 104)
+    (m[PAGE] <= 7)
+        & zeros(m, OBJECT, 1)
+        & (le::get_u32(m, TRANSACTION) != 0)
+        & zeros(m, PAGES, FROM_PAGES)
 }
 
 fn done_ok(m: &[u8]) -> bool
-    requires { ⌜ 112 ≤ length (now m) ⌝ }
+    requires { ⌜ messageLength ≤ length (now m) ⌝ }
     ensures { λ r. ⌜ r ≡ doneOk (now (m .entry)) ⌝ }
 {
-    (m[2] <= 7) & zeros(m, 3, 1) & (le::get_u32(m, 4) != 0) & zeros(m, 12, 100)
+    (m[PAGE] <= 7)
+        & zeros(m, OBJECT, 1)
+        & (le::get_u32(m, TRANSACTION) != 0)
+        & zeros(m, VERSION, FROM_VERSION)
 }
 
 fn written_set_ok(m: &[u8]) -> bool
-    requires { ⌜ 112 ≤ length (now m) ⌝ }
+    requires { ⌜ messageLength ≤ length (now m) ⌝ }
     ensures { λ r. ⌜ r ≡ writtenSetOk (now (m .entry)) ⌝ }
 {
-    (m[2] <= 31) & zeros(m, 3, 1) & (le::get_u32(m, 4) != 0) & zeros(m, 8, 8) & zeros(m, 17, 95)
+    (m[PAGE] <= 31)
+        & zeros(m, OBJECT, 1)
+        & (le::get_u32(m, TRANSACTION) != 0)
+        & zeros(m, PAGES, PAGES_VERSION)
+        & zeros(m, SECOND_SET, FROM_SECOND_SET)
 }
 
 fn page_message_ok(m: &[u8]) -> bool
-    requires { ⌜ 112 ≤ length (now m) ⌝ }
+    requires { ⌜ messageLength ≤ length (now m) ⌝ }
     ensures { λ r. ⌜ r ≡ pageMessageOk (now (m .entry)) ⌝ }
 {
-    (m[2] <= 31) & (m[3] <= 7) & (le::get_u32(m, 4) != 0) & zeros(m, 8, 4) & zeros(m, 17, 31)
+    (m[PAGE] <= 31)
+        & (m[OBJECT] <= 7)
+        & (le::get_u32(m, TRANSACTION) != 0)
+        & zeros(m, PAGES, PAGES_ALONE)
+        & zeros(m, SECOND_SET, OTHER_SETS)
 }
 
 fn deescalate_ok(m: &[u8]) -> bool
-    requires { ⌜ 112 ≤ length (now m) ⌝ }
+    requires { ⌜ messageLength ≤ length (now m) ⌝ }
     ensures { λ r. ⌜ r ≡ deescalateOk (now (m .entry)) ⌝ }
 {
-    (m[2] <= 31) & zeros(m, 3, 1) & (le::get_u32(m, 4) != 0) & zeros(m, 8, 104)
+    (m[PAGE] <= 31)
+        & zeros(m, OBJECT, 1)
+        & (le::get_u32(m, TRANSACTION) != 0)
+        & zeros(m, PAGES, FROM_PAGES)
 }
 
 fn callback_ok(at: u32, m: &[u8]) -> bool
-    requires { ⌜ 112 ≤ length (now m) ⌝ }
+    requires { ⌜ messageLength ≤ length (now m) ⌝ }
     ensures { λ r. ⌜ r ≡ callbackOk at (now (m .entry)) ⌝ }
 {
-    (m[2] <= 7)
-        & (le::wide(m[2]) != at)
-        & zeros(m, 3, 1)
-        & (le::get_u32(m, 4) != 0)
-        & zeros(m, 8, 8)
-        & zeros(m, 48, 64)
+    (m[PAGE] <= 7)
+        & (le::wide(m[PAGE]) != at)
+        & zeros(m, OBJECT, 1)
+        & (le::get_u32(m, TRANSACTION) != 0)
+        & zeros(m, PAGES, PAGES_VERSION)
+        & zeros(m, VALUES, FROM_VALUES)
 }
 
 fn committed_ok(m: &[u8]) -> bool
-    requires { ⌜ 112 ≤ length (now m) ⌝ }
+    requires { ⌜ messageLength ≤ length (now m) ⌝ }
     ensures { λ r. ⌜ r ≡ committedOk (now (m .entry)) ⌝ }
 {
-    zeros(m, 2, 2)
-        & (le::get_u32(m, 4) != 0)
-        & zeros(m, 8, 4)
-        & (le::get_u32(m, 12) != 0)
-        & zeros(m, 16, 96)
+    zeros(m, PAGE, PAGE_OBJECT)
+        & (le::get_u32(m, TRANSACTION) != 0)
+        & zeros(m, PAGES, PAGES_ALONE)
+        & (le::get_u32(m, VERSION) != 0)
+        & zeros(m, SETS, FROM_SETS)
 }
 
 fn aborted_ok(m: &[u8]) -> bool
-    requires { ⌜ 112 ≤ length (now m) ⌝ }
+    requires { ⌜ messageLength ≤ length (now m) ⌝ }
     ensures { λ r. ⌜ r ≡ abortedOk (now (m .entry)) ⌝ }
 {
-    zeros(m, 2, 1) & (1 <= m[3]) & (m[3] <= 4) & (le::get_u32(m, 4) != 0) & zeros(m, 8, 104)
+    zeros(m, PAGE, 1)
+        & (1 <= m[OBJECT])
+        & (m[OBJECT] <= 4)
+        & (le::get_u32(m, TRANSACTION) != 0)
+        & zeros(m, PAGES, FROM_PAGES)
 }
 
 fn invalidate_ok(m: &[u8]) -> bool
-    requires { ⌜ 112 ≤ length (now m) ⌝ }
+    requires { ⌜ messageLength ≤ length (now m) ⌝ }
     ensures { λ r. ⌜ r ≡ invalidateOk (now (m .entry)) ⌝ }
 {
-    zeros(m, 2, 6) & zeros(m, 12, 100)
+    zeros(m, PAGE, PAGE_TRANSACTION) & zeros(m, VERSION, FROM_VERSION)
 }
 
 // The fields of a message to the server: an arm for each kind.
 fn up_fields(m: &[u8]) -> bool
-    requires { ⌜ 112 ≤ length (now m) ⌝ }
+    requires { ⌜ messageLength ≤ length (now m) ⌝ }
     ensures { λ r. ⌜ r ≡ upFieldsOk (now (m .entry)) ⌝ }
 {
-    match m[0] {
+    match m[KIND] {
         1 => request_ok(m),
         2 => request_ok(m),
         3 => commit_ok(m),
@@ -238,10 +342,10 @@ fn up_fields(m: &[u8]) -> bool
 
 // The fields of a message to a station: an arm for each kind.
 fn down_fields(at: u32, m: &[u8]) -> bool
-    requires { ⌜ 112 ≤ length (now m) ⌝ }
+    requires { ⌜ messageLength ≤ length (now m) ⌝ }
     ensures { λ r. ⌜ r ≡ downFieldsOk at (now (m .entry)) ⌝ }
 {
-    match m[0] {
+    match m[KIND] {
         16 => page_message_ok(m),
         17 => page_message_ok(m),
         18 => page_message_ok(m),
@@ -262,11 +366,11 @@ fn range_number(ok: bool) -> u32
 
 // Numbers 3 and 4 at the server. Each end names both ranges of kinds, and takes one.
 fn up_range(m: &[u8]) -> u32
-    requires { ⌜ 112 ≤ length (now m) ⌝ }
+    requires { ⌜ messageLength ≤ length (now m) ⌝ }
     ensures { λ r. ⌜ r ≡ upRange (now (m .entry)) ⌝ }
 {
-    match m[0] {
-        1..=8 => range_number((m[1] <= 7) & up_fields(m)),
+    match m[KIND] {
+        1..=8 => range_number((m[STATION] <= 7) & up_fields(m)),
         // these go to stations
         16..=23 => 3,
         _ => 3,
@@ -275,13 +379,13 @@ fn up_range(m: &[u8]) -> u32
 
 // Numbers 3 and 4 at station `at`.
 fn down_range(at: u32, m: &[u8]) -> u32
-    requires { ⌜ 112 ≤ length (now m) ⌝ }
+    requires { ⌜ messageLength ≤ length (now m) ⌝ }
     ensures { λ r. ⌜ r ≡ downRange at (now (m .entry)) ⌝ }
 {
-    match m[0] {
+    match m[KIND] {
         // these go to the server
         1..=8 => 3,
-        16..=23 => range_number((at <= 7) & (m[1] <= 7) & down_fields(at, m)),
+        16..=23 => range_number((at <= 7) & (m[STATION] <= 7) & down_fields(at, m)),
         _ => 3,
     }
 }
@@ -290,16 +394,21 @@ fn down_range(at: u32, m: &[u8]) -> u32
 fn kind_of(m: &[u8]) -> u8
     ensures { λ r. ⌜ r ≡ kindOf (now (m .entry)) ⌝ }
 {
-    if m.len() == 0 { 0 } else { m[0] }
+    if m.len() == 0 { 0 } else { m[KIND] }
 }
 
 fn commit_length_ok(m: &[u8]) -> bool
     ensures { λ r. ⌜ r ≡ commitLengthOk (now (m .entry)) ⌝ }
 {
-    if m.len() < 256 {
+    if m.len() < ADDRESSES {
         return false;
     }
-    m.len() == 240 + (16 + 9 * (le::index(le::get_u16(m, 240)) + le::index(le::get_u16(m, 242))))
+    m.len()
+        == RECORD
+            + (record::HEADER
+                + record::ENTRY
+                    * (le::index(le::get_u16(m, RECORD_READS))
+                        + le::index(le::get_u16(m, RECORD_WRITES))))
 }
 
 // Number 2.
@@ -309,7 +418,7 @@ fn length_ok(m: &[u8]) -> bool
     if kind_of(m) == 3 {
         return commit_length_ok(m);
     }
-    m.len() == 112
+    m.len() == LENGTH
 }
 
 // The number of a message that comes to a station: 2, 3 or 4, else 0.
@@ -332,15 +441,15 @@ fn page_bit(p: u32) -> u32
 
 // A version other than 0 is that of a used page, from a validating station.
 fn version_ok(kind: u8, m: &[u8], p: u32) -> bool
-    requires { ⌜ (240 ≤ length (now m)) × (p < 32) ⌝ }
+    requires { ⌜ (recordAt ≤ length (now m)) × (p < 32) ⌝ }
     ensures { λ r. ⌜ r ≡ versionOk kind (now (m .entry)) p ⌝ }
 {
-    (le::get_u32(m, 112 + le::index(p) * 4) == 0)
-        | ((kind == 1) & ((le::get_u32(m, 8) & page_bit(p)) != 0))
+    (le::get_u32(m, VERSIONS + le::index(p) * VERSION_WIDTH) == 0)
+        | ((kind == 1) & ((le::get_u32(m, PAGES) & page_bit(p)) != 0))
 }
 
 fn versions_ok(kind: u8, m: &[u8]) -> bool
-    requires { ⌜ 240 ≤ length (now m) ⌝ }
+    requires { ⌜ recordAt ≤ length (now m) ⌝ }
     ensures { λ r. ⌜ r ≡ allTo (versionOk kind (now (m .entry))) 32 ⌝ }
 {
     let mut ok = true;
@@ -354,13 +463,13 @@ fn versions_ok(kind: u8, m: &[u8]) -> bool
 
 // The pages of the first n addresses of a commit's record.
 fn pages_of(m: &[u8], n: usize) -> u32
-    requires { ⌜ 256 + n ≤ length (now m) ⌝ }
+    requires { ⌜ addressesAt + n ≤ length (now m) ⌝ }
     ensures { λ r. ⌜ r ≡ pagesTo (now (m .entry)) n ⌝ }
 {
     let mut pages: u32 = 0;
     let mut i = 0;
     while i < n {
-        pages |= page_bit(le::wide(m[256 + i]) / 8);
+        pages |= page_bit(le::wide(m[ADDRESSES + i]) / 8);
         i += 1;
     }
     pages
@@ -368,24 +477,25 @@ fn pages_of(m: &[u8], n: usize) -> u32
 
 // Whether a commit's record agrees with the message and with the station's kind at the server.
 fn record_agrees(kind: u8, m: &[u8]) -> bool
-    requires { ⌜ 256 + entriesOf (now m) ≤ length (now m) ⌝ }
+    requires { ⌜ addressesAt + entriesOf (now m) ≤ length (now m) ⌝ }
     ensures { λ r. ⌜ r ≡ recordAgrees kind (now (m .entry)) ⌝ }
 {
-    let entries = le::index(le::get_u16(m, 240)) + le::index(le::get_u16(m, 242));
-    (le::get_u32(m, 244) == 0)
-        & (le::get_u32(m, 248) == le::get_u32(m, 4))
-        & (m[252] == m[1])
-        & (m[253] == kind)
+    let entries = le::index(le::get_u16(m, RECORD_READS))
+        + le::index(le::get_u16(m, RECORD_WRITES));
+    (le::get_u32(m, RECORD_COMMIT) == 0)
+        & (le::get_u32(m, RECORD_TRANSACTION) == le::get_u32(m, TRANSACTION))
+        & (m[RECORD_STATION] == m[STATION])
+        & (m[RECORD_KIND] == kind)
         & versions_ok(kind, m)
-        & (pages_of(m, entries) == le::get_u32(m, 8))
+        & (pages_of(m, entries) == le::get_u32(m, PAGES))
 }
 
 // Number 5 of a commit.
 fn commit_number(kind: u8, m: &[u8]) -> u32
-    requires { ⌜ 256 + entriesOf (now m) ≤ length (now m) ⌝ }
+    requires { ⌜ addressesAt + entriesOf (now m) ≤ length (now m) ⌝ }
     ensures { λ r. ⌜ r ≡ commitNumber kind (now (m .entry)) ⌝ }
 {
-    if record::wax_record_check(&m[240..]) != 0 {
+    if record::wax_record_check(&m[RECORD..]) != 0 {
         return 5;
     }
     if record_agrees(kind, m) {
@@ -432,8 +542,8 @@ pub fn up_check(kinds: &[u8], m: &[u8]) -> u32
     if number != 0 {
         return number;
     }
-    if m[0] != 3 {
+    if m[KIND] != 3 {
         return 0;
     }
-    commit_number(kinds[le::index(le::wide(m[1]))], m)
+    commit_number(kinds[le::index(le::wide(m[STATION]))], m)
 }

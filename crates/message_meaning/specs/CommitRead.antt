@@ -1,4 +1,4 @@
--- What is read of a commit: its numbers are those of the record from byte 240 on, and the mask of its addresses is the set of pages
+-- What is read of a commit: its numbers are those of the record from its place on, and the mask of its addresses is the set of pages
 -- that the line calls used.
 use Prim.Native.Nat.{ℕ, _+_, _≤_, _<_}
 use mathlib.Core.Path.{_≡_, sym, ap, _∙_}
@@ -10,12 +10,12 @@ use Rattle.le.specs.Le.{u16At, u32At}
 use Rattle.le.specs.Laws.{u16At-is, u32At-is}
 use Rattle.le.specs.Parts.{numAt-drop}
 use Rattle.cells.specs.Bits.{tb}
-use Rattle.layout.specs.Record.{entries, addresses}
-use Rattle.record.specs.Check.{readCount, writeCount, lengthOf}
+use Rattle.layout.specs.Record.{headerLength, entries, addresses}
+use Rattle.record.specs.Check.{readCountFrom, writeCountFrom, readCount, writeCount, lengthOf}
 use Rattle.record_meaning.specs.Parse.{recordOf}
 use Rattle.record_meaning.specs.Entries.{addresses-of, entries-of, length-entriesAt}
 use Rattle.line.specs.Server.{usedPage}
-use Rattle.message.specs.Commit.{entriesOf, pagesTo}
+use Rattle.message.specs.Commit.{recordAt, addressesAt, entriesOf, pagesTo}
 use Rattle.message_meaning.specs.Meant.{workAt}
 use Rattle.message_meaning.specs.Uses.{on-used, mask-on}
 
@@ -30,19 +30,19 @@ counts-are : (s : List ℕ) → readCount s + writeCount s ≡ length (entries (
 counts-are s = sym (length-entriesAt s _ 0 _) ∙ ap length (sym (entries-of s))
 
 module _ (m : List ℕ) where
-  count-is : entriesOf m ≡ length (entries (recordOf (drop 240 m)))
-  count-is = rw (u16-behind 240 m 0, u16-behind 240 m 2) (counts-are (drop 240 m))
+  count-is : entriesOf m ≡ length (entries (recordOf (drop recordAt m)))
+  count-is = rw (u16-behind recordAt m readCountFrom, u16-behind recordAt m writeCountFrom) (counts-are (drop recordAt m))
 
-  address-is : lengthOf (drop 240 m) ≤ length (drop 240 m) → (i : ℕ) → i < length (entries (recordOf (drop 240 m)))
-      → getD m (256 + i) 0 ≡ getD (addresses (entries (recordOf (drop 240 m)))) i 0
+  address-is : lengthOf (drop recordAt m) ≤ length (drop recordAt m) → (i : ℕ) → i < length (entries (recordOf (drop recordAt m)))
+      → getD m (addressesAt + i) 0 ≡ getD (addresses (entries (recordOf (drop recordAt m)))) i 0
   address-is there i l =
-      let s = drop 240 m in
-      let place : 256 + i ≡ 240 + (16 + i) = omega arith in
-      rw (place, ← getD-drop 240 m (16 + i) 0, ← getD-drop 16 s i 0, addresses-of s there)
-      (sym (getD-take (readCount s + writeCount s) (drop 16 s) i 0 (omega (arith, counts-are s))))
+      let s = drop recordAt m in
+      let place : addressesAt + i ≡ recordAt + (headerLength + i) = omega arith in
+      rw (place, ← getD-drop recordAt m (headerLength + i) 0, ← getD-drop headerLength s i 0, addresses-of s there)
+      (sym (getD-take (readCount s + writeCount s) (drop headerLength s) i 0 (omega (arith, counts-are s))))
 
-  pub pages-used : lengthOf (drop 240 m) ≤ length (drop 240 m) → (p : ℕ) → tb (pagesTo m (entriesOf m)) p ≡ usedPage (workAt m) p
+  pub pages-used : lengthOf (drop recordAt m) ≤ length (drop recordAt m) → (p : ℕ) → tb (pagesTo m (entriesOf m)) p ≡ usedPage (workAt m) p
   unfolding workAt
   pages-used there p =
-      let r = recordOf (drop 240 m) in
+      let r = recordOf (drop recordAt m) in
       rw count-is (mask-on m (entries r) (address-is there) p ∙ sym (on-used (r .reads) (r .writes) p))

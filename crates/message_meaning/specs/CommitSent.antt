@@ -1,6 +1,6 @@
 -- A commit that a station sends is taken by the server and read as meant: "3 commit (transaction, set of pages used)", "followed by 32
 -- versions of 4 bytes (0 for an unused page; all 0 from a locking station) and a record".
-use Prim.Native.Nat.{ℕ, _+_, _*_, _^_, _≤_, _<_}
+use Prim.Native.Nat.{ℕ, _+_, _-_, _*_, _^_, _≤_, _<_}
 use mathlib.Core.Path.{_≡_, refl, sym, ap, _∙_, fun-ext}
 use mathlib.Core.Bool.{true, false, _&&_, cond, or-true}
 use mathlib.Core.List.{List, [], _++_, append-nil}
@@ -19,7 +19,7 @@ use Rattle.le.specs.Laws.{u32At-is}
 use Rattle.sets.specs.Laws.{byB, eqb-same, ltb-yes}
 use Rattle.cells.specs.Bits.{tb, tb-test, tb-tells}
 use Rattle.layout.specs.Record.{Record, WellFormed, bytesOf}
-use Rattle.record.specs.Check.{commitNumber, transactionNumber, stationNumber, stationKind, lengthOf, checkOf}
+use Rattle.record.specs.Check.{readCountFrom, writeCountFrom, commitNumberFrom, transactionNumberFrom, stationNumberFrom, stationKindFrom, commitNumber, transactionNumber, stationNumber, stationKind, lengthOf, checkOf}
 use Rattle.record_meaning.specs.Parse.{recordOf}
 use Rattle.record_meaning.specs.Layout.{bytesOf-are}
 use Rattle.record_meaning.specs.Meaning.{written-read as record-back}
@@ -27,9 +27,9 @@ use Rattle.line.specs.Messages.{Work, Commit}
 use Rattle.line.specs.Server.{usedPage}
 use Rattle.entries.specs.Entries.{valueIn}
 use Rattle.message.specs.Stores.{length-up}
-use Rattle.message.specs.Layout.{kindOf, stationOf, message, single, upMessage}
+use Rattle.message.specs.Layout.{pageFrom, transactionFrom, versionFrom, valuesLength, messageLength, kindOf, stationOf, message, single, upMessage}
 use Rattle.message.specs.Range.{zeroAt, zeros, commitOk, upFieldsOk}
-use Rattle.message.specs.Commit.{entriesOf as entriesIn, commitLengthOk, versionOk, pagesTo, recordAgrees, commitNumber as commitTurned}
+use Rattle.message.specs.Commit.{versionsAt, versionWidth, recordAt, addressesAt, entriesOf as entriesIn, commitLengthOk, versionOk, pagesTo, recordAgrees, commitNumber as commitTurned}
 use Rattle.message.specs.Number.{lengthOk, upRange, kindsOk, upNumber}
 use Rattle.message_meaning.specs.Meant.{versionAt, workAt}
 use Rattle.message_meaning.specs.Kinds.{up-3}
@@ -41,7 +41,7 @@ use Rattle.message_meaning.specs.CommitRead.{u16-behind, u32-behind, pag
 
 -- "32 versions of 4 bytes": the n from page p on
 abbrev pub versionBytes : (ℕ → ℕ) → ℕ → ℕ → List ℕ
-versionBytes v n p = numbers 4 v n p
+versionBytes v n p = numbers versionWidth v n p
 
 -- the bytes of a commit with this record, set of pages used and versions
 abbrev pub commitMessage : Record → ℕ → (ℕ → ℕ) → List ℕ
@@ -84,7 +84,7 @@ takes : (kinds m : List ℕ) → kindsOk kinds ≡ true → kindOf m ≡ 3 → c
 unfolding upNumber lengthOk upRange upFieldsOk
 takes kinds m ok is len st fields n = rw (ok, is, len, le-leb (stationOf m) 7 st, fields, n)
 
-zeros-commit : (st t used : ℕ) (rest : List ℕ) → (zeros (upMessage 3 st 0 0 t used 0 ++ rest) 2 2 ≡ true) × (zeros (upMessage 3 st 0 0 t used 0 ++ rest) 12 100 ≡ true)
+zeros-commit : (st t used : ℕ) (rest : List ℕ) → (zeros (upMessage 3 st 0 0 t used 0 ++ rest) pageFrom (transactionFrom - pageFrom) ≡ true) × (zeros (upMessage 3 st 0 0 t used 0 ++ rest) versionFrom (messageLength - versionFrom) ≡ true)
 unfolding message bytes zeros zeroAt allTo
 zeros-commit st t used rest = (refl, refl)
 
@@ -104,13 +104,13 @@ pub record Sendable (kinds : List ℕ) (r : Record) (used : ℕ) (v : ℕ → �
 
 module _ {kinds : List ℕ} {r : Record} {used : ℕ} {v : ℕ → ℕ} (h : Sendable kinds r used v) where
   -- where its parts stand
-  versions-place : drop 112 (commitMessage r used v) ≡ versionBytes v 32 0 ++ bytesOf r
-  versions-place = drop-at (upMessage 3 (r .station) 0 0 (r .transaction) used 0) _ 112 (length-up 3 (r .station) 0 0 (r .transaction) used 0)
+  versions-place : drop versionsAt (commitMessage r used v) ≡ versionBytes v 32 0 ++ bytesOf r
+  versions-place = drop-at (upMessage 3 (r .station) 0 0 (r .transaction) used 0) _ versionsAt (length-up 3 (r .station) 0 0 (r .transaction) used 0)
 
-  record-place : drop 240 (commitMessage r used v) ≡ bytesOf r
-  record-place = drop-behind (versionBytes v 32 0) (bytesOf r) (commitMessage r used v) 112 240 versions-place (rw length-numbers)
+  record-place : drop recordAt (commitMessage r used v) ≡ bytesOf r
+  record-place = drop-behind (versionBytes v 32 0) (bytesOf r) (commitMessage r used v) versionsAt recordAt versions-place (rw length-numbers)
 
-  length-commit : length (commitMessage r used v) ≡ 240 + length (bytesOf r)
+  length-commit : length (commitMessage r used v) ≡ recordAt + length (bytesOf r)
   length-commit =
       rw (length-append, length-append, length-up 3 (r .station) 0 0 (r .transaction) used 0, length-numbers) (omega arith)
 
@@ -119,18 +119,18 @@ module _ {kinds : List ℕ} {r : Record} {used : ℕ} {v : ℕ → ℕ} (h : Sen
       let at : r .station < 256 = omega (arith, h .well-formed .station-is) in
       bytes-append (upMessage 3 (r .station) 0 0 (r .transaction) used 0) _
       (up-are 3 (r .station) 0 0 (r .transaction) used 0 (omega arith) at (omega arith) (omega arith) (omega arith))
-      (bytes-append (versionBytes v 32 0) (bytesOf r) (numbers-are 4 v 32 0) (bytesOf-are r (h .well-formed)))
+      (bytes-append (versionBytes v 32 0) (bytesOf r) (numbers-are versionWidth v 32 0) (bytesOf-are r (h .well-formed)))
 
   -- what is read of it
-  head-read : ReadBack 3 (r .station) 0 0 (r .transaction) used 0 (single 0) (replicate 64 0 ++ (versionBytes v 32 0 ++ bytesOf r)) (commitMessage r used v)
+  head-read : ReadBack 3 (r .station) 0 0 (r .transaction) used 0 (single 0) (replicate valuesLength 0 ++ (versionBytes v 32 0 ++ bytesOf r)) (commitMessage r used v)
   head-read =
-      rw (message-more 3 (r .station) 0 0 (r .transaction) used 0 (single 0) (replicate 64 0) (versionBytes v 32 0 ++ bytesOf r))
+      rw (message-more 3 (r .station) 0 0 (r .transaction) used 0 (single 0) (replicate valuesLength 0) (versionBytes v 32 0 ++ bytesOf r))
       (written-read 3 (r .station) 0 0 (r .transaction) used 0 (single 0) _ (h .well-formed .transaction-fits) (h .pages-fit) (omega arith) refl)
 
-  version-read : (p : ℕ) → p < 32 → u32At (commitMessage r used v) (112 + p * 4) ≡ v p
+  version-read : (p : ℕ) → p < 32 → u32At (commitMessage r used v) (versionsAt + p * versionWidth) ≡ v p
   version-read p l =
-      u32-behind 112 (commitMessage r used v) (p * 4)
-      ∙ rw (versions-place, u32At-is) (rw zero-add at (numbers-read 4 v 32 0 (bytesOf r) p l (rw zero-add (h .versions-fit p l))))
+      u32-behind versionsAt (commitMessage r used v) (p * versionWidth)
+      ∙ rw (versions-place, u32At-is) (rw zero-add at (numbers-read versionWidth v 32 0 (bytesOf r) p l (rw zero-add (h .versions-fit p l))))
 
   work-read : workAt (commitMessage r used v) ≡ workIn r v
   unfolding workAt versionAt
@@ -139,14 +139,14 @@ module _ {kinds : List ℕ} {r : Record} {used : ℕ} {v : ℕ → ℕ} (h : Sen
       let version-is : versionAt m ≡ (workIn r v) .versions = fun-ext (λ p. byB (ltb p 32) (λ e. rw e (version-read p (ltb-yes p 32 e))) (λ e. rw e)) in
       rw (record-place, record-read r (h .well-formed), head-read .transaction-is, version-is)
 
-  -- its length and its first 112 bytes pass
+  -- its length and its fields pass
   length-ok : commitLengthOk (commitMessage r used v) ≡ true
   unfolding commitLengthOk
   length-ok =
       let m = commitMessage r used v in
       let size = record-size r (h .well-formed) in
-      rw (u16-behind 240 m 0, u16-behind 240 m 2, record-place, length-commit, le-leb 256 (240 + length (bytesOf r)) (omega arith))
-      (eq-eqb (240 + length (bytesOf r)) (240 + lengthOf (bytesOf r)) (omega arith))
+      rw (u16-behind recordAt m readCountFrom, u16-behind recordAt m writeCountFrom, record-place, length-commit, le-leb addressesAt (recordAt + length (bytesOf r)) (omega arith))
+      (eq-eqb (recordAt + length (bytesOf r)) (recordAt + lengthOf (bytesOf r)) (omega arith))
 
   commit-ok : commitOk (commitMessage r used v) ≡ true
   unfolding commitOk
@@ -165,7 +165,7 @@ module _ {kinds : List ℕ} {r : Record} {used : ℕ} {v : ℕ → ℕ} (h : Sen
   pages-agree : pagesTo (commitMessage r used v) (entriesIn (commitMessage r used v)) ≡ used
   pages-agree =
       let m = commitMessage r used v in
-      let there : lengthOf (drop 240 m) ≤ length (drop 240 m) = rw record-place (rw (record-size r (h .well-formed)) (le-refl (length (bytesOf r)))) in
+      let there : lengthOf (drop recordAt m) ≤ length (drop recordAt m) = rw record-place (rw (record-size r (h .well-formed)) (le-refl (length (bytesOf r)))) in
       tb-tells 32 (pagesTo m (entriesIn m)) used (mask-fits m (entriesIn m) commit-are) (h .pages-fit)
       (λ p l. pages-used m there p ∙ ap (λ (x : Work). usedPage x p) work-read ∙ sym (h .pages-are p l))
 
@@ -174,10 +174,10 @@ module _ {kinds : List ℕ} {r : Record} {used : ℕ} {v : ℕ → ℕ} (h : Sen
   agrees =
       let m = commitMessage r used v in
       let w = h .well-formed in
-      let commit-is : u32At m 244 ≡ 0 = u32-behind 240 m 4 ∙ rw record-place (commit-read r w ∙ h .commit-0) in
-      let transaction-is : u32At m 248 ≡ r .transaction = u32-behind 240 m 8 ∙ rw record-place (transaction-read r w) in
-      let station-is : getD m 252 0 ≡ r .station = sym (getD-drop 240 m 12 0) ∙ rw record-place (station-read r w) in
-      let kind-is : getD m 253 0 ≡ r .kind = sym (getD-drop 240 m 13 0) ∙ rw record-place (kind-read r w) in
+      let commit-is : u32At m (recordAt + commitNumberFrom) ≡ 0 = u32-behind recordAt m commitNumberFrom ∙ rw record-place (commit-read r w ∙ h .commit-0) in
+      let transaction-is : u32At m (recordAt + transactionNumberFrom) ≡ r .transaction = u32-behind recordAt m transactionNumberFrom ∙ rw record-place (transaction-read r w) in
+      let station-is : getD m (recordAt + stationNumberFrom) 0 ≡ r .station = sym (getD-drop recordAt m stationNumberFrom 0) ∙ rw record-place (station-read r w) in
+      let kind-is : getD m (recordAt + stationKindFrom) 0 ≡ r .kind = sym (getD-drop recordAt m stationKindFrom 0) ∙ rw record-place (kind-read r w) in
       rw (
         commit-is,
         transaction-is,
@@ -199,7 +199,7 @@ module _ {kinds : List ℕ} {r : Record} {used : ℕ} {v : ℕ → ℕ} (h : Sen
   turned-not = rw (head-read .station-is, h .kind-known, record-place, record-accepted r (h .well-formed), agrees)
 
   -- the server takes it, and reads what the record, the set and the versions say
-  pub commit-sent : Reads kinds (r .station) (240 + length (bytesOf r)) (commitMessage r used v) (Commit (workIn r v))
+  pub commit-sent : Reads kinds (r .station) (recordAt + length (bytesOf r)) (commitMessage r used v) (Commit (workIn r v))
   commit-sent =
       let m = commitMessage r used v in
       record {

@@ -12,13 +12,14 @@ use Rattle.le.specs.Le.{u32At, u64At}
 use Rattle.le.specs.Width.{bytes, bytes-are, bytes-numAt}
 use Rattle.le.specs.Laws.{u32At-is, u64At-is}
 use Rattle.le.specs.Parts.{numAt-drop}
-use Rattle.message.specs.Layout.{kindOf, stationOf, pageOf, objectOf, transactionOf, pagesOf, versionOf, setOf, valueOf, message}
+use Rattle.message.specs.Layout.{kindFrom, stationFrom, pageFrom, objectFrom, transactionFrom, pagesFrom, versionFrom, setsFrom, valuesFrom, valuesLength, messageLength, kindOf, stationOf, pageOf, objectOf, transactionOf, pagesOf, versionOf, setOf, valueOf, message}
 use Rattle.message_meaning.specs.Meant.{setsOf}
 use Rattle.message_meaning.specs.Numbers.{numbers, numbers-read, numbers-written}
+use Rattle.layout.specs.Record.{valueLength}
 
 -- WRITTEN, THEN READ
 
--- m says these fields: `values` are all that stands behind the 48 bytes
+-- m says these fields: `values` are all that stands behind the sets
 pub record ReadBack (kind station page object transaction pages version : ℕ) (sets values m : List ℕ) : Type 0 where
   pub kind-is : kindOf m ≡ kind
   pub station-is : stationOf m ≡ station
@@ -29,28 +30,28 @@ pub record ReadBack (kind station page object transaction pages version : ℕ) (
   pub version-is : versionOf m ≡ version
   pub sets-are : setsOf m ≡ sets
   pub set-is : (p : ℕ) → p < 32 → setOf m p ≡ getD sets p 0
-  pub values-are : drop 48 m ≡ values
-  pub value-is : (o : ℕ) → valueOf m o ≡ u64At values (o * 8)
-  pub length-is : length m ≡ 48 + length values
+  pub values-are : drop valuesFrom m ≡ values
+  pub value-is : (o : ℕ) → valueOf m o ≡ u64At values (o * valueLength)
+  pub length-is : length m ≡ valuesFrom + length values
 
--- what stands behind the 16 bytes of single fields
-module _ (sets values m : List ℕ) (e : drop 16 m ≡ sets ++ values) (hs : length sets ≡ 32) where
+-- what stands behind the single fields
+module _ (sets values m : List ℕ) (e : drop setsFrom m ≡ sets ++ values) (hs : length sets ≡ 32) where
   sets-back : setsOf m ≡ sets
   sets-back = rw e (take-at sets values 32 hs)
 
   set-back : (p : ℕ) → p < 32 → setOf m p ≡ getD sets p 0
-  set-back p l = sym (getD-drop 16 m p 0) ∙ rw e (List·getD-append sets values 0 p (omega arith))
+  set-back p l = sym (getD-drop setsFrom m p 0) ∙ rw e (List·getD-append sets values 0 p (omega arith))
 
-  values-back : drop 48 m ≡ values
-  values-back = drop-behind sets values m 16 48 e (rw hs)
+  values-back : drop valuesFrom m ≡ values
+  values-back = drop-behind sets values m setsFrom valuesFrom e (rw hs)
 
-  value-back : (o : ℕ) → valueOf m o ≡ u64At values (o * 8)
-  value-back o = rw (u64At-is m (48 + o * 8), u64At-is values (o * 8), ← values-back) (sym (numAt-drop 8 48 m (o * 8)))
+  value-back : (o : ℕ) → valueOf m o ≡ u64At values (o * valueLength)
+  value-back o = rw (u64At-is m (valuesFrom + o * valueLength), u64At-is values (o * valueLength), ← values-back) (sym (numAt-drop valueLength valuesFrom m (o * valueLength)))
 
 module _ (kind station page object transaction pages version : ℕ) (sets values : List ℕ) where
-  behind-16 : drop 16 (message kind station page object transaction pages version sets values) ≡ sets ++ values
+  behind-front : drop setsFrom (message kind station page object transaction pages version sets values) ≡ sets ++ values
   unfolding message bytes
-  behind-16 = refl
+  behind-front = refl
 
   pub written-read : transaction < 2 ^ 32 → pages < 2 ^ 32 → version < 2 ^ 32 → length sets ≡ 32
       → ReadBack kind station page object transaction pages version sets values (message kind station page object transaction pages version sets values)
@@ -65,10 +66,10 @@ module _ (kind station page object transaction pages version : ℕ) (sets values
         transaction-is = omega arith;
         pages-are = omega arith;
         version-is = omega arith;
-        sets-are = sets-back sets values m behind-16 hs;
-        set-is = set-back sets values m behind-16 hs;
-        values-are = values-back sets values m behind-16 hs;
-        value-is = value-back sets values m behind-16 hs;
+        sets-are = sets-back sets values m behind-front hs;
+        set-is = set-back sets values m behind-front hs;
+        values-are = values-back sets values m behind-front hs;
+        value-is = value-back sets values m behind-front hs;
         length-is = omega (arith, length-append sets values);
       }
 
@@ -87,8 +88,8 @@ module _ (kind station page object transaction pages version : ℕ) (sets values
   message-more rest = rw (append-assoc sets values rest)
 
 -- "eight values", written one behind the other
-pub value-read : (f : ℕ → ℕ) (o : ℕ) → o < 8 → f o < 2 ^ 64 → u64At (numbers 8 f 8 0) (o * 8) ≡ f o
-value-read f o l h = rw (u64At-is, ← append-nil (numbers 8 f 8 0)) (rw zero-add at (numbers-read 8 f 8 0 [] o l (rw zero-add h)))
+pub value-read : (f : ℕ → ℕ) (o : ℕ) → o < 8 → f o < 2 ^ 64 → u64At (numbers valueLength f 8 0) (o * valueLength) ≡ f o
+value-read f o l h = rw (u64At-is, ← append-nil (numbers valueLength f 8 0)) (rw zero-add at (numbers-read valueLength f 8 0 [] o l (rw zero-add h)))
 
 -- READ, THEN WRITTEN
 
@@ -96,30 +97,30 @@ value-read f o l h = rw (u64At-is, ← append-nil (numbers 8 f 8 0)) (rw zero-ad
 part-rest : (k a b : ℕ) (s : List ℕ) → b ≡ a + k → take k (drop a s) ++ drop b s ≡ drop a s
 part-rest k a b s e = rw (e, ← drop-drop k a s) (take-append-drop k (drop a s))
 
-module _ (m : List ℕ) (hm : Bytes m) (hl : length m ≡ 112) where
+module _ (m : List ℕ) (hm : Bytes m) (hl : length m ≡ messageLength) where
   -- the message of the fields that are read is the one that they were read from: no byte says nothing
-  pub read-written : message (kindOf m) (stationOf m) (pageOf m) (objectOf m) (transactionOf m) (pagesOf m) (versionOf m) (setsOf m) (drop 48 m) ≡ m
+  pub read-written : message (kindOf m) (stationOf m) (pageOf m) (objectOf m) (transactionOf m) (pagesOf m) (versionOf m) (setsOf m) (drop valuesFrom m) ≡ m
   unfolding message
   read-written =
       rw (
-        u32At-is m 4,
-        u32At-is m 8,
-        u32At-is m 12,
-        bytes-numAt 4 m 4 hm (omega arith),
-        bytes-numAt 4 m 8 hm (omega arith),
-        bytes-numAt 4 m 12 hm (omega arith),
-        part-rest 32 16 48 m refl,
-        part-rest 4 12 16 m refl,
-        part-rest 4 8 12 m refl,
-        part-rest 4 4 8 m refl,
-        ← drop-cons m 3 0 (omega arith),
-        ← drop-cons m 2 0 (omega arith),
-        ← drop-cons m 1 0 (omega arith),
-        ← drop-cons m 0 0 (omega arith),
+        u32At-is m transactionFrom,
+        u32At-is m pagesFrom,
+        u32At-is m versionFrom,
+        bytes-numAt 4 m transactionFrom hm (omega arith),
+        bytes-numAt 4 m pagesFrom hm (omega arith),
+        bytes-numAt 4 m versionFrom hm (omega arith),
+        part-rest 32 setsFrom valuesFrom m refl,
+        part-rest 4 versionFrom setsFrom m refl,
+        part-rest 4 pagesFrom versionFrom m refl,
+        part-rest 4 transactionFrom pagesFrom m refl,
+        ← drop-cons m objectFrom 0 (omega arith),
+        ← drop-cons m pageFrom 0 (omega arith),
+        ← drop-cons m stationFrom 0 (omega arith),
+        ← drop-cons m kindFrom 0 (omega arith),
       )
 
-  pub values-written : numbers 8 (valueOf m) 8 0 ≡ drop 48 m
+  pub values-written : numbers valueLength (valueOf m) 8 0 ≡ drop valuesFrom m
   values-written =
-      ap (λ f. numbers 8 f 8 0) (fun-ext (λ o. u64At-is m (48 + o * 8)))
-      ∙ numbers-written 8 48 m 8 0 hm (omega arith)
-      ∙ take-all 64 (drop 48 m) (rw length-drop (omega arith))
+      ap (λ f. numbers valueLength f 8 0) (fun-ext (λ o. u64At-is m (valuesFrom + o * valueLength)))
+      ∙ numbers-written valueLength valuesFrom m 8 0 hm (omega arith)
+      ∙ take-all valuesLength (drop valuesFrom m) (rw length-drop (omega arith))

@@ -12,7 +12,8 @@ use Rattle.cells.specs.Bits.{tb}
 use Rattle.line.specs.Messages.{address, Work, Up, ReadRequest, WriteRequest, Commit, Abort, Purge, Busy, Done, WrittenSet, Lock, NoLock, ObjectLock, WholeLock, Down, Page, Deescalate, Callback, Committed, Aborted, Invalidate}
 use Rattle.entries.specs.Entries.{valueIn}
 use Rattle.record_meaning.specs.Parse.{recordOf}
-use Rattle.message.specs.Layout.{kindOf, pageOf, requesterOf, objectOf, causeOf, transactionOf, pagesOf, versionOf, setOf, valueOf}
+use Rattle.message.specs.Layout.{setsFrom, kindOf, pageOf, requesterOf, objectOf, causeOf, transactionOf, pagesOf, versionOf, setOf, valueOf}
+use Rattle.message.specs.Commit.{versionsAt, versionWidth, recordAt}
 
 -- SETS AND VALUES
 
@@ -30,7 +31,7 @@ pagesIn set p = tb set p
 
 -- "16–47 object sets by page": what stands behind them is no set
 abbrev pub setsOf : List ℕ → List ℕ
-setsOf m = take 32 (drop 16 m)
+setsOf m = take 32 (drop setsFrom m)
 
 -- "eight values" of a page, by address; 0 off the page
 abbrev pub valuesOn : ℕ → List ℕ → ℕ → ℕ
@@ -40,14 +41,14 @@ valuesOn page m a = cond (eqb (a / 8) page) (valueOf m (a % 8)) 0
 
 -- "A commit is followed by 32 versions of 4 bytes .. and a record."
 unfoldable pub versionAt : List ℕ → ℕ → ℕ
-versionAt m p = cond (ltb p 32) (u32At m (112 + p * 4)) 0
+versionAt m p = cond (ltb p 32) (u32At m (versionsAt + p * versionWidth)) 0
 
 unfoldable pub workAt : List ℕ → Work
 workAt m =
     record {
       transaction = transactionOf m;
-      reads = valueIn ((recordOf (drop 240 m)) .reads);
-      writes = valueIn ((recordOf (drop 240 m)) .writes);
+      reads = valueIn ((recordOf (drop recordAt m)) .reads);
+      writes = valueIn ((recordOf (drop recordAt m)) .writes);
       versions = versionAt m;
     }
 

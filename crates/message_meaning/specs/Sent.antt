@@ -1,5 +1,5 @@
 -- What stations send is taken by the server and read as meant: kinds 1, 2 and 4 to 8. (The commit: CommitSent.)
-use Prim.Native.Nat.{ℕ, zero, suc, _^_, _≤_, _<_}
+use Prim.Native.Nat.{ℕ, zero, suc, _-_, _^_, _≤_, _<_}
 use mathlib.Core.Path.{_≡_, refl, _∙_}
 use mathlib.Core.Bool.{true, false, _&&_}
 use mathlib.Core.List.{List}
@@ -13,7 +13,7 @@ use Rattle.lists.specs.Bytes.{Bytes}
 use Rattle.le.specs.Width.{bytes}
 use Rattle.line.specs.Messages.{address, Up, ReadRequest, WriteRequest, Abort, Purge, Busy, Done, WrittenSet}
 use Rattle.message.specs.Stores.{length-up}
-use Rattle.message.specs.Layout.{kindOf, stationOf, transactionOf, message, single, upMessage}
+use Rattle.message.specs.Layout.{pageFrom, objectFrom, transactionFrom, pagesFrom, versionFrom, setsFrom, secondSet, valuesLength, messageLength, kindOf, stationOf, transactionOf, message, single, upMessage}
 use Rattle.message.specs.Range.{zeroAt, zeros, transactionOk, requestOk, abortOk, purgeOk, busyOk, doneOk, writtenSetOk, upFieldsOk}
 use Rattle.message.specs.Number.{lengthOk, upRange, kindsOk, upNumber}
 use Rattle.message_meaning.specs.Meant.{objectsOn, pagesIn, upOf}
@@ -31,47 +31,47 @@ pub record Reads (kinds : List ℕ) (station size : ℕ) (m : List ℕ) (u : Up)
 -- THE NUMBER IS 0
 
 -- numbers 2 to 4 of a message that is no commit
-takes : (kinds m : List ℕ) (k : ℕ) → kindsOk kinds ≡ true → kindOf m ≡ k → eqb k 3 ≡ false → (leb 1 k && leb k 8) ≡ true → length m ≡ 112 → stationOf m ≤ 7
+takes : (kinds m : List ℕ) (k : ℕ) → kindsOk kinds ≡ true → kindOf m ≡ k → eqb k 3 ≡ false → (leb 1 k && leb k 8) ≡ true → length m ≡ messageLength → stationOf m ≤ 7
     → upFieldsOk m ≡ true → upNumber kinds m ≡ 0
 unfolding upNumber lengthOk upRange
 takes kinds m k ok is plain range len st fields =
-    rw (ok, is, plain, range, eq-eqb (length m) 112 len, le-leb (stationOf m) 7 st, fields)
+    rw (ok, is, plain, range, eq-eqb (length m) messageLength len, le-leb (stationOf m) 7 st, fields)
 
 -- "Fields that a kind doesn't name are 0"
 module _ (k st p o t pages set : ℕ) where
-  zeros-2-2 : zeros (upMessage k st 0 0 t pages set) 2 2 ≡ true
+  zeros-page-object : zeros (upMessage k st 0 0 t pages set) pageFrom (transactionFrom - pageFrom) ≡ true
   unfolding message zeros zeroAt allTo
-  zeros-2-2 = refl
+  zeros-page-object = refl
 
-  zeros-3-1 : zeros (upMessage k st p 0 t pages set) 3 1 ≡ true
+  zeros-object : zeros (upMessage k st p 0 t pages set) objectFrom 1 ≡ true
   unfolding message zeros zeroAt allTo
-  zeros-3-1 = refl
+  zeros-object = refl
 
-  zeros-3-109 : zeros (upMessage k st p 0 0 0 0) 3 109 ≡ true
+  zeros-from-object : zeros (upMessage k st p 0 0 0 0) objectFrom (messageLength - objectFrom) ≡ true
   unfolding message bytes zeros zeroAt allTo
-  zeros-3-109 = refl
+  zeros-from-object = refl
 
-  zeros-8-8 : zeros (upMessage k st p o t 0 set) 8 8 ≡ true
+  zeros-pages-version : zeros (upMessage k st p o t 0 set) pagesFrom (setsFrom - pagesFrom) ≡ true
   unfolding message bytes zeros zeroAt allTo
-  zeros-8-8 = refl
+  zeros-pages-version = refl
 
-  zeros-8-104 : zeros (upMessage k st p o t 0 0) 8 104 ≡ true
+  zeros-from-pages : zeros (upMessage k st p o t 0 0) pagesFrom (messageLength - pagesFrom) ≡ true
   unfolding message bytes zeros zeroAt allTo
-  zeros-8-104 = refl
+  zeros-from-pages = refl
 
-  zeros-12-100 : zeros (upMessage k st p o t pages 0) 12 100 ≡ true
+  zeros-from-version : zeros (upMessage k st p o t pages 0) versionFrom (messageLength - versionFrom) ≡ true
   unfolding message bytes zeros zeroAt allTo
-  zeros-12-100 = refl
+  zeros-from-version = refl
 
-  zeros-17-95 : zeros (upMessage k st p o t pages set) 17 95 ≡ true
+  zeros-from-second : zeros (upMessage k st p o t pages set) secondSet (messageLength - secondSet) ≡ true
   unfolding message bytes zeros zeroAt allTo
-  zeros-17-95 = refl
+  zeros-from-second = refl
 
 -- THE MESSAGES
 
 pub up-are : (k st p o t pages set : ℕ) → k < 256 → st < 256 → p < 256 → o < 256 → set < 256 → Bytes (upMessage k st p o t pages set)
 up-are k st p o t pages set hk hs hp ho hx =
-    message-are k st p o t pages 0 (single set) (replicate 64 0) hk hs hp ho (hx, zeros-bytes 31) (zeros-bytes 64)
+    message-are k st p o t pages 0 (single set) (replicate valuesLength 0) hk hs hp ho (hx, zeros-bytes 31) (zeros-bytes valuesLength)
   where
     zeros-bytes : (n : ℕ) → Bytes (replicate n 0)
     zeros-bytes zero = tt
@@ -79,8 +79,8 @@ up-are k st p o t pages set hk hs hp ho hx =
 
 -- what is read of a message that was sent
 pub up-read : (k st p o t pages set : ℕ) → t < 2 ^ 32 → pages < 2 ^ 32
-    → ReadBack k st p o t pages 0 (single set) (replicate 64 0) (upMessage k st p o t pages set)
-up-read k st p o t pages set ht hp = written-read k st p o t pages 0 (single set) (replicate 64 0) ht hp (omega arith) refl
+    → ReadBack k st p o t pages 0 (single set) (replicate valuesLength 0) (upMessage k st p o t pages set)
+up-read k st p o t pages set ht hp = written-read k st p o t pages 0 (single set) (replicate valuesLength 0) ht hp (omega arith) refl
 
 -- a transaction that is named
 named : (m : List ℕ) (t : ℕ) → transactionOf m ≡ t → t ≢ 0 → transactionOk m ≡ true
@@ -88,10 +88,10 @@ named m t e h = rw (e, ne-eqb t 0 h)
 
 module _ (kinds : List ℕ) (ok : kindsOk kinds ≡ true) (st : ℕ) (hst : st < 8) where
   -- what all have in common
-  sent : (k p o t pages set : ℕ) {u : Up} → ReadBack k st p o t pages 0 (single set) (replicate 64 0) (upMessage k st p o t pages set)
+  sent : (k p o t pages set : ℕ) {u : Up} → ReadBack k st p o t pages 0 (single set) (replicate valuesLength 0) (upMessage k st p o t pages set)
       → k < 256 → eqb k 3 ≡ false → (leb 1 k && leb k 8) ≡ true → p < 32 → o < 8 → set < 256
       → upFieldsOk (upMessage k st p o t pages set) ≡ true → upOf (upMessage k st p o t pages set) ≡ u
-      → Reads kinds st 112 (upMessage k st p o t pages set) u
+      → Reads kinds st messageLength (upMessage k st p o t pages set) u
   sent k p o t pages set r hk plain range hp ho hx fields meant =
       let m = upMessage k st p o t pages set in
       record {
@@ -107,10 +107,10 @@ module _ (kinds : List ℕ) (ok : kindsOk kinds ≡ true) (st : ℕ) (hst : st <
   request-ok k p o t hp ho h0 ht =
       let m = upMessage k st p o t 0 0 in
       let r = up-read k st p o t 0 0 ht (omega arith) in
-      rw (r .page-is, r .object-is, le-leb p 31 (omega arith), le-leb o 7 (omega arith), named m t (r .transaction-is) h0, zeros-8-104 k st p o t 0 0)
+      rw (r .page-is, r .object-is, le-leb p 31 (omega arith), le-leb o 7 (omega arith), named m t (r .transaction-is) h0, zeros-from-pages k st p o t 0 0)
 
   -- "1 read request (page, object, transaction)"
-  pub read-sent : (p o t : ℕ) → p < 32 → o < 8 → t ≢ 0 → t < 2 ^ 32 → Reads kinds st 112 (upMessage 1 st p o t 0 0) (ReadRequest (address p o) t)
+  pub read-sent : (p o t : ℕ) → p < 32 → o < 8 → t ≢ 0 → t < 2 ^ 32 → Reads kinds st messageLength (upMessage 1 st p o t 0 0) (ReadRequest (address p o) t)
   unfolding upFieldsOk
   read-sent p o t hp ho h0 ht =
       let r = up-read 1 st p o t 0 0 ht (omega arith) in
@@ -118,7 +118,7 @@ module _ (kinds : List ℕ) (ok : kindsOk kinds ≡ true) (st : ℕ) (hst : st <
       (up-1 _ (r .kind-is) ∙ rw (r .page-is, r .object-is, r .transaction-is))
 
   -- "2 write request (same)"
-  pub write-sent : (p o t : ℕ) → p < 32 → o < 8 → t ≢ 0 → t < 2 ^ 32 → Reads kinds st 112 (upMessage 2 st p o t 0 0) (WriteRequest (address p o) t)
+  pub write-sent : (p o t : ℕ) → p < 32 → o < 8 → t ≢ 0 → t < 2 ^ 32 → Reads kinds st messageLength (upMessage 2 st p o t 0 0) (WriteRequest (address p o) t)
   unfolding upFieldsOk
   write-sent p o t hp ho h0 ht =
       let r = up-read 2 st p o t 0 0 ht (omega arith) in
@@ -129,10 +129,10 @@ module _ (kinds : List ℕ) (ok : kindsOk kinds ≡ true) (st : ℕ) (hst : st <
   unfolding abortOk
   abort-ok t h0 ht =
       let r = up-read 4 st 0 0 t 0 0 ht (omega arith) in
-      rw (zeros-2-2 4 st 0 0 t 0 0, named (upMessage 4 st 0 0 t 0 0) t (r .transaction-is) h0, zeros-8-104 4 st 0 0 t 0 0)
+      rw (zeros-page-object 4 st 0 0 t 0 0, named (upMessage 4 st 0 0 t 0 0) t (r .transaction-is) h0, zeros-from-pages 4 st 0 0 t 0 0)
 
   -- "4 abort (transaction)"
-  pub abort-sent : (t : ℕ) → t ≢ 0 → t < 2 ^ 32 → Reads kinds st 112 (upMessage 4 st 0 0 t 0 0) (Abort t)
+  pub abort-sent : (t : ℕ) → t ≢ 0 → t < 2 ^ 32 → Reads kinds st messageLength (upMessage 4 st 0 0 t 0 0) (Abort t)
   unfolding upFieldsOk
   abort-sent t h0 ht =
       let r = up-read 4 st 0 0 t 0 0 ht (omega arith) in
@@ -143,10 +143,10 @@ module _ (kinds : List ℕ) (ok : kindsOk kinds ≡ true) (st : ℕ) (hst : st <
   unfolding purgeOk
   purge-ok p hp =
       let r = up-read 5 st p 0 0 0 0 (omega arith) (omega arith) in
-      rw (r .page-is, le-leb p 31 (omega arith), zeros-3-109 5 st p 0 0 0 0)
+      rw (r .page-is, le-leb p 31 (omega arith), zeros-from-object 5 st p 0 0 0 0)
 
   -- "5 purge (page)"
-  pub purge-sent : (p : ℕ) → p < 32 → Reads kinds st 112 (upMessage 5 st p 0 0 0 0) (Purge p)
+  pub purge-sent : (p : ℕ) → p < 32 → Reads kinds st messageLength (upMessage 5 st p 0 0 0 0) (Purge p)
   unfolding upFieldsOk
   purge-sent p hp =
       let r = up-read 5 st p 0 0 0 0 (omega arith) (omega arith) in
@@ -156,10 +156,10 @@ module _ (kinds : List ℕ) (ok : kindsOk kinds ≡ true) (st : ℕ) (hst : st <
   unfolding busyOk
   busy-ok q t hq h0 ht =
       let r = up-read 6 st q 0 t 0 0 ht (omega arith) in
-      rw (r .page-is, le-leb q 7 (omega arith), zeros-3-1 6 st q 0 t 0 0, named (upMessage 6 st q 0 t 0 0) t (r .transaction-is) h0, zeros-8-104 6 st q 0 t 0 0)
+      rw (r .page-is, le-leb q 7 (omega arith), zeros-object 6 st q 0 t 0 0, named (upMessage 6 st q 0 t 0 0) t (r .transaction-is) h0, zeros-from-pages 6 st q 0 t 0 0)
 
   -- "6 busy (requester, its transaction)"
-  pub busy-sent : (q t : ℕ) → q < 8 → t ≢ 0 → t < 2 ^ 32 → Reads kinds st 112 (upMessage 6 st q 0 t 0 0) (Busy q t)
+  pub busy-sent : (q t : ℕ) → q < 8 → t ≢ 0 → t < 2 ^ 32 → Reads kinds st messageLength (upMessage 6 st q 0 t 0 0) (Busy q t)
   unfolding upFieldsOk
   busy-sent q t hq h0 ht =
       let r = up-read 6 st q 0 t 0 0 ht (omega arith) in
@@ -173,13 +173,13 @@ module _ (kinds : List ℕ) (ok : kindsOk kinds ≡ true) (st : ℕ) (hst : st <
       rw (
         r .page-is,
         le-leb q 7 (omega arith),
-        zeros-3-1 7 st q 0 t pages 0,
+        zeros-object 7 st q 0 t pages 0,
         named (upMessage 7 st q 0 t pages 0) t (r .transaction-is) h0,
-        zeros-12-100 7 st q 0 t pages 0,
+        zeros-from-version 7 st q 0 t pages 0,
       )
 
   -- "7 done (same, and the set of dropped pages)"
-  pub done-sent : (q t pages : ℕ) → q < 8 → t ≢ 0 → t < 2 ^ 32 → pages < 2 ^ 32 → Reads kinds st 112 (upMessage 7 st q 0 t pages 0) (Done q t (pagesIn pages))
+  pub done-sent : (q t pages : ℕ) → q < 8 → t ≢ 0 → t < 2 ^ 32 → pages < 2 ^ 32 → Reads kinds st messageLength (upMessage 7 st q 0 t pages 0) (Done q t (pagesIn pages))
   unfolding upFieldsOk
   done-sent q t pages hq h0 ht hp =
       let r = up-read 7 st q 0 t pages 0 ht hp in
@@ -193,15 +193,15 @@ module _ (kinds : List ℕ) (ok : kindsOk kinds ≡ true) (st : ℕ) (hst : st <
       rw (
         r .page-is,
         le-leb p 31 (omega arith),
-        zeros-3-1 8 st p 0 t 0 set,
+        zeros-object 8 st p 0 t 0 set,
         named (upMessage 8 st p 0 t 0 set) t (r .transaction-is) h0,
-        zeros-8-8 8 st p 0 t 0 set,
-        zeros-17-95 8 st p 0 t 0 set,
+        zeros-pages-version 8 st p 0 t 0 set,
+        zeros-from-second 8 st p 0 t 0 set,
       )
 
   -- "8 written set (page, own transaction as named in kind 19, set)"
   pub written-set-sent : (p t set : ℕ) → p < 32 → t ≢ 0 → t < 2 ^ 32 → set < 256
-      → Reads kinds st 112 (upMessage 8 st p 0 t 0 set) (WrittenSet p t (objectsOn p set))
+      → Reads kinds st messageLength (upMessage 8 st p 0 t 0 set) (WrittenSet p t (objectsOn p set))
   unfolding upFieldsOk
   written-set-sent p t set hp h0 ht hx =
       let r = up-read 8 st p 0 t 0 set ht (omega arith) in

@@ -1,5 +1,5 @@
 -- What a message that the server takes tells of its bytes: numbers 2 to 5 are not due.
-use Prim.Native.Nat.{ℕ, _+_, _*_, _^_, _≤_, _<_}
+use Prim.Native.Nat.{ℕ, _+_, _-_, _*_, _^_, _≤_, _<_}
 use mathlib.Core.Path.{_≡_, refl, sym, _∙_}
 use mathlib.Core.Bool.{Bool, true, false, _&&_, _||_, cond, or-false}
 use mathlib.Core.List.{List, [], _∷_}
@@ -18,14 +18,14 @@ use Rattle.sets.specs.Base.{some}
 use Rattle.sets.specs.Laws.{byB, byEq, eqb-no}
 use Rattle.cells.specs.Bits.{tb, tb-test}
 use Rattle.layout.specs.Record.{Entry, WellFormed, AllFit, recordLength}
-use Rattle.record.specs.Check.{lengthOf, checkOf}
+use Rattle.record.specs.Check.{readCountFrom, writeCountFrom, commitNumberFrom, transactionNumberFrom, stationNumberFrom, stationKindFrom, lengthOf, checkOf}
 use Rattle.record_meaning.specs.Parse.{recordOf}
 use Rattle.record_meaning.specs.Meaning.{read-written}
 use Rattle.line.specs.Server.{usedPage}
 use Rattle.entries.specs.Entries.{valueIn, FitVal, Within}
-use Rattle.message.specs.Layout.{kindOf, stationOf, pageOf, requesterOf, objectOf, transactionOf, pagesOf}
+use Rattle.message.specs.Layout.{pageFrom, objectFrom, transactionFrom, pagesFrom, versionFrom, setsFrom, secondSet, messageLength, kindOf, stationOf, pageOf, requesterOf, objectOf, transactionOf, pagesOf}
 use Rattle.message.specs.Range.{zeros, stationOk, pageOk, requestOk, commitOk, abortOk, purgeOk, busyOk, doneOk, writtenSetOk, upFieldsOk}
-use Rattle.message.specs.Commit.{entriesOf as entriesIn, commitLengthOk, versionOk, pagesTo, recordAgrees, commitNumber}
+use Rattle.message.specs.Commit.{versionsAt, versionWidth, recordAt, addressesAt, entriesOf as entriesIn, commitLengthOk, versionOk, pagesTo, recordAgrees, commitNumber}
 use Rattle.message.specs.Number.{lengthOk, upRange, kindsOk, recordNumber, upNumber}
 use Rattle.message_meaning.specs.Meant.{versionAt, workAt}
 use Rattle.message.specs.Accepted.{Zero, zeros-are, page-lt, object-lt, requester-lt, station-lt, transaction-named, passed}
@@ -39,7 +39,7 @@ pub record RequestFields (m : List ℕ) : Type 0 where
   pub page-is : pageOf m < 32
   pub object-is : objectOf m < 8
   pub transaction-not-0 : transactionOf m ≢ 0
-  pub unnamed-8 : Zero m 8 104
+  pub unnamed-8 : Zero m pagesFrom (messageLength - pagesFrom)
 
 request-fields : (m : List ℕ) → requestOk m ≡ true → RequestFields m
 unfolding requestOk
@@ -48,39 +48,39 @@ request-fields m h =
       page-is = page-lt m (search (and-l, and-r));
       object-is = object-lt m (search (and-l, and-r));
       transaction-not-0 = transaction-named m (search (and-l, and-r));
-      unnamed-8 = zeros-are m 8 104 (search (and-l, and-r));
+      unnamed-8 = zeros-are m pagesFrom (messageLength - pagesFrom) (search (and-l, and-r));
     }
 
 -- "4 abort (transaction)"
 pub record AbortFields (m : List ℕ) : Type 0 where
   pub transaction-not-0 : transactionOf m ≢ 0
-  pub unnamed-2 : Zero m 2 2
-  pub unnamed-8 : Zero m 8 104
+  pub unnamed-2 : Zero m pageFrom (transactionFrom - pageFrom)
+  pub unnamed-8 : Zero m pagesFrom (messageLength - pagesFrom)
 
 abort-fields : (m : List ℕ) → abortOk m ≡ true → AbortFields m
 unfolding abortOk
 abort-fields m h =
     record {
       transaction-not-0 = transaction-named m (search (and-l, and-r));
-      unnamed-2 = zeros-are m 2 2 (search (and-l, and-r));
-      unnamed-8 = zeros-are m 8 104 (search (and-l, and-r));
+      unnamed-2 = zeros-are m pageFrom (transactionFrom - pageFrom) (search (and-l, and-r));
+      unnamed-8 = zeros-are m pagesFrom (messageLength - pagesFrom) (search (and-l, and-r));
     }
 
 -- "5 purge (page)"
 pub record PurgeFields (m : List ℕ) : Type 0 where
   pub page-is : pageOf m < 32
-  pub unnamed-3 : Zero m 3 109
+  pub unnamed-3 : Zero m objectFrom (messageLength - objectFrom)
 
 purge-fields : (m : List ℕ) → purgeOk m ≡ true → PurgeFields m
 unfolding purgeOk
-purge-fields m h = record { page-is = page-lt m (and-l (pageOk m) (zeros m 3 109) h); unnamed-3 = zeros-are m 3 109 (and-r (pageOk m) (zeros m 3 109) h) }
+purge-fields m h = record { page-is = page-lt m (and-l (pageOk m) (zeros m objectFrom (messageLength - objectFrom)) h); unnamed-3 = zeros-are m objectFrom (messageLength - objectFrom) (and-r (pageOk m) (zeros m objectFrom (messageLength - objectFrom)) h) }
 
 -- "6 busy (requester, its transaction)"
 pub record BusyFields (m : List ℕ) : Type 0 where
   pub requester-is : requesterOf m < 8
   pub transaction-not-0 : transactionOf m ≢ 0
-  pub unnamed-3 : Zero m 3 1
-  pub unnamed-8 : Zero m 8 104
+  pub unnamed-3 : Zero m objectFrom 1
+  pub unnamed-8 : Zero m pagesFrom (messageLength - pagesFrom)
 
 busy-fields : (m : List ℕ) → busyOk m ≡ true → BusyFields m
 unfolding busyOk
@@ -88,16 +88,16 @@ busy-fields m h =
     record {
       requester-is = requester-lt m (search (and-l, and-r));
       transaction-not-0 = transaction-named m (search (and-l, and-r));
-      unnamed-3 = zeros-are m 3 1 (search (and-l, and-r));
-      unnamed-8 = zeros-are m 8 104 (search (and-l, and-r));
+      unnamed-3 = zeros-are m objectFrom 1 (search (and-l, and-r));
+      unnamed-8 = zeros-are m pagesFrom (messageLength - pagesFrom) (search (and-l, and-r));
     }
 
 -- "7 done (same, and the set of dropped pages)"
 pub record DoneFields (m : List ℕ) : Type 0 where
   pub requester-is : requesterOf m < 8
   pub transaction-not-0 : transactionOf m ≢ 0
-  pub unnamed-3 : Zero m 3 1
-  pub unnamed-12 : Zero m 12 100
+  pub unnamed-3 : Zero m objectFrom 1
+  pub unnamed-12 : Zero m versionFrom (messageLength - versionFrom)
 
 done-fields : (m : List ℕ) → doneOk m ≡ true → DoneFields m
 unfolding doneOk
@@ -105,17 +105,17 @@ done-fields m h =
     record {
       requester-is = requester-lt m (search (and-l, and-r));
       transaction-not-0 = transaction-named m (search (and-l, and-r));
-      unnamed-3 = zeros-are m 3 1 (search (and-l, and-r));
-      unnamed-12 = zeros-are m 12 100 (search (and-l, and-r));
+      unnamed-3 = zeros-are m objectFrom 1 (search (and-l, and-r));
+      unnamed-12 = zeros-are m versionFrom (messageLength - versionFrom) (search (and-l, and-r));
     }
 
 -- "8 written set (page, own transaction as named in kind 19, set)"
 pub record WrittenSetFields (m : List ℕ) : Type 0 where
   pub page-is : pageOf m < 32
   pub transaction-not-0 : transactionOf m ≢ 0
-  pub unnamed-3 : Zero m 3 1
-  pub unnamed-8 : Zero m 8 8
-  pub unnamed-17 : Zero m 17 95
+  pub unnamed-3 : Zero m objectFrom 1
+  pub unnamed-8 : Zero m pagesFrom (setsFrom - pagesFrom)
+  pub unnamed-17 : Zero m secondSet (messageLength - secondSet)
 
 written-set-fields : (m : List ℕ) → writtenSetOk m ≡ true → WrittenSetFields m
 unfolding writtenSetOk
@@ -123,60 +123,60 @@ written-set-fields m h =
     record {
       page-is = page-lt m (search (and-l, and-r));
       transaction-not-0 = transaction-named m (search (and-l, and-r));
-      unnamed-3 = zeros-are m 3 1 (search (and-l, and-r));
-      unnamed-8 = zeros-are m 8 8 (search (and-l, and-r));
-      unnamed-17 = zeros-are m 17 95 (search (and-l, and-r));
+      unnamed-3 = zeros-are m objectFrom 1 (search (and-l, and-r));
+      unnamed-8 = zeros-are m pagesFrom (setsFrom - pagesFrom) (search (and-l, and-r));
+      unnamed-17 = zeros-are m secondSet (messageLength - secondSet) (search (and-l, and-r));
     }
 
 -- "3 commit (transaction, set of pages used)", "followed by 32 versions of 4 bytes (0 for an unused page; all 0 from a locking station) and
 -- a record": what number 5 looks at; kind is that of the station at the server
 pub record CommitFields (kind : ℕ) (m : List ℕ) : Type 0 where
   pub transaction-not-0 : transactionOf m ≢ 0
-  pub unnamed-2 : Zero m 2 2
-  pub unnamed-12 : Zero m 12 100
-  pub length-is : length m ≡ 240 + lengthOf (drop 240 m)
-  pub record-accepted : checkOf (drop 240 m) ≡ 0
-  pub commit-0 : (recordOf (drop 240 m)) .commit ≡ 0
-  pub transaction-is : (recordOf (drop 240 m)) .transaction ≡ transactionOf m
-  pub station-is : (recordOf (drop 240 m)) .station ≡ stationOf m
-  pub kind-is : (recordOf (drop 240 m)) .kind ≡ kind
+  pub unnamed-2 : Zero m pageFrom (transactionFrom - pageFrom)
+  pub unnamed-12 : Zero m versionFrom (messageLength - versionFrom)
+  pub length-is : length m ≡ recordAt + lengthOf (drop recordAt m)
+  pub record-accepted : checkOf (drop recordAt m) ≡ 0
+  pub commit-0 : (recordOf (drop recordAt m)) .commit ≡ 0
+  pub transaction-is : (recordOf (drop recordAt m)) .transaction ≡ transactionOf m
+  pub station-is : (recordOf (drop recordAt m)) .station ≡ stationOf m
+  pub kind-is : (recordOf (drop recordAt m)) .kind ≡ kind
   pub versions-0 : (p : ℕ) → p < 32 → (eqb kind 1 && tb (pagesOf m) p) ≡ false → versionAt m p ≡ 0
   pub pages-are : (p : ℕ) → tb (pagesOf m) p ≡ usedPage (workAt m) p
 
-commit-length : (m : List ℕ) → commitLengthOk m ≡ true → length m ≡ 240 + lengthOf (drop 240 m)
+commit-length : (m : List ℕ) → commitLengthOk m ≡ true → length m ≡ recordAt + lengthOf (drop recordAt m)
 unfolding commitLengthOk
 commit-length m h =
-    eqb-true (length m) (240 + recordLength (u16At m 240) (u16At m 242)) (and-r (leb 256 (length m)) _ h)
-    ∙ rw (u16-behind 240 m 0, u16-behind 240 m 2)
+    eqb-true (length m) (recordAt + recordLength (u16At m (recordAt + readCountFrom)) (u16At m (recordAt + writeCountFrom))) (and-r (leb addressesAt (length m)) _ h)
+    ∙ rw (u16-behind recordAt m readCountFrom, u16-behind recordAt m writeCountFrom)
 
 -- the record is there whole
-record-there : (m : List ℕ) → length m ≡ 240 + lengthOf (drop 240 m) → lengthOf (drop 240 m) ≤ length (drop 240 m)
-record-there m h = rw (length-drop 240 m) (omega arith)
+record-there : (m : List ℕ) → length m ≡ recordAt + lengthOf (drop recordAt m) → lengthOf (drop recordAt m) ≤ length (drop recordAt m)
+record-there m h = rw (length-drop recordAt m) (omega arith)
 
 version-0 : (kind : ℕ) (m : List ℕ) (p : ℕ) → versionOk kind m p ≡ true → p < 32 → (eqb kind 1 && tb (pagesOf m) p) ≡ false → versionAt m p ≡ 0
 unfolding versionOk versionAt
 version-0 kind m p h l e =
-    let is-0 : (eqb (u32At m (112 + p * 4)) 0 || (eqb kind 1 && tb (pagesOf m) p)) ≡ true = rw (tb-test p (pagesOf m)) at h in
-    rw (lt-ltb p 32 l) (eqb-true (u32At m (112 + p * 4)) 0 (rw (e, or-false) at is-0))
+    let is-0 : (eqb (u32At m (versionsAt + p * versionWidth)) 0 || (eqb kind 1 && tb (pagesOf m) p)) ≡ true = rw (tb-test p (pagesOf m)) at h in
+    rw (lt-ltb p 32 l) (eqb-true (u32At m (versionsAt + p * versionWidth)) 0 (rw (e, or-false) at is-0))
 
 commit-fields : (kind : ℕ) (m : List ℕ) → commitOk m ≡ true → commitLengthOk m ≡ true → commitNumber kind m ≡ 0 → CommitFields kind m
 unfolding commitOk commitNumber recordAgrees recordOf
 commit-fields kind m h len n =
-    let checked = passed (eqb (checkOf (drop 240 m)) 0) (cond (recordAgrees kind m) 0 5) 4 n in
+    let checked = passed (eqb (checkOf (drop recordAt m)) 0) (cond (recordAgrees kind m) 0 5) 4 n in
     let same = (passed (recordAgrees kind m) 0 4 (checked .1)) .0 in
     let size = commit-length m len in
     let versions : allTo (versionOk kind m) 32 ≡ true = search (and-l, and-r) depth 7 in
     let pages : pagesTo m (entriesIn m) ≡ pagesOf m = eqb-true (pagesTo m (entriesIn m)) (pagesOf m) (search (and-l, and-r) depth 7) in
     record {
       transaction-not-0 = transaction-named m (search (and-l, and-r));
-      unnamed-2 = zeros-are m 2 2 (search (and-l, and-r));
-      unnamed-12 = zeros-are m 12 100 (search (and-l, and-r));
+      unnamed-2 = zeros-are m pageFrom (transactionFrom - pageFrom) (search (and-l, and-r));
+      unnamed-12 = zeros-are m versionFrom (messageLength - versionFrom) (search (and-l, and-r));
       length-is = size;
-      record-accepted = eqb-true (checkOf (drop 240 m)) 0 (checked .0);
-      commit-0 = sym (u32-behind 240 m 4) ∙ eqb-true (u32At m 244) 0 (search (and-l, and-r) depth 7);
-      transaction-is = sym (u32-behind 240 m 8) ∙ eqb-true (u32At m 248) (transactionOf m) (search (and-l, and-r) depth 7);
-      station-is = getD-drop 240 m 12 0 ∙ eqb-true (getD m 252 0) (stationOf m) (search (and-l, and-r) depth 7);
-      kind-is = getD-drop 240 m 13 0 ∙ eqb-true (getD m 253 0) kind (search (and-l, and-r) depth 7);
+      record-accepted = eqb-true (checkOf (drop recordAt m)) 0 (checked .0);
+      commit-0 = sym (u32-behind recordAt m commitNumberFrom) ∙ eqb-true (u32At m (recordAt + commitNumberFrom)) 0 (search (and-l, and-r) depth 7);
+      transaction-is = sym (u32-behind recordAt m transactionNumberFrom) ∙ eqb-true (u32At m (recordAt + transactionNumberFrom)) (transactionOf m) (search (and-l, and-r) depth 7);
+      station-is = getD-drop recordAt m stationNumberFrom 0 ∙ eqb-true (getD m (recordAt + stationNumberFrom) 0) (stationOf m) (search (and-l, and-r) depth 7);
+      kind-is = getD-drop recordAt m stationKindFrom 0 ∙ eqb-true (getD m (recordAt + stationKindFrom) 0) kind (search (and-l, and-r) depth 7);
       versions-0 = λ p l. version-0 kind m p (allTo-at (versionOk kind m) 32 versions p l) l;
       pages-are = λ p. rw (← pages) (pages-used m (record-there m size) p);
     }
@@ -188,7 +188,7 @@ pub record UpAccepted (kinds m : List ℕ) : Type 0 where
   pub station-is : stationOf m < 8
   pub kind-from : 1 ≤ kindOf m
   pub kind-to : kindOf m ≤ 8
-  pub length-is : kindOf m ≢ 3 → length m ≡ 112
+  pub length-is : kindOf m ≢ 3 → length m ≡ messageLength
   -- 1 and 2
   pub request : kindOf m ≤ 2 → RequestFields m
   pub commit : kindOf m ≡ 3 → CommitFields (getD kinds (stationOf m) 0) m
@@ -198,9 +198,9 @@ pub record UpAccepted (kinds m : List ℕ) : Type 0 where
   pub done : kindOf m ≡ 7 → DoneFields m
   pub written-set : kindOf m ≡ 8 → WrittenSetFields m
 
-length-up : (m : List ℕ) → lengthOk m ≡ true → kindOf m ≢ 3 → length m ≡ 112
+length-up : (m : List ℕ) → lengthOk m ≡ true → kindOf m ≢ 3 → length m ≡ messageLength
 unfolding lengthOk
-length-up m h k = eqb-true (length m) 112 (rw (ne-eqb (kindOf m) 3 k) at h)
+length-up m h k = eqb-true (length m) messageLength (rw (ne-eqb (kindOf m) 3 k) at h)
 
 length-commit : (m : List ℕ) → lengthOk m ≡ true → kindOf m ≡ 3 → commitLengthOk m ≡ true
 unfolding lengthOk
@@ -255,7 +255,7 @@ up-accepted kinds m h =
 
 version-fits : (m : List ℕ) → Bytes m → (p : ℕ) → versionAt m p < 2 ^ 32
 unfolding versionAt
-version-fits m hm p = byB (ltb p 32) (λ e. rw (e, u32At-is) (numAt-lt 4 m (112 + p * 4) hm)) (λ e. rw e (omega arith))
+version-fits m hm p = byB (ltb p 32) (λ e. rw (e, u32At-is) (numAt-lt 4 m (versionsAt + p * versionWidth) hm)) (λ e. rw e (omega arith))
 
 version-within : (m : List ℕ) (p : ℕ) → 32 ≤ p → versionAt m p ≡ 0
 unfolding versionAt
@@ -274,13 +274,13 @@ value-within [] h a l = refl
 value-within (e ∷ es) h a l = rw (ne-eqb a (e .address) (λ q. omega (arith, h .0 .address))) (value-within es (h .1) a l)
 
 module _ (kind : ℕ) (m : List ℕ) (hm : Bytes m) (c : CommitFields kind m) where
-  pub commit-record : WellFormed (recordOf (drop 240 m))
-  commit-record = read-written (drop 240 m) (bytes-drop 240 m hm) (c .record-accepted) .well-formed
+  pub commit-record : WellFormed (recordOf (drop recordAt m))
+  commit-record = read-written (drop recordAt m) (bytes-drop recordAt m hm) (c .record-accepted) .well-formed
 
   pub commit-work : WorkFits (workAt m)
   unfolding workAt
   commit-work =
-      let r = recordOf (drop 240 m) in
+      let r = recordOf (drop recordAt m) in
       let w = commit-record in
       record {
         transaction-not-0 = c .transaction-not-0;

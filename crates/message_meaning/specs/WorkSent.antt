@@ -19,6 +19,7 @@ use Rattle.entries.specs.Entries.{entriesOf, valueIn, FitVal, Within, entries-r
 use Rattle.message.specs.Number.{kindOk, kindsOk}
 use Rattle.message_meaning.specs.Sent.{Reads}
 use Rattle.message_meaning.specs.CommitSent.{commitMessage, workIn, Sendable, commit-sent}
+use Rattle.message.specs.Commit.{recordAt}
 
 -- the record of what a commit brings
 abbrev pub recordUp : ℕ → ℕ → Work → Record
@@ -71,7 +72,7 @@ kind-most kinds ok i l = leb-true (getD kinds i 0) 1 (allTo-at (kindOk kinds) 8 
 pub work-sent : (kinds : List ℕ) (station kind used : ℕ) (w : Work) → kindsOk kinds ≡ true → station < 8 → getD kinds station 0 ≡ kind → WorkFits w → used < 2 ^ 32
     → ((p : ℕ) → p < 32 → tb used p ≡ usedPage w p)
     → ((p : ℕ) → p < 32 → (eqb kind 1 && usedPage w p) ≡ false → (w .versions) p ≡ 0)
-    → Reads kinds station (240 + length (bytesOf (recordUp station kind w))) (commitMessage (recordUp station kind w) used (w .versions)) (Commit w)
+    → Reads kinds station (recordAt + length (bytesOf (recordUp station kind w))) (commitMessage (recordUp station kind w) used (w .versions)) (Commit w)
 work-sent kinds st k used w ok hs hk f hu pages zero-is =
     let back = work-back st k w f in
     let sendable : Sendable kinds (recordUp st k w) used (w .versions) =

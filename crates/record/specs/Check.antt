@@ -6,26 +6,48 @@ use lib.ListN.{length, getD}
 use lib.Dec.{eqb, ltb, leb}
 use Rattle.lists.specs.Tests.{allTo}
 use Rattle.le.specs.Le.{u16At, u32At}
-use Rattle.layout.specs.Record.{recordLength}
+use Rattle.layout.specs.Record.{headerLength, mostEntries, recordLength}
 
 -- the fields of a record, at their places: "sizes first: reads n (2 bytes), writes m (2), commit number (4), transaction (4), station (1), its kind (1)"
+abbrev pub readCountFrom : ℕ
+readCountFrom = 0
+
+abbrev pub writeCountFrom : ℕ
+writeCountFrom = readCountFrom + 2
+
+abbrev pub commitNumberFrom : ℕ
+commitNumberFrom = writeCountFrom + 2
+
+abbrev pub transactionNumberFrom : ℕ
+transactionNumberFrom = commitNumberFrom + 4
+
+abbrev pub stationNumberFrom : ℕ
+stationNumberFrom = transactionNumberFrom + 4
+
+abbrev pub stationKindFrom : ℕ
+stationKindFrom = stationNumberFrom + 1
+
+-- "two zero bytes"
+abbrev pub zeroBytesFrom : ℕ
+zeroBytesFrom = stationKindFrom + 1
+
 abbrev pub readCount : List ℕ → ℕ
-readCount s = u16At s 0
+readCount s = u16At s readCountFrom
 
 abbrev pub writeCount : List ℕ → ℕ
-writeCount s = u16At s 2
+writeCount s = u16At s writeCountFrom
 
 abbrev pub commitNumber : List ℕ → ℕ
-commitNumber s = u32At s 4
+commitNumber s = u32At s commitNumberFrom
 
 abbrev pub transactionNumber : List ℕ → ℕ
-transactionNumber s = u32At s 8
+transactionNumber s = u32At s transactionNumberFrom
 
 abbrev pub stationNumber : List ℕ → ℕ
-stationNumber s = getD s 12 0
+stationNumber s = getD s stationNumberFrom 0
 
 abbrev pub stationKind : List ℕ → ℕ
-stationKind s = getD s 13 0
+stationKind s = getD s stationKindFrom 0
 
 -- the length that a record's own sizes give it
 abbrev pub lengthOf : List ℕ → ℕ
@@ -33,16 +55,16 @@ lengthOf s = recordLength (readCount s) (writeCount s)
 
 -- the bytes that a record claims, as far as its own tell: a header where that is not whole
 unfoldable pub claimedLength : List ℕ → ℕ
-claimedLength s = cond (ltb (length s) 16) 16 (lengthOf s)
+claimedLength s = cond (ltb (length s) headerLength) headerLength (lengthOf s)
 
 -- "n and m are 0 to 256"; "(also station above 7, kind above 1, transaction 0)"
 unfoldable pub headOk : ℕ → ℕ → ℕ → ℕ → ℕ → Bool
-headOk n m transaction station kind = leb n 256 && leb m 256 && not (eqb transaction 0) && leb station 7 && leb kind 1
+headOk n m transaction station kind = leb n mostEntries && leb m mostEntries && not (eqb transaction 0) && leb station 7 && leb kind 1
 
 -- the header: its numbers, and "two zero bytes"
 unfoldable pub headAt : List ℕ → Bool
 headAt s =
-    headOk (readCount s) (writeCount s) (transactionNumber s) (stationNumber s) (stationKind s) && eqb (getD s 14 0) 0 && eqb (getD s 15 0) 0
+    headOk (readCount s) (writeCount s) (transactionNumber s) (stationNumber s) (stationKind s) && eqb (getD s zeroBytesFrom 0) 0 && eqb (getD s (zeroBytesFrom + 1) 0) 0
 
 -- the address at a + i is below the one behind it
 unfoldable pub riseAt : List ℕ → ℕ → ℕ → Bool
@@ -54,7 +76,7 @@ rises s a n = allTo (riseAt s a) (n - 1)
 
 -- "within reads and within writes": the addresses start right behind the header, reads first
 unfoldable pub addressesRise : List ℕ → Bool
-addressesRise s = rises s 16 (readCount s) && rises s (16 + readCount s) (writeCount s)
+addressesRise s = rises s headerLength (readCount s) && rises s (headerLength + readCount s) (writeCount s)
 
 -- the layout of a record whose bytes are all there
 abbrev pub laidOut : List ℕ → Bool
@@ -62,4 +84,4 @@ laidOut s = headAt s && addressesRise s
 
 -- "the check takes the first record of its bytes (12, then 5)"
 unfoldable pub checkOf : List ℕ → ℕ
-checkOf s = cond (ltb (length s) 16) 12 (cond (ltb (length s) (lengthOf s)) 12 (cond (laidOut s) 0 5))
+checkOf s = cond (ltb (length s) headerLength) 12 (cond (ltb (length s) (lengthOf s)) 12 (cond (laidOut s) 0 5))

@@ -8,19 +8,20 @@ use lib.ListN.{length}
 use lib.Dec.{eqb, ltb, leb}
 use borrow.Author.Tests.{ltb-false, leb-true, eqb-true, not-true}
 use Rattle.lists.specs.Tests.{and-l, and-r}
+use Rattle.layout.specs.Record.{headerLength, valueLength, mostEntries}
 use Rattle.record.specs.Check.{headOk, rises, lengthOf, laidOut, checkOf}
 use Rattle.record.specs.Write.{fits}
 
 pub record Accepted (s : List ℕ) : Type 0 where
-  pub header-there : 16 ≤ length s
+  pub header-there : headerLength ≤ length s
   pub all-there : lengthOf s ≤ length s
   pub layout : laidOut s ≡ true
 
 pub accepted : (s : List ℕ) → checkOf s ≡ 0 → Accepted s
 unfolding checkOf
-accepted s h = by-tests (ltb (length s) 16) (ltb (length s) (lengthOf s)) (laidOut s) refl refl refl h
+accepted s h = by-tests (ltb (length s) headerLength) (ltb (length s) (lengthOf s)) (laidOut s) refl refl refl h
   where
-    by-tests : (a b l : Bool) → ltb (length s) 16 ≡ a → ltb (length s) (lengthOf s) ≡ b → laidOut s ≡ l → _≡_ {A = ℕ} (cond a 12 (cond b 12 (cond l 0 5))) 0 → Accepted s
+    by-tests : (a b l : Bool) → ltb (length s) headerLength ≡ a → ltb (length s) (lengthOf s) ≡ b → laidOut s ≡ l → _≡_ {A = ℕ} (cond a 12 (cond b 12 (cond l 0 5))) 0 → Accepted s
     by-tests true b l ea eb el e = absurd (omega arith)
     by-tests false true l ea eb el e = absurd (omega arith)
     by-tests false false true ea eb el e = record { header-there = ltb-false _ _ ea; all-there = ltb-false _ _ eb; layout = el }
@@ -28,8 +29,8 @@ accepted s h = by-tests (ltb (length s) 16) (ltb (length s) (lengthOf s)) (laidO
 
 -- what a header in range tells
 pub record HeadFits (n m transaction station kind : ℕ) : Type 0 where
-  pub reads-count : n ≤ 256
-  pub writes-count : m ≤ 256
+  pub reads-count : n ≤ mostEntries
+  pub writes-count : m ≤ mostEntries
   pub transaction-not-0 : eqb transaction 0 ≡ false
   pub station-is : station ≤ 7
   pub kind-is : kind ≤ 1
@@ -37,8 +38,8 @@ pub record HeadFits (n m transaction station kind : ℕ) : Type 0 where
 pub head-fits : (n m transaction station kind : ℕ) → headOk n m transaction station kind ≡ true → HeadFits n m transaction station kind
 unfolding headOk
 head-fits n m t s k h =
-    let a = leb n 256 in
-    let b = leb m 256 in
+    let a = leb n mostEntries in
+    let b = leb m mostEntries in
     let d = not (eqb t 0) in
     let f = leb s 7 in
     let h4 = and-l (a && b && d && f) (leb k 1) h in
@@ -56,7 +57,7 @@ head-fits n m t s k h =
 pub record Fit (n m transaction station kind : ℕ) (addrs vals : List ℕ) : Type 0 where
   pub head : headOk n m transaction station kind ≡ true
   pub addresses-length : length addrs ≡ n + m
-  pub values-length : length vals ≡ 8 * (n + m)
+  pub values-length : length vals ≡ valueLength * (n + m)
   pub reads-rise : rises addrs 0 n ≡ true
   pub writes-rise : rises addrs n m ≡ true
 
@@ -65,7 +66,7 @@ unfolding fits
 fit n m t s k addrs vals h =
     let a = eqb (length addrs) (n + m) in
     let b = headOk n m t s k in
-    let d = eqb (length vals) (8 * (n + m)) in
+    let d = eqb (length vals) (valueLength * (n + m)) in
     let f = rises addrs 0 n in
     let g = rises addrs n m in
     let hr = and-r a (b && d && f && g) h in

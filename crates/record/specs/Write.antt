@@ -4,7 +4,7 @@ use mathlib.Core.List.{List, _++_}
 use mathlib.Core.Bool.{Bool, _&&_, cond}
 use lib.ListN.{length, drop}
 use lib.Dec.{eqb, ltb}
-use Rattle.layout.specs.Record.{header, recordLength}
+use Rattle.layout.specs.Record.{valueLength, header, recordLength}
 use Rattle.record.specs.Check.{headOk, rises}
 
 -- the output afterwards, and the number
@@ -19,7 +19,7 @@ written o k = record { out = o; number = k }
 unfoldable pub fits : ℕ → ℕ → ℕ → ℕ → ℕ → List ℕ → List ℕ → Bool
 fits n m transaction station kind addrs vals =
     eqb (length addrs) (n + m)
-    && (headOk n m transaction station kind && eqb (length vals) (8 * (n + m)) && rises addrs 0 n && rises addrs n m)
+    && (headOk n m transaction station kind && eqb (length vals) (valueLength * (n + m)) && rises addrs 0 n && rises addrs n m)
 
 -- the record's bytes: header, addresses, values
 unfoldable pub recordBytes : ℕ → ℕ → ℕ → ℕ → ℕ → ℕ → List ℕ → List ℕ → List ℕ

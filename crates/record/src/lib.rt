@@ -5,14 +5,44 @@ ghost use Prim.Native.Nat.{_+_, _*_, _-_, _≤_, _<_};
 ghost use lib.ListN.{length, take, drop};
 ghost use Rattle.record.specs.Check.{lengthOf, claimedLength, headOk, headAt, riseAt, rises as Check·rises, addressesRise, checkOf};
 ghost use Rattle.record.specs.Write.{fits as Write·fits, recordBytes, written, writeOf};
-ghost use Rattle.layout.specs.Record.{header, recordLength};
+ghost use Rattle.layout.specs.Record.{headerLength, valueLength, header, recordLength};
 ghost use lib.Seq.{sets};
+
+// Document 01, "Record, sizes first": where each field of the header stands.
+pub const READS: usize = 0;
+
+pub const WRITES: usize = READS + 2;
+
+pub const COMMIT: usize = WRITES + 2;
+
+pub const TRANSACTION: usize = COMMIT + 4;
+
+pub const STATION: usize = TRANSACTION + 4;
+
+pub const KIND: usize = STATION + 1;
+
+pub const ZEROS: usize = KIND + 1;
+
+pub const LAST_ZERO: usize = ZEROS + 1;
+
+// The header's length: the addresses start right behind it.
+pub const HEADER: usize = LAST_ZERO + 1;
+
+// Bytes of a value, and of an entry: an address and a value.
+pub const VALUE: usize = 8;
+
+pub const ENTRY: usize = 1 + VALUE;
+
+// The most reads, and the most writes, that a record has; the length of a record with both.
+pub const MOST: u32 = 256;
+
+pub const LONGEST: usize = HEADER + ENTRY * (2 * MOST as usize);
 
 // Whether the numbers of a header are in range.
 fn head_ok(reads: u32, writes: u32, transaction: u32, station: u32, kind: u32) -> bool
     ensures { λ r. ⌜ r ≡ headOk reads writes transaction station kind ⌝ }
 {
-    (reads <= 256) & (writes <= 256) & (transaction != 0) & (station <= 7) & (kind <= 1)
+    (reads <= MOST) & (writes <= MOST) & (transaction != 0) & (station <= 7) & (kind <= 1)
 }
 
 fn rise_at(s: &[u8], a: usize, i: usize) -> bool
@@ -46,46 +76,46 @@ fn rises(s: &[u8], a: usize, n: usize) -> bool
 
 // The length that a record's own sizes give it.
 fn record_length(s: &[u8]) -> usize
-    requires { ⌜ 16 ≤ length (now s) ⌝ }
+    requires { ⌜ headerLength ≤ length (now s) ⌝ }
     ensures { λ r. ⌜ r ≡ lengthOf (now (s .entry)) ⌝ }
 {
-    16 + 9 * (le::index(le::get_u16(s, 0)) + le::index(le::get_u16(s, 2)))
+    HEADER + ENTRY * (le::index(le::get_u16(s, READS)) + le::index(le::get_u16(s, WRITES)))
 }
 
 // The bytes that the first record of these claims, as far as they tell: a header where that is not whole.
 pub fn claimed_length(bytes: &[u8]) -> usize
     ensures { λ r. ⌜ r ≡ claimedLength (now (bytes .entry)) ⌝ }
 {
-    if bytes.len() < 16 {
-        return 16;
+    if bytes.len() < HEADER {
+        return HEADER;
     }
     record_length(bytes)
 }
 
 // Whether a header's numbers are in range and its two last bytes are 0.
 fn head_at(s: &[u8]) -> bool
-    requires { ⌜ 16 ≤ length (now s) ⌝ }
+    requires { ⌜ headerLength ≤ length (now s) ⌝ }
     ensures { λ r. ⌜ r ≡ headAt (now (s .entry)) ⌝ }
 {
     head_ok(
-        le::get_u16(s, 0),
-        le::get_u16(s, 2),
-        le::get_u32(s, 8),
-        le::wide(s[12]),
-        le::wide(s[13]),
+        le::get_u16(s, READS),
+        le::get_u16(s, WRITES),
+        le::get_u32(s, TRANSACTION),
+        le::wide(s[STATION]),
+        le::wide(s[KIND]),
     )
-        & (s[14] == 0)
-        & (s[15] == 0)
+        & (s[ZEROS] == 0)
+        & (s[LAST_ZERO] == 0)
 }
 
 // Whether the addresses of a record whose bytes are all there rise, within its reads and within its writes.
 fn addresses_rise(s: &[u8]) -> bool
-    requires { ⌜ (16 ≤ length (now s)) × (lengthOf (now s) ≤ length (now s)) ⌝ }
+    requires { ⌜ (headerLength ≤ length (now s)) × (lengthOf (now s) ≤ length (now s)) ⌝ }
     ensures { λ r. ⌜ r ≡ addressesRise (now (s .entry)) ⌝ }
 {
-    let n = le::index(le::get_u16(s, 0));
-    let m = le::index(le::get_u16(s, 2));
-    rises(s, 16, n) & rises(s, 16 + n, m)
+    let n = le::index(le::get_u16(s, READS));
+    let m = le::index(le::get_u16(s, WRITES));
+    rises(s, HEADER, n) & rises(s, HEADER + n, m)
 }
 
 // The number of the first record of these bytes: 12 where they end inside it, then 5 where its layout is broken, else 0.
@@ -94,7 +124,7 @@ fn addresses_rise(s: &[u8]) -> bool
 pub extern "C" fn wax_record_check(bytes: &[u8]) -> u32
     ensures { λ r. ⌜ r ≡ checkOf (now (bytes .entry)) ⌝ }
 {
-    if bytes.len() < 16 {
+    if bytes.len() < HEADER {
         return 12;
     }
     if bytes.len() < record_length(bytes) {
@@ -123,17 +153,17 @@ pub fn put_header(
     station: u32,
     kind: u32,
 )
-    requires { ⌜ (16 ≤ length (now out)) × (station < 256) × (kind < 256) ⌝ }
+    requires { ⌜ (headerLength ≤ length (now out)) × (station < 256) × (kind < 256) ⌝ }
     ensures { λ _. ⌜ now (out .exit) ≡ sets (now (out .entry)) 0 (header reads writes commit transaction station kind) ⌝ }
 {
-    le::put_u16(out, 0, reads);
-    le::put_u16(out, 2, writes);
-    le::put_u32(out, 4, commit);
-    le::put_u32(out, 8, transaction);
-    le::put_u8(out, 12, station as u8);
-    le::put_u8(out, 13, kind as u8);
-    le::put_u8(out, 14, 0);
-    le::put_u8(out, 15, 0);
+    le::put_u16(out, READS, reads);
+    le::put_u16(out, WRITES, writes);
+    le::put_u32(out, COMMIT, commit);
+    le::put_u32(out, TRANSACTION, transaction);
+    le::put_u8(out, STATION, station as u8);
+    le::put_u8(out, KIND, kind as u8);
+    le::put_u8(out, ZEROS, 0);
+    le::put_u8(out, LAST_ZERO, 0);
 }
 
 // Whether the arguments make a record.
@@ -154,7 +184,7 @@ fn fits(
         return false;
     }
     head_ok(reads, writes, transaction, station, kind)
-        & (values.len() == 8 * (n + m))
+        & (values.len() == VALUE * (n + m))
         & rises(addresses, 0, n)
         & rises(addresses, n, m)
 }
@@ -171,13 +201,13 @@ fn put_record(
     addresses: &[u8],
     values: &[u8],
 )
-    requires { ⌜ (length (now addresses) ≡ reads + writes) × (length (now values) ≡ 8 * (reads + writes)) × (recordLength reads writes ≤ length (now out)) × (station < 256) × (kind < 256) ⌝ }
+    requires { ⌜ (length (now addresses) ≡ reads + writes) × (length (now values) ≡ valueLength * (reads + writes)) × (recordLength reads writes ≤ length (now out)) × (station < 256) × (kind < 256) ⌝ }
     ensures { λ _. ⌜ now (out .exit) ≡ recordBytes reads writes commit transaction station kind (now (addresses .entry)) (now (values .entry)) ++ drop (recordLength reads writes) (now (out .entry)) ⌝ }
 {
     put_header(out, reads, writes, commit, transaction, station, kind);
-    let a = 16 + addresses.len();
+    let a = HEADER + addresses.len();
     let e = a + values.len();
-    fill(&mut out[16..a], addresses);
+    fill(&mut out[HEADER..a], addresses);
     fill(&mut out[a..e], values);
 }
 
@@ -197,7 +227,7 @@ pub extern "C" fn wax_record_write(
 ) -> u32
     ensures { λ r. ⌜ written (now (out .exit)) r ≡ writeOf reads writes commit transaction station kind (now (addresses .entry)) (now (values .entry)) (now (out .entry)) ⌝ }
 {
-    if out.len() < 16 + 9 * (le::index(reads) + le::index(writes)) {
+    if out.len() < HEADER + ENTRY * (le::index(reads) + le::index(writes)) {
         return 1;
     }
     if !fits(reads, writes, transaction, station, kind, addresses, values) {

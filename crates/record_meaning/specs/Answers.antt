@@ -11,8 +11,8 @@ use borrow.Author.Tests.{le-ltb, lt-ltb, le-leb, ne-eqb, ltb-true, ltb-false, eq
 use Rattle.lists.specs.Tests.{and-l, and-r}
 use Rattle.lists.specs.Parts.{drop-behind}
 use Rattle.le.specs.Le.{u16At}
-use Rattle.layout.specs.Record.{Record, entries, WellFormed, header, addresses, values}
-use Rattle.record.specs.Check.{readCount, writeCount, transactionNumber, stationNumber, stationKind, lengthOf, headOk, headAt, rises, addressesRise, laidOut, checkOf}
+use Rattle.layout.specs.Record.{headerLength, mostEntries, Record, entries, WellFormed, header, addresses, values}
+use Rattle.record.specs.Check.{zeroBytesFrom, readCount, writeCount, transactionNumber, stationNumber, stationKind, lengthOf, headOk, headAt, rises, addressesRise, laidOut, checkOf}
 use Rattle.record.specs.Write.{recordBytes}
 use Rattle.record.specs.Facts.{HeadFits, head-fits, Fit}
 use Rattle.record.specs.Stores.{length-header}
@@ -23,37 +23,37 @@ use Rattle.record_meaning.specs.Head.{Head, header-read}
 -- what a layout that is not broken tells
 pub record LaidOut (s : List ℕ) : Type 0 where
   pub head : HeadFits (readCount s) (writeCount s) (transactionNumber s) (stationNumber s) (stationKind s)
-  pub zero-14 : getD s 14 0 ≡ 0
-  pub zero-15 : getD s 15 0 ≡ 0
-  pub reads-rise : rises s 16 (readCount s) ≡ true
-  pub writes-rise : rises s (16 + readCount s) (writeCount s) ≡ true
+  pub zero-first : getD s zeroBytesFrom 0 ≡ 0
+  pub zero-last : getD s (zeroBytesFrom + 1) 0 ≡ 0
+  pub reads-rise : rises s headerLength (readCount s) ≡ true
+  pub writes-rise : rises s (headerLength + readCount s) (writeCount s) ≡ true
 
 pub laid : (s : List ℕ) → laidOut s ≡ true → LaidOut s
 unfolding headAt addressesRise
 laid s h =
     let ok = headOk (readCount s) (writeCount s) (transactionNumber s) (stationNumber s) (stationKind s) in
-    let z14 = eqb (getD s 14 0) 0 in
-    let z15 = eqb (getD s 15 0) 0 in
-    let reads = rises s 16 (readCount s) in
-    let writes = rises s (16 + readCount s) (writeCount s) in
-    let h-head = and-l (ok && z14 && z15) (reads && writes) h in
-    let h-rise = and-r (ok && z14 && z15) (reads && writes) h in
-    let h-ok = and-l (ok && z14) z15 h-head in
+    let z₁ = eqb (getD s zeroBytesFrom 0) 0 in
+    let z₂ = eqb (getD s (zeroBytesFrom + 1) 0) 0 in
+    let reads = rises s headerLength (readCount s) in
+    let writes = rises s (headerLength + readCount s) (writeCount s) in
+    let h-head = and-l (ok && z₁ && z₂) (reads && writes) h in
+    let h-rise = and-r (ok && z₁ && z₂) (reads && writes) h in
+    let h-ok = and-l (ok && z₁) z₂ h-head in
     record {
-      head = head-fits _ _ _ _ _ (and-l ok z14 h-ok);
-      zero-14 = eqb-true _ _ (and-r ok z14 h-ok);
-      zero-15 = eqb-true _ _ (and-r (ok && z14) z15 h-head);
+      head = head-fits _ _ _ _ _ (and-l ok z₁ h-ok);
+      zero-first = eqb-true _ _ (and-r ok z₁ h-ok);
+      zero-last = eqb-true _ _ (and-r (ok && z₁) z₂ h-head);
       reads-rise = and-l reads writes h-rise;
       writes-rise = and-r reads writes h-rise;
     }
 
 accept : (s : List ℕ) → lengthOf s ≤ length s → laidOut s ≡ true → checkOf s ≡ 0
 unfolding checkOf
-accept s h l = rw (le-ltb (length s) 16 (omega arith), le-ltb (length s) (lengthOf s) h, l)
+accept s h l = rw (le-ltb (length s) headerLength (omega arith), le-ltb (length s) (lengthOf s) h, l)
 
 short : (s : List ℕ) → length s < lengthOf s → checkOf s ≡ 12
 unfolding checkOf
-short s h = rw (lt-ltb (length s) (lengthOf s) h) (either (ltb (length s) 16))
+short s h = rw (lt-ltb (length s) (lengthOf s) h) (either (ltb (length s) headerLength))
   where
     either : (b : Bool) → _≡_ {A = ℕ} (cond b 12 12) 12
     either true = refl
@@ -72,9 +72,9 @@ short-take k s hk h = short (take k s) (rw (length-take-le k s hk) (by-test (ltb
     by-test true e = let l = ltb-true k 4 e in omega arith
     by-test false e = rw (lengthOf-take k s (ltb-false k 4 e)) h
 
-head-ok : (n m transaction station kind : ℕ) → n ≤ 256 → m ≤ 256 → 0 < transaction → station ≤ 7 → kind ≤ 1 → headOk n m transaction station kind ≡ true
+head-ok : (n m transaction station kind : ℕ) → n ≤ mostEntries → m ≤ mostEntries → 0 < transaction → station ≤ 7 → kind ≤ 1 → headOk n m transaction station kind ≡ true
 unfolding headOk
-head-ok n m t s k hn hm ht hs hk = rw (le-leb n 256 hn, le-leb m 256 hm, ne-eqb t 0 (omega arith), le-leb s 7 hs, le-leb k 1 hk)
+head-ok n m t s k hn hm ht hs hk = rw (le-leb n mostEntries hn, le-leb m mostEntries hm, ne-eqb t 0 (omega arith), le-leb s 7 hs, le-leb k 1 hk)
 
 -- the fields of a record fit
 pub fit-of : (r : Record) → WellFormed r → Fit (length (r .reads)) (length (r .writes)) (r .transaction) (r .station) (r .kind) (addresses (entries r)) (values (entries r))
@@ -106,9 +106,9 @@ module _ (n m commit transaction station kind : ℕ) (addrs vals : List ℕ) (f 
       let front = recordBytes-front n m commit transaction station kind addrs vals rest in
       let l = length-header n m commit transaction station kind in
       let s = recordBytes n m commit transaction station kind addrs vals ++ rest in
-      let reads-rise : rises s 16 n ≡ true = rw front (rises-behind p addrs (vals ++ rest) 0 n 16 (omega arith) (omega arith) ∙ f .reads-rise) in
-      let writes-rise : rises s (16 + n) m ≡ true = rw front (rises-behind p addrs (vals ++ rest) n m (16 + n) (omega arith) (omega arith) ∙ f .writes-rise) in
-      rw (h .reads, h .writes, h .transaction-is, h .station-is, h .kind-is, h .zero-14, h .zero-15, f .head, reads-rise, writes-rise)
+      let reads-rise : rises s headerLength n ≡ true = rw front (rises-behind p addrs (vals ++ rest) 0 n headerLength (omega arith) (omega arith) ∙ f .reads-rise) in
+      let writes-rise : rises s (headerLength + n) m ≡ true = rw front (rises-behind p addrs (vals ++ rest) n m (headerLength + n) (omega arith) (omega arith) ∙ f .writes-rise) in
+      rw (h .reads, h .writes, h .transaction-is, h .station-is, h .kind-is, h .zero-first, h .zero-last, f .head, reads-rise, writes-rise)
 
   -- the bytes that are written of them are accepted, whatever follows
   pub checks : (rest : List ℕ) → checkOf (recordBytes n m commit transaction station kind addrs vals ++ rest) ≡ 0

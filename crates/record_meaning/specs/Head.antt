@@ -1,5 +1,5 @@
 -- The header: what is read from it is what it was written with, and the other way round.
-use Prim.Native.Nat.{ℕ, _^_, _≤_, _<_}
+use Prim.Native.Nat.{ℕ, _+_, _-_, _^_, _≤_, _<_}
 use mathlib.Core.Path.{_≡_, refl}
 use mathlib.Core.List.{List, [], _∷_, _++_}
 use native.Mathlib.Omega.{arith}
@@ -10,8 +10,8 @@ use Rattle.lists.specs.Parts.{part-join}
 use Rattle.le.specs.Le.{u16At, u32At}
 use Rattle.le.specs.Width.{bytes, bytes-numAt}
 use Rattle.le.specs.Laws.{u16At-is, u32At-is}
-use Rattle.layout.specs.Record.{header}
-use Rattle.record.specs.Check.{readCount, writeCount, commitNumber, transactionNumber, stationNumber, stationKind}
+use Rattle.layout.specs.Record.{headerLength, header}
+use Rattle.record.specs.Check.{readCountFrom, writeCountFrom, commitNumberFrom, transactionNumberFrom, stationNumberFrom, stationKindFrom, zeroBytesFrom, readCount, writeCount, commitNumber, transactionNumber, stationNumber, stationKind}
 
 -- these numbers stand in the header of s
 pub record Head (n m commit transaction station kind : ℕ) (s : List ℕ) : Type 0 where
@@ -21,8 +21,8 @@ pub record Head (n m commit transaction station kind : ℕ) (s : List ℕ) : Typ
   pub transaction-is : transactionNumber s ≡ transaction
   pub station-is : stationNumber s ≡ station
   pub kind-is : stationKind s ≡ kind
-  pub zero-14 : getD s 14 0 ≡ 0
-  pub zero-15 : getD s 15 0 ≡ 0
+  pub zero-first : getD s zeroBytesFrom 0 ≡ 0
+  pub zero-last : getD s (zeroBytesFrom + 1) 0 ≡ 0
 
 -- what the header was written with is read from it, whatever follows
 pub header-read : (n m commit transaction station kind : ℕ) (rest : List ℕ) → n < 256 ^ 2 → m < 256 ^ 2 → commit < 256 ^ 4 → transaction < 256 ^ 4
@@ -36,29 +36,29 @@ header-read n m c t st k rest hn hm hc ht =
       transaction-is = omega arith;
       station-is = refl;
       kind-is = refl;
-      zero-14 = refl;
-      zero-15 = refl;
+      zero-first = refl;
+      zero-last = refl;
     }
 
--- the header with the numbers that are read from s is the first 16 bytes of s
-pub header-written : (s : List ℕ) → Bytes s → 16 ≤ length s → getD s 14 0 ≡ 0 → getD s 15 0 ≡ 0
-    → header (readCount s) (writeCount s) (commitNumber s) (transactionNumber s) (stationNumber s) (stationKind s) ≡ take 16 s
+-- the header with the numbers that are read from s is the first bytes of s
+pub header-written : (s : List ℕ) → Bytes s → headerLength ≤ length s → getD s zeroBytesFrom 0 ≡ 0 → getD s (zeroBytesFrom + 1) 0 ≡ 0
+    → header (readCount s) (writeCount s) (commitNumber s) (transactionNumber s) (stationNumber s) (stationKind s) ≡ take headerLength s
 unfolding header
-header-written s hs h z14 z15 =
-    let last : take 4 (drop 12 s) ≡ stationNumber s ∷ stationKind s ∷ 0 ∷ 0 ∷ [] =
-    rw (drop-cons s 12 0 (omega arith), drop-cons s 13 0 (omega arith), drop-cons s 14 0 (omega arith), drop-cons s 15 0 (omega arith), z14, z15) in
+header-written s hs h z₁ z₂ =
+    let last : take 4 (drop stationNumberFrom s) ≡ stationNumber s ∷ stationKind s ∷ 0 ∷ 0 ∷ [] =
+    rw (drop-cons s stationNumberFrom 0 (omega arith), drop-cons s stationKindFrom 0 (omega arith), drop-cons s zeroBytesFrom 0 (omega arith), drop-cons s (zeroBytesFrom + 1) 0 (omega arith), z₁, z₂) in
     rw (
-      u16At-is s 0,
-      u16At-is s 2,
-      u32At-is s 4,
-      u32At-is s 8,
-      bytes-numAt 2 s 0 hs (omega arith),
-      bytes-numAt 2 s 2 hs (omega arith),
-      bytes-numAt 4 s 4 hs (omega arith),
-      bytes-numAt 4 s 8 hs (omega arith),
+      u16At-is s readCountFrom,
+      u16At-is s writeCountFrom,
+      u32At-is s commitNumberFrom,
+      u32At-is s transactionNumberFrom,
+      bytes-numAt 2 s readCountFrom hs (omega arith),
+      bytes-numAt 2 s writeCountFrom hs (omega arith),
+      bytes-numAt 4 s commitNumberFrom hs (omega arith),
+      bytes-numAt 4 s transactionNumberFrom hs (omega arith),
       ← last,
-      part-join 2 14 0 s,
-      part-join 2 12 2 s,
-      part-join 4 8 4 s,
-      part-join 4 4 8 s,
+      part-join 2 (headerLength - writeCountFrom) readCountFrom s,
+      part-join 2 (headerLength - commitNumberFrom) writeCountFrom s,
+      part-join 4 (headerLength - transactionNumberFrom) commitNumberFrom s,
+      part-join 4 (headerLength - stationNumberFrom) transactionNumberFrom s,
     )

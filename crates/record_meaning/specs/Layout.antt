@@ -7,7 +7,7 @@ use lib.ListN.{length, drop, length-append}
 use Rattle.lists.specs.Bytes.{Bytes, bytes-append}
 use Rattle.lists.specs.Parts.{drop-behind}
 use Rattle.le.specs.Width.{bytes, length-bytes, bytes-are}
-use Rattle.layout.specs.Record.{Entry, Record, entries, AllFit, WellFormed, header, addresses, values, bytesOf, recordLength}
+use Rattle.layout.specs.Record.{headerLength, valueLength, Entry, Record, entries, AllFit, WellFormed, header, addresses, values, bytesOf, recordLength}
 use Rattle.record.specs.Write.{recordBytes}
 use Rattle.record.specs.Stores.{length-header}
 
@@ -34,12 +34,12 @@ pub length-addresses : (es : List Entry) → length (addresses es) ≡ length es
 length-addresses [] = refl
 length-addresses (e ∷ es) = ap suc (length-addresses es)
 
-pub length-values : (es : List Entry) → length (values es) ≡ 8 * length es
+pub length-values : (es : List Entry) → length (values es) ≡ valueLength * length es
 length-values [] = refl
 length-values (e ∷ es) = rw (length-append, length-bytes, length-values es) (omega arith)
 
 -- "Length 16 + 9 × (n + m)"
-pub length-recordBytes : (n m commit transaction station kind : ℕ) (addrs vals : List ℕ) → length addrs ≡ n + m → length vals ≡ 8 * (n + m)
+pub length-recordBytes : (n m commit transaction station kind : ℕ) (addrs vals : List ℕ) → length addrs ≡ n + m → length vals ≡ valueLength * (n + m)
     → length (recordBytes n m commit transaction station kind addrs vals) ≡ recordLength n m
 unfolding recordBytes
 length-recordBytes n m c t st k addrs vals ha hv = simp (length-append, length-header, ha, hv) (omega arith)
@@ -59,7 +59,7 @@ addresses-are (e ∷ es) h = (h .0 .address, addresses-are es (h .1))
 
 values-are : (es : List Entry) → Bytes (values es)
 values-are [] = tt
-values-are (e ∷ es) = bytes-append (bytes 8 (e .value)) (values es) (bytes-are 8 (e .value)) (values-are es)
+values-are (e ∷ es) = bytes-append (bytes valueLength (e .value)) (values es) (bytes-are valueLength (e .value)) (values-are es)
 
 header-are : (n m commit transaction station kind : ℕ) → station < 256 → kind < 256 → Bytes (header n m commit transaction station kind)
 unfolding header
@@ -82,10 +82,10 @@ bytesOf-are r w =
 
 -- where the entries' parts stand in bytes that begin with the record's
 pub record Places (r : Record) (rest s : List ℕ) : Type 0 where
-  pub reads-at : drop 16 s ≡ addresses (r .reads) ++ (addresses (r .writes) ++ (values (entries r) ++ rest))
-  pub writes-at : drop (16 + length (r .reads)) s ≡ addresses (r .writes) ++ (values (entries r) ++ rest)
-  pub read-values-at : drop (16 + (length (r .reads) + length (r .writes))) s ≡ values (r .reads) ++ (values (r .writes) ++ rest)
-  pub write-values-at : drop (16 + (length (r .reads) + length (r .writes)) + 8 * length (r .reads)) s ≡ values (r .writes) ++ rest
+  pub reads-at : drop headerLength s ≡ addresses (r .reads) ++ (addresses (r .writes) ++ (values (entries r) ++ rest))
+  pub writes-at : drop (headerLength + length (r .reads)) s ≡ addresses (r .writes) ++ (values (entries r) ++ rest)
+  pub read-values-at : drop (headerLength + (length (r .reads) + length (r .writes))) s ≡ values (r .reads) ++ (values (r .writes) ++ rest)
+  pub write-values-at : drop (headerLength + (length (r .reads) + length (r .writes)) + valueLength * length (r .reads)) s ≡ values (r .writes) ++ rest
 
 pub places : (r : Record) (rest : List ℕ) → Places r rest (bytesOf r ++ rest)
 places r rest =
@@ -100,9 +100,9 @@ places r rest =
     let v = values (entries r) in
     let e0 : drop 0 s ≡ head ++ (a1 ++ (a2 ++ (v ++ rest))) =
     rw (bytesOf-is r, recordBytes-front, addresses-append (r .reads) (r .writes), append-assoc) in
-    let e1 = drop-behind head (a1 ++ (a2 ++ (v ++ rest))) s 0 16 e0 (rw length-header) in
-    let e2 = drop-behind a1 (a2 ++ (v ++ rest)) s 16 (16 + n) e1 (rw length-addresses) in
-    let e3 : drop (16 + (n + m)) s ≡ v1 ++ (v2 ++ rest) =
-    drop-behind a2 (v ++ rest) s (16 + n) (16 + (n + m)) e2 (rw length-addresses (omega arith)) ∙ rw (values-append (r .reads) (r .writes), append-assoc) in
-    let e4 = drop-behind v1 (v2 ++ rest) s (16 + (n + m)) (16 + (n + m) + 8 * n) e3 (rw length-values) in
+    let e1 = drop-behind head (a1 ++ (a2 ++ (v ++ rest))) s 0 headerLength e0 (rw length-header) in
+    let e2 = drop-behind a1 (a2 ++ (v ++ rest)) s headerLength (headerLength + n) e1 (rw length-addresses) in
+    let e3 : drop (headerLength + (n + m)) s ≡ v1 ++ (v2 ++ rest) =
+    drop-behind a2 (v ++ rest) s (headerLength + n) (headerLength + (n + m)) e2 (rw length-addresses (omega arith)) ∙ rw (values-append (r .reads) (r .writes), append-assoc) in
+    let e4 = drop-behind v1 (v2 ++ rest) s (headerLength + (n + m)) (headerLength + (n + m) + valueLength * n) e3 (rw length-values) in
     record { reads-at = e1; writes-at = e2; read-values-at = e3; write-values-at = e4 }

@@ -10,8 +10,8 @@ use Rattle.lists.specs.Bytes.{Bytes}
 use Rattle.lists.specs.Parts.{part-join}
 use Rattle.le.specs.Width.{numAt-lt}
 use Rattle.le.specs.Laws.{u32At-is}
-use Rattle.layout.specs.Record.{Record, WellFormed, AllWellFormed, values, bytesOf, archiveOf}
-use Rattle.record.specs.Check.{readCount, writeCount, transactionNumber, lengthOf, checkOf}
+use Rattle.layout.specs.Record.{headerLength, valueLength, Record, WellFormed, AllWellFormed, values, bytesOf, archiveOf}
+use Rattle.record.specs.Check.{commitNumberFrom, transactionNumberFrom, readCount, writeCount, transactionNumber, lengthOf, checkOf}
 use Rattle.record.specs.Facts.{Accepted, accepted}
 use Rattle.record_meaning.specs.Parse.{entriesAt, recordOf}
 use Rattle.record_meaning.specs.Layout.{bytesOf-is, length-bytesOf, places}
@@ -71,16 +71,16 @@ bytes-read s hs a l =
     let n = readCount s in
     let m = writeCount s in
     let k = n + m in
-    let sizes : lengthOf s ≡ 16 + (k + 8 * k) = omega arith in
+    let sizes : lengthOf s ≡ headerLength + (k + valueLength * k) = omega arith in
     rw (
       length-entriesAt s k 0 n,
       length-entriesAt s k n m,
-      header-written s hs (a .header-there) (l .zero-14) (l .zero-15),
+      header-written s hs (a .header-there) (l .zero-first) (l .zero-last),
       addresses-of s (a .all-there),
       values-of s hs (a .all-there),
       sizes,
-      part-join 16 (k + 8 * k) 0 s,
-      part-join k (8 * k) 16 s,
+      part-join headerLength (k + valueLength * k) 0 s,
+      part-join k (valueLength * k) headerLength s,
     )
 
 pub read-written : (s : List ℕ) → Bytes s → checkOf s ≡ 0 → WrittenBack s
@@ -100,9 +100,9 @@ read-written s hs h =
             writes-rise = rising-read s k n m (omega arith) (l .writes-rise);
             reads-fit = read-fits s k 0 n hs;
             writes-fit = read-fits s k n m hs;
-            commit-fits = rw u32At-is (numAt-lt 4 s 4 hs);
+            commit-fits = rw u32At-is (numAt-lt 4 s commitNumberFrom hs);
             transaction-not-0 = omega (arith, eqb-false (transactionNumber s) 0 (l .head .transaction-not-0));
-            transaction-fits = rw u32At-is (numAt-lt 4 s 8 hs);
+            transaction-fits = rw u32At-is (numAt-lt 4 s transactionNumberFrom hs);
             station-is = l .head .station-is;
             kind-is = l .head .kind-is;
           };

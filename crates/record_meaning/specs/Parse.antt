@@ -3,12 +3,12 @@ use Prim.Native.Nat.{ℕ, zero, suc, _+_, _*_}
 use mathlib.Core.List.{List, [], _∷_}
 use lib.ListN.{getD}
 use Rattle.le.specs.Le.{u64At}
-use Rattle.layout.specs.Record.{Entry, Record}
+use Rattle.layout.specs.Record.{headerLength, valueLength, Entry, Record}
 use Rattle.record.specs.Check.{readCount, writeCount, commitNumber, transactionNumber, stationNumber, stationKind}
 
 -- entry i of k: its address behind the header, its value behind the k addresses
 abbrev pub entryAt : List ℕ → ℕ → ℕ → Entry
-entryAt s k i = record { address = getD s (16 + i) 0; value = u64At s (16 + k + 8 * i) }
+entryAt s k i = record { address = getD s (headerLength + i) 0; value = u64At s (headerLength + k + valueLength * i) }
 
 -- the c entries from entry i
 unfoldable pub entriesAt : List ℕ → ℕ → ℕ → ℕ → List Entry

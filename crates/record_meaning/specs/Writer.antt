@@ -10,7 +10,7 @@ use lib.Dec.{ltb}
 use borrow.Author.Tests.{le-ltb, eq-eqb, ltb-false}
 use Rattle.lists.specs.Bytes.{Bytes}
 use Rattle.lists.specs.Parts.{drop-behind}
-use Rattle.layout.specs.Record.{Record, entries, WellFormed, header, addresses, values, bytesOf, recordLength}
+use Rattle.layout.specs.Record.{headerLength, valueLength, Record, entries, WellFormed, header, addresses, values, bytesOf, recordLength}
 use Rattle.record.specs.Check.{lengthOf, checkOf}
 use Rattle.record.specs.Write.{written, fits, recordBytes, writeOf}
 use Rattle.record.specs.Facts.{Fit, fit, head-fits}
@@ -25,7 +25,7 @@ use Rattle.record_meaning.specs.Meaning.{read-written}
 fits-of : (n m transaction station kind : ℕ) (addrs vals : List ℕ) → Fit n m transaction station kind addrs vals → fits n m transaction station kind addrs vals ≡ true
 unfolding fits
 fits-of n m t st k addrs vals f =
-    rw (eq-eqb (length addrs) (n + m) (f .addresses-length), f .head, eq-eqb (length vals) (8 * (n + m)) (f .values-length), f .reads-rise, f .writes-rise)
+    rw (eq-eqb (length addrs) (n + m) (f .addresses-length), f .head, eq-eqb (length vals) (valueLength * (n + m)) (f .values-length), f .reads-rise, f .writes-rise)
 
 module _ (n m commit transaction station kind : ℕ) (addrs vals out : List ℕ) where
   -- arguments that fit, and an output with room, are written
@@ -89,8 +89,8 @@ writer-accepts-only n m c t st k addrs vals out ha hv hc ht e =
     let size = length-recordBytes n m c t st k addrs vals (f .addresses-length) (f .values-length) in
     let whole : lengthOf b ≡ length b = rw (h .reads, h .writes, size) in
     let same : b ≡ bytesOf (recordOf b) = sym (back .bytes-are ∙ rw whole (take-length b)) in
-    let addresses-at : drop 16 b ≡ addrs ++ vals = drop-behind (header n m c t st k) (addrs ++ vals) b 0 16 refl (rw length-header) in
-    let values-at : drop (16 + (n + m)) b ≡ vals = drop-behind addrs vals b 16 (16 + (n + m)) addresses-at (omega arith) in
+    let addresses-at : drop headerLength b ≡ addrs ++ vals = drop-behind (header n m c t st k) (addrs ++ vals) b 0 headerLength refl (rw length-header) in
+    let values-at : drop (headerLength + (n + m)) b ≡ vals = drop-behind addrs vals b headerLength (headerLength + (n + m)) addresses-at (omega arith) in
     record {
       from = recordOf b;
       well-formed = back .well-formed;
@@ -103,5 +103,5 @@ writer-accepts-only n m c t st k addrs vals out ha hv hc ht e =
       station-is = h .station-is;
       kind-is = h .kind-is;
       addresses-are = addresses-of b (omega arith) ∙ rw (h .reads, h .writes, addresses-at) (take-at addrs vals (n + m) (f .addresses-length));
-      values-are = values-of b hb (omega arith) ∙ rw (h .reads, h .writes, values-at) (take-all (8 * (n + m)) vals (omega arith));
+      values-are = values-of b hb (omega arith) ∙ rw (h .reads, h .writes, values-at) (take-all (valueLength * (n + m)) vals (omega arith));
     }

@@ -9,20 +9,23 @@ use lib.ListN.{length, drop}
 use lib.Dec.{leb}
 use borrow.Author.Tests.{leb-true, ne-eqb}
 use Rattle.sets.specs.Laws.{byEq, eqb-same, eqb-yes, eqb-no, and-l, and-r}
-use Rattle.le.specs.Le.{u16At}
 use Rattle.cells.specs.Num.{AllBytes, bytes-all}
 use Rattle.line.specs.Messages.{Sent, Rec}
 use Rattle.line.specs.Server.{noWaiter, start, accept, serverStep}
 use Rattle.line.specs.Bounds.{step-128, step-8}
-use Rattle.message.specs.Layout.{kindOf, stationOf, pageOf, requesterOf, transactionOf}
-use Rattle.message.specs.Commit.{entriesOf}
+use Rattle.message.specs.Layout.{messageLength, kindOf, stationOf, pageOf, requesterOf, transactionOf}
+use Rattle.message.specs.Commit.{recordsRoom, serverRoom, recordAt, entriesOf}
 use Rattle.message.specs.Number.{upNumber}
 use Rattle.message.specs.Accepted.{fields-fit}
+use Rattle.record.specs.Check.{writeCount, readCount, writeCountFrom, readCountFrom}
+use Rattle.layout.specs.Record.{longestRecord}
+use Rattle.server_state.specs.Layout.{serverLength}
 use Rattle.message_meaning.specs.Meant.{upOf}
 use Rattle.message_meaning.specs.CommitRead.{u16-behind}
 use Rattle.message_meaning.specs.UpAccepted.{CommitFields, UpAccepted, up-accepted}
 use Rattle.server_state.specs.Valid.{valid}
 use Rattle.server_state.specs.Facts.{valid-ranged}
+use Rattle.server_tests.specs.Kinds.{ForServer}
 use Rattle.server_tests.specs.Tests.{unexpectedB}
 use Rattle.server_changes.specs.Changes.{noticeB}
 use Rattle.server_actions.specs.Actions.{acceptB}
@@ -31,14 +34,13 @@ use Rattle.server_actions.specs.Step.{ready, kindsOf, checkStepB}
 use Rattle.server_actions.specs.Posting.{from, counts, Room, Whole}
 use Rattle.server_accept.specs.Facts.{Packed, LastKept, Acceptable}
 use Rattle.server_meaning.specs.Meant.{meant, Is}
-use Rattle.server_meaning.specs.Tests.{wanting, last-at}
+use Rattle.server_meaning.specs.Tests.{last-at}
 use Rattle.server_meaning.specs.Changes.{notice-is}
 use Rattle.server_meaning.specs.Waiting.{leave-is}
 use Rattle.server_meaning.specs.Commit.{unpack-is}
 use Rattle.step_meaning.specs.Relation.{AllSent, AllRecs, Serves}
-use Rattle.step_meaning.specs.Accept.{accept-means}
-use Rattle.step_meaning.specs.Pass.{step-means, sent-length}
-use Rattle.line_bytes.specs.Served.{sound-of}
+use Rattle.step_meaning.specs.Pass.{sent-length}
+use Rattle.line_bytes.specs.Stays as Stays
 use Rattle.server_pass.specs.Sane.{Sane, after}
 
 -- NUMBER 1
@@ -46,41 +48,42 @@ use Rattle.server_pass.specs.Sane.{Sane, after}
 module _ (s o q : List ℕ) (e : ready s o q ≡ true) where
   pub ready-valid : valid s ≡ true
   unfolding ready
-  ready-valid = and-l (valid s) _ (and-l (valid s && leb 14336 (length o)) _ e)
+  ready-valid = and-l (valid s) _ (and-l (valid s && leb serverRoom (length o)) _ e)
 
-  pub ready-size : length s ≡ 37072
+  pub ready-size : length s ≡ serverLength
   ready-size = valid-ranged s ready-valid .size
 
-  messages-fit : 14336 ≤ length o
+  messages-fit : serverRoom ≤ length o
   unfolding ready
-  messages-fit = leb-true 14336 (length o) (and-r (valid s) (leb 14336 (length o)) (and-l (valid s && leb 14336 (length o)) (leb 36992 (length q)) e))
+  messages-fit = leb-true serverRoom (length o) (and-r (valid s) (leb serverRoom (length o)) (and-l (valid s && leb serverRoom (length o)) (leb recordsRoom (length q)) e))
 
-  records-fit : 36992 ≤ length q
+  records-fit : recordsRoom ≤ length q
   unfolding ready
-  records-fit = leb-true 36992 (length q) (and-r (valid s && leb 14336 (length o)) (leb 36992 (length q)) e)
+  records-fit = leb-true recordsRoom (length q) (and-r (valid s && leb serverRoom (length o)) (leb recordsRoom (length q)) e)
 
 -- NUMBERS 2 TO 5
 
 -- what the test for number 6 asks for
 pub record Readable (m : List ℕ) : Type 0 where
-  pub length-is : 112 ≤ length m
+  pub length-is : messageLength ≤ length m
   pub station : stationOf m < 8
+  pub kind : ForServer m
   pub commit : kindOf m ≡ 3 → Packed m
   pub page : kindOf m ≡ 5 → pageOf m < 32
 
 packed : (kind : ℕ) (m : List ℕ) → CommitFields kind m → Packed m
 packed kind m c =
-    let n : entriesOf m ≡ entriesIn = rw (u16-behind 240 m 0, u16-behind 240 m 2) in
+    let n : entriesOf m ≡ entriesIn = rw (u16-behind recordAt m readCountFrom, u16-behind recordAt m writeCountFrom) in
     record { front = omega (arith, c .length-is); entries = omega (arith, c .length-is, n) }
   where
     entriesIn : ℕ
-    entriesIn = u16At (drop 240 m) 0 + u16At (drop 240 m) 2
+    entriesIn = readCount (drop recordAt m) + writeCount (drop recordAt m)
 
 module _ (kinds m : List ℕ) (e : upNumber kinds m ≡ 0) where
   fields : UpAccepted kinds m
   fields = up-accepted kinds m e
 
-  long : 112 ≤ length m
+  long : messageLength ≤ length m
   long =
       byEq (kindOf m) 3 (λ k. omega (arith, (packed _ m (fields .commit (eqb-yes (kindOf m) 3 k))) .front))
       (λ k. omega (arith, fields .length-is (eqb-no (kindOf m) 3 k)))
@@ -90,15 +93,12 @@ module _ (kinds m : List ℕ) (e : upNumber kinds m ≡ 0) where
       record {
         length-is = long;
         station = fields .station-is;
+        kind = (fields .kind-from, fields .kind-to);
         commit = λ k. packed _ m (fields .commit k);
         page = λ k. fields .purge k .page-is;
       }
 
 -- NUMBER 6
-
-pub checked-up : (m s : List ℕ) → checkStepB m s ≡ 0 → upNumber (kindsOf s) m ≡ 0
-unfolding checkStepB
-checked-up m s e = byEq (upNumber (kindsOf s) m) 0 (λ k. eqb-yes (upNumber (kindsOf s) m) 0 k) (λ k. rw k at e)
 
 pub check-up : (m s : List ℕ) {n : ℕ} → n ≡ upNumber (kindsOf s) m → n ≢ 0 → n ≡ checkStepB m s
 unfolding checkStepB
@@ -114,11 +114,11 @@ check-0 m s e k u = rw (← e, k, u)
 
 -- NONE OF THEM
 
-every-112 : (ms : List (List ℕ)) (xs : List Sent) → AllSent ms xs → Whole ms
-every-112 [] [] h = tt
-every-112 [] (x ∷ xs) h = absurd h
-every-112 (m ∷ ms) [] h = absurd h
-every-112 (m ∷ ms) (x ∷ xs) h = (h .0 .length-is, every-112 ms xs (h .1))
+every-whole : (ms : List (List ℕ)) (xs : List Sent) → AllSent ms xs → Whole ms
+every-whole [] [] h = tt
+every-whole [] (x ∷ xs) h = absurd h
+every-whole (m ∷ ms) [] h = absurd h
+every-whole (m ∷ ms) (x ∷ xs) h = (h .0 .length-is, every-whole ms xs (h .1))
 
 recs-length : (bs : List (List ℕ)) (rs : List Rec) → AllRecs bs rs → length bs ≡ length rs
 recs-length [] [] h = refl
@@ -128,17 +128,16 @@ recs-length (b ∷ bs) (r ∷ rs) h = ap suc (recs-length bs rs (h .1))
 
 module _ (m s : List ℕ) (v : valid s ≡ true) (bs : AllBytes s) (bm : AllBytes m) (ok : checkStepB m s ≡ 0) where
   is : Is s (meant s)
-  is = record { len = valid-ranged s v .size; bytes = bs; is = refl }
+  is = Stays.is m s bm bs v ok
 
   taken : upNumber (kindsOf s) m ≡ 0
-  taken = checked-up m s ok
+  taken = Stays.taken m s bm bs v ok
 
   accepted : Serves (acceptB m (from s)) (accept (stationOf m) (upOf m) (start (meant s)))
-  accepted =
-      accept-means is (wanting s v) (sound-of is v) (kindsOf s) m taken bm (valid-ranged s v .ages-fit) (valid-ranged s v .arrivals-fit)
+  accepted = Stays.accepted m s bm bs v ok
 
   stepped : Serves (serverStepB m s) (serverStep (stationOf m) (upOf m) (meant s))
-  stepped = step-means m s (stationOf m) (meant s) accepted
+  stepped = Stays.stepped m s bm bs v ok
 
   pub sane-accepted : Sane ((acceptB m (from s)) .state)
   sane-accepted = after accepted
@@ -153,14 +152,14 @@ module _ (m s : List ℕ) (v : valid s ≡ true) (bs : AllBytes s) (bm : AllByte
       rw (recs-length (y .recs) (z .recs) (stepped .recs)) (step-8 (stationOf m) (upOf m) (meant s) (readable (kindsOf s) m taken .station)) in
       record { messages = few n (messages-fit s o q e); records = short k (records-fit s o q e) }
     where
-      few : {n l : ℕ} → n ≤ 128 → 14336 ≤ l → (0 + n) * 112 ≤ l
+      few : {n l : ℕ} → n ≤ 128 → serverRoom ≤ l → (0 + n) * messageLength ≤ l
       few a b = omega arith
 
-      short : {n l : ℕ} → n ≤ 8 → 36992 ≤ l → 0 + n * 4624 ≤ l
+      short : {n l : ℕ} → n ≤ 8 → recordsRoom ≤ l → 0 + n * longestRecord ≤ l
       short a b = omega arith
 
   pub step-whole : Whole ((serverStepB m s) .sent)
-  step-whole = every-112 ((serverStepB m s) .sent) ((serverStep (stationOf m) (upOf m) (meant s)) .sent) (stepped .sent)
+  step-whole = every-whole ((serverStepB m s) .sent) ((serverStep (stationOf m) (upOf m) (meant s)) .sent) (stepped .sent)
 
   -- a commit's work leaves the last commit number
   last-kept : kindOf m ≡ 3 → LastKept (stationOf m) m (noticeB (stationOf m) (transactionOf m) s)
@@ -179,7 +178,7 @@ module _ (m s : List ℕ) (v : valid s ≡ true) (bs : AllBytes s) (bm : AllByte
       record {
         length-is = r .length-is;
         station = f .station-is;
-        kind = (f .kind-from, f .kind-to);
+        kind = r .kind;
         address = λ k. small (f .request k .page-is) (f .request k .object-is);
         commit = r .commit;
         last = last-kept;

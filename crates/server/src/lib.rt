@@ -6,7 +6,12 @@ ghost use Rattle.server_actions.specs.Pass.{serverStepB};
 ghost use Rattle.server_actions.specs.Posting.{posted, post, counts};
 ghost use Rattle.server_actions.specs.Step.{ready as Step·ready, checkStepB, serverCalled};
 ghost use Rattle.server.specs.Outcome.{outcome};
+ghost use Rattle.server_state.specs.Layout.{serverLength};
 use server_actions::Counts;
+use server_state::KIND;
+
+// Behind the kinds of the eight stations.
+const KINDS_END: usize = KIND + 8;
 
 // What the step answers: the number that turns a call back, or how many messages and how many bytes of records it left.
 pub enum Served {
@@ -18,15 +23,15 @@ pub enum Served {
 fn ready(s: &[u8], o: &[u8], q: &[u8]) -> bool
     ensures { λ r. ⌜ r ≡ Step·ready (now (s .entry)) (now (o .entry)) (now (q .entry)) ⌝ }
 {
-    server_state::valid(s) & (14336 <= o.len()) & (36992 <= q.len())
+    server_state::valid(s) & (message::SERVER_ROOM <= o.len()) & (message::RECORDS_ROOM <= q.len())
 }
 
 // The number of a message at this state: 2 to 5, then 6.
 fn check_step(m: &[u8], s: &[u8]) -> u32
-    requires { ⌜ length (now s) ≡ 37072 ⌝ }
+    requires { ⌜ length (now s) ≡ serverLength ⌝ }
     ensures { λ r. ⌜ r ≡ checkStepB (now (m .entry)) (now (s .entry)) ⌝ }
 {
-    let n = message::up_check(&s[37016..37024], m);
+    let n = message::up_check(&s[KIND..KINDS_END], m);
     if n != 0 {
         return n;
     }

@@ -3,54 +3,56 @@
 ghost use mathlib.Core.Path.{_≡_};
 ghost use Prim.Native.Nat.{_+_, _*_, _≤_, _<_};
 ghost use lib.ListN.{length};
-ghost use Rattle.message.specs.Layout.{stationOf, pageOf, requesterOf, transactionOf};
-ghost use Rattle.server_state.specs.Layout.{agesOf, arrivalsOf, lockingB};
+ghost use Rattle.message.specs.Layout.{messageLength, stationOf, pageOf, requesterOf, transactionOf};
+ghost use Rattle.server_state.specs.Layout.{serverLength, counterLimit, agesOf, arrivalsOf, lockingB};
 ghost use Rattle.server_changes.specs.Changes.{noticeB};
 ghost use Rattle.server_actions.specs.Actions.{commitNowB, addressOf, onReadB, onWriteB, onCommitB, onAbortB, onPurgeB, onBusyB, onDoneB, onWrittenSetB, acceptB};
 ghost use Rattle.server_actions.specs.Posting.{from as Posting·from, posted, post, Room};
 ghost use Rattle.server_accept.specs.Facts.{LastKept, Packed, Acceptable};
 use server_actions::Counts;
+use server_state::KIND;
+use server_state::LAST;
 
 fn station(m: &[u8]) -> usize
-    requires { ⌜ 112 ≤ length (now m) ⌝ }
+    requires { ⌜ messageLength ≤ length (now m) ⌝ }
     ensures { λ r. ⌜ r ≡ stationOf (now (m .entry)) ⌝ }
 {
-    le::index(le::wide(m[1]))
+    le::index(le::wide(m[message::STATION]))
 }
 
 // Byte 2: a page or a requester.
 fn named(m: &[u8]) -> usize
-    requires { ⌜ 112 ≤ length (now m) ⌝ }
+    requires { ⌜ messageLength ≤ length (now m) ⌝ }
     ensures { λ r. ⌜ r ≡ pageOf (now (m .entry)) ⌝ }
 {
-    le::index(le::wide(m[2]))
+    le::index(le::wide(m[message::PAGE]))
 }
 
 fn address(m: &[u8]) -> usize
-    requires { ⌜ (112 ≤ length (now m)) × (addressOf (now m) < 256) ⌝ }
+    requires { ⌜ (messageLength ≤ length (now m)) × (addressOf (now m) < 256) ⌝ }
     ensures { λ r. ⌜ r ≡ addressOf (now (m .entry)) ⌝ }
 {
-    named(m) * 8 + le::index(le::wide(m[3]))
+    named(m) * 8 + le::index(le::wide(m[message::OBJECT]))
 }
 
 fn locking(s: &[u8], i: usize) -> bool
-    requires { ⌜ (length (now s) ≡ 37072) × (i < 8) ⌝ }
+    requires { ⌜ (length (now s) ≡ serverLength) × (i < 8) ⌝ }
     ensures { λ r. ⌜ r ≡ lockingB (now (s .entry)) i ⌝ }
 {
-    s[37016 + i] == 0
+    s[KIND + i] == 0
 }
 
 // With its first message a transaction is unfinished and has an age.
 fn noticed(s: &mut [u8], m: &[u8])
-    requires { ⌜ (length (now s) ≡ 37072) × (112 ≤ length (now m)) × (stationOf (now m) < 8) × (agesOf (now s) < 9223372036854775808) ⌝ }
+    requires { ⌜ (length (now s) ≡ serverLength) × (messageLength ≤ length (now m)) × (stationOf (now m) < 8) × (agesOf (now s) < counterLimit) ⌝ }
     ensures { λ _. ⌜ now (s .exit) ≡ noticeB (stationOf (now (m .entry))) (transactionOf (now (m .entry))) (now (s .entry)) ⌝ }
 {
-    server_changes::notice(s, station(m), le::get_u32(m, 4));
+    server_changes::notice(s, station(m), le::get_u32(m, message::TRANSACTION));
 }
 
 // A locking read waits; a validating one gets its page at the same step, with no object unavailable.
 fn on_read(s: &mut [u8], o: &mut [u8], q: &mut [u8], c: Counts, m: &[u8]) -> Counts
-    requires { ⌜ (length (now s) ≡ 37072) × (112 ≤ length (now m)) × (stationOf (now m) < 8) × (addressOf (now m) < 256) × (agesOf (now s) < 9223372036854775808) × (arrivalsOf (now s) < 9223372036854775808) × Room (now o) (now q) c (onReadB (now m) (Posting·from (now s))) ⌝ }
+    requires { ⌜ (length (now s) ≡ serverLength) × (messageLength ≤ length (now m)) × (stationOf (now m) < 8) × (addressOf (now m) < 256) × (agesOf (now s) < counterLimit) × (arrivalsOf (now s) < counterLimit) × Room (now o) (now q) c (onReadB (now m) (Posting·from (now s))) ⌝ }
     ensures { λ r. ⌜ posted (now (s .exit)) (now (o .exit)) (now (q .exit)) r ≡ post (now (o .entry)) (now (q .entry)) c (onReadB (now (m .entry)) (Posting·from (now (s .entry)))) ⌝ }
 {
     let i = station(m);
@@ -65,7 +67,7 @@ fn on_read(s: &mut [u8], o: &mut [u8], q: &mut [u8], c: Counts, m: &[u8]) -> Cou
 }
 
 fn on_write(s: &mut [u8], m: &[u8])
-    requires { ⌜ (length (now s) ≡ 37072) × (112 ≤ length (now m)) × (stationOf (now m) < 8) × (addressOf (now m) < 256) × (agesOf (now s) < 9223372036854775808) × (arrivalsOf (now s) < 9223372036854775808) ⌝ }
+    requires { ⌜ (length (now s) ≡ serverLength) × (messageLength ≤ length (now m)) × (stationOf (now m) < 8) × (addressOf (now m) < 256) × (agesOf (now s) < counterLimit) × (arrivalsOf (now s) < counterLimit) ⌝ }
     ensures { λ _. ⌜ now (s .exit) ≡ onWriteB (now (m .entry)) (Posting·from (now (s .entry))) .state ⌝ }
 {
     noticed(s, m);
@@ -74,10 +76,10 @@ fn on_write(s: &mut [u8], m: &[u8])
 
 // A locking commit installs without waiting: it has its locks. No number comes after the last.
 fn commit_now(s: &mut [u8], o: &mut [u8], q: &mut [u8], c: Counts, m: &[u8], i: usize) -> Counts
-    requires { ⌜ (length (now s) ≡ 37072) × Packed (now m) × (i < 8) × LastKept i (now m) (now s) × Room (now o) (now q) c (commitNowB i (now m) (Posting·from (now s))) ⌝ }
+    requires { ⌜ (length (now s) ≡ serverLength) × Packed (now m) × (i < 8) × LastKept i (now m) (now s) × Room (now o) (now q) c (commitNowB i (now m) (Posting·from (now s))) ⌝ }
     ensures { λ r. ⌜ posted (now (s .exit)) (now (o .exit)) (now (q .exit)) r ≡ post (now (o .entry)) (now (q .entry)) c (commitNowB i (now (m .entry)) (Posting·from (now (s .entry)))) ⌝ }
 {
-    if le::get_u32(s, 36208) == 4294967295 {
+    if le::get_u32(s, LAST) == 4294967295 {
         return server_actions::abort(s, o, q, c, i, 4);
     }
     server_changes::leave(s, i);
@@ -87,7 +89,7 @@ fn commit_now(s: &mut [u8], o: &mut [u8], q: &mut [u8], c: Counts, m: &[u8], i: 
 
 // A validating commit waits: the pass checks it.
 fn on_commit(s: &mut [u8], o: &mut [u8], q: &mut [u8], c: Counts, m: &[u8]) -> Counts
-    requires { ⌜ (length (now s) ≡ 37072) × Packed (now m) × (stationOf (now m) < 8) × LastKept (stationOf (now m)) (now m) (noticeB (stationOf (now m)) (transactionOf (now m)) (now s)) × (agesOf (now s) < 9223372036854775808) × (arrivalsOf (now s) < 9223372036854775808) × Room (now o) (now q) c (onCommitB (now m) (Posting·from (now s))) ⌝ }
+    requires { ⌜ (length (now s) ≡ serverLength) × Packed (now m) × (stationOf (now m) < 8) × LastKept (stationOf (now m)) (now m) (noticeB (stationOf (now m)) (transactionOf (now m)) (now s)) × (agesOf (now s) < counterLimit) × (arrivalsOf (now s) < counterLimit) × Room (now o) (now q) c (onCommitB (now m) (Posting·from (now s))) ⌝ }
     ensures { λ r. ⌜ posted (now (s .exit)) (now (o .exit)) (now (q .exit)) r ≡ post (now (o .entry)) (now (q .entry)) c (onCommitB (now (m .entry)) (Posting·from (now (s .entry)))) ⌝ }
 {
     let i = station(m);
@@ -101,7 +103,7 @@ fn on_commit(s: &mut [u8], o: &mut [u8], q: &mut [u8], c: Counts, m: &[u8]) -> C
 }
 
 fn on_abort(s: &mut [u8], m: &[u8])
-    requires { ⌜ (length (now s) ≡ 37072) × (112 ≤ length (now m)) × (stationOf (now m) < 8) × (agesOf (now s) < 9223372036854775808) ⌝ }
+    requires { ⌜ (length (now s) ≡ serverLength) × (messageLength ≤ length (now m)) × (stationOf (now m) < 8) × (agesOf (now s) < counterLimit) ⌝ }
     ensures { λ _. ⌜ now (s .exit) ≡ onAbortB (now (m .entry)) (Posting·from (now (s .entry))) .state ⌝ }
 {
     noticed(s, m);
@@ -109,7 +111,7 @@ fn on_abort(s: &mut [u8], m: &[u8])
 }
 
 fn on_purge(s: &mut [u8], m: &[u8])
-    requires { ⌜ (length (now s) ≡ 37072) × (112 ≤ length (now m)) × (stationOf (now m) < 8) × (pageOf (now m) < 32) ⌝ }
+    requires { ⌜ (length (now s) ≡ serverLength) × (messageLength ≤ length (now m)) × (stationOf (now m) < 8) × (pageOf (now m) < 32) ⌝ }
     ensures { λ _. ⌜ now (s .exit) ≡ onPurgeB (now (m .entry)) (Posting·from (now (s .entry))) .state ⌝ }
 {
     server_changes::unlist(s, station(m), station_state::bit32(named(m)));
@@ -117,12 +119,12 @@ fn on_purge(s: &mut [u8], m: &[u8])
 
 // A 6 to a 20 that is no longer open is void.
 fn on_busy(s: &mut [u8], m: &[u8])
-    requires { ⌜ (length (now s) ≡ 37072) × (112 ≤ length (now m)) × (stationOf (now m) < 8) × (requesterOf (now m) < 8) ⌝ }
+    requires { ⌜ (length (now s) ≡ serverLength) × (messageLength ≤ length (now m)) × (stationOf (now m) < 8) × (requesterOf (now m) < 8) ⌝ }
     ensures { λ _. ⌜ now (s .exit) ≡ onBusyB (now (m .entry)) (Posting·from (now (s .entry))) .state ⌝ }
 {
     let i = station(m);
     let r = named(m);
-    if server_tests::open_call(s, i, r, le::get_u32(m, 4)) {
+    if server_tests::open_call(s, i, r, le::get_u32(m, message::TRANSACTION)) {
         server_changes::mark_busy(s, i, r);
         return;
     }
@@ -130,13 +132,13 @@ fn on_busy(s: &mut [u8], m: &[u8])
 
 // The pages of a 7 are gone even where its 20 is no longer open.
 fn on_done(s: &mut [u8], m: &[u8])
-    requires { ⌜ (length (now s) ≡ 37072) × (112 ≤ length (now m)) × (stationOf (now m) < 8) × (requesterOf (now m) < 8) ⌝ }
+    requires { ⌜ (length (now s) ≡ serverLength) × (messageLength ≤ length (now m)) × (stationOf (now m) < 8) × (requesterOf (now m) < 8) ⌝ }
     ensures { λ _. ⌜ now (s .exit) ≡ onDoneB (now (m .entry)) (Posting·from (now (s .entry))) .state ⌝ }
 {
     let i = station(m);
     let r = named(m);
-    let open = server_tests::open_call(s, i, r, le::get_u32(m, 4));
-    server_changes::unlist(s, i, le::get_u32(m, 8));
+    let open = server_tests::open_call(s, i, r, le::get_u32(m, message::TRANSACTION));
+    server_changes::unlist(s, i, le::get_u32(m, message::PAGES));
     if open {
         server_changes::answered(s, i, r);
         return;
@@ -145,23 +147,23 @@ fn on_done(s: &mut [u8], m: &[u8])
 
 // An 8 is void where the lock went in the meantime.
 fn on_written_set(s: &mut [u8], m: &[u8])
-    requires { ⌜ (length (now s) ≡ 37072) × (112 ≤ length (now m)) × (stationOf (now m) < 8) × (pageOf (now m) < 32) ⌝ }
+    requires { ⌜ (length (now s) ≡ serverLength) × (messageLength ≤ length (now m)) × (stationOf (now m) < 8) × (pageOf (now m) < 32) ⌝ }
     ensures { λ _. ⌜ now (s .exit) ≡ onWrittenSetB (now (m .entry)) (Posting·from (now (s .entry))) .state ⌝ }
 {
     let i = station(m);
     let p = named(m);
-    if server_tests::open_ask(s, i, p, le::get_u32(m, 4)) {
-        server_changes::loosen(s, i, p, m[16]);
+    if server_tests::open_ask(s, i, p, le::get_u32(m, message::TRANSACTION)) {
+        server_changes::loosen(s, i, p, m[message::SETS]);
         return;
     }
 }
 
 // Takes a message that passes numbers 1 to 6.
 pub fn accept(s: &mut [u8], o: &mut [u8], q: &mut [u8], c: Counts, m: &[u8]) -> Counts
-    requires { ⌜ (length (now s) ≡ 37072) × Acceptable (now s) (now m) × Room (now o) (now q) c (acceptB (now m) (Posting·from (now s))) ⌝ }
+    requires { ⌜ (length (now s) ≡ serverLength) × Acceptable (now s) (now m) × Room (now o) (now q) c (acceptB (now m) (Posting·from (now s))) ⌝ }
     ensures { λ r. ⌜ posted (now (s .exit)) (now (o .exit)) (now (q .exit)) r ≡ post (now (o .entry)) (now (q .entry)) c (acceptB (now (m .entry)) (Posting·from (now (s .entry)))) ⌝ }
 {
-    match m[0] {
+    match m[message::KIND] {
         1 => return on_read(s, o, q, c, m),
         2 => on_write(s, m),
         3 => return on_commit(s, o, q, c, m),
@@ -169,7 +171,8 @@ pub fn accept(s: &mut [u8], o: &mut [u8], q: &mut [u8], c: Counts, m: &[u8]) -> 
         5 => on_purge(s, m),
         6 => on_busy(s, m),
         7 => on_done(s, m),
-        _ => on_written_set(s, m),
+        8 => on_written_set(s, m),
+        _ => {}
     }
     c
 }

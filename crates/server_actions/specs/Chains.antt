@@ -7,6 +7,8 @@ use native.Mathlib.Omega.{arith}
 use lib.ListN.{length}
 use lib.Seq.{sets}
 use Rattle.set_record.specs.Record.{recordFrom, Filled, filled, recordFilled}
+use Rattle.message.specs.Layout.{messageLength}
+use Rattle.layout.specs.Record.{longestRecord}
 use Rattle.server_state.specs.Layout.{latestOf, lastOf, workNumber, kindOf, readSetFrom, readValuesFrom, writtenSetFrom, writtenValuesFrom}
 use Rattle.server_tests.specs.Tests.{informedB}
 use Rattle.server_changes.specs.Changes.{finishB, leaveB, listB, unlistB, writeB}
@@ -23,32 +25,32 @@ archive-chain q c i s en et ek e =
     (ap (λ (p : Filled). p .out) e ∙ rw (en, et, ek), ap (λ (p : Filled). counts (c .messages) (c .records + p .count)) e ∙ rw (en, et, ek))
 
 module _ (o q : List ℕ) (c : Counts) where
-  pub one-fits : (t m : List ℕ) (ms rs : List (List ℕ)) → Room o q c (serving t (m ∷ ms) rs) → c .messages * 112 + 112 ≤ length o
+  pub one-fits : (t m : List ℕ) (ms rs : List (List ℕ)) → Room o q c (serving t (m ∷ ms) rs) → c .messages * messageLength + messageLength ≤ length o
   one-fits t m ms rs r = omega (arith, r .messages)
 
-  pub sent-chain : (t m : List ℕ) {s₁ o₁ : List ℕ} {r : Counts} → o₁ ≡ sets o (c .messages * 112) m → s₁ ≡ t → r ≡ counts (c .messages + 1) (c .records)
+  pub sent-chain : (t m : List ℕ) {s₁ o₁ : List ℕ} {r : Counts} → o₁ ≡ sets o (c .messages * messageLength) m → s₁ ≡ t → r ≡ counts (c .messages + 1) (c .records)
       → posted s₁ o₁ q r ≡ post o q c (serving t (m ∷ []) [])
   sent-chain t m eo es er = rw (eo, es, er) (post-one o q c t m)
 
   -- A PAGE
 
-  pub page-fits : (kind i a u : ℕ) (s : List ℕ) → Room o q c (sendPageB kind i a u (from s)) → c .messages * 112 + 112 ≤ length o
+  pub page-fits : (kind i a u : ℕ) (s : List ℕ) → Room o q c (sendPageB kind i a u (from s)) → c .messages * messageLength + messageLength ≤ length o
   unfolding sendPageB
   page-fits kind i a u s = one-fits (listB i (a / 8) s) (pageB kind i a u s) [] []
 
-  pub page-chain : (kind i a u : ℕ) (s : List ℕ) {s₁ o₁ : List ℕ} {r : Counts} → o₁ ≡ sets o (c .messages * 112) (pageB kind i a u s) → s₁ ≡ listB i (a / 8) s
+  pub page-chain : (kind i a u : ℕ) (s : List ℕ) {s₁ o₁ : List ℕ} {r : Counts} → o₁ ≡ sets o (c .messages * messageLength) (pageB kind i a u s) → s₁ ≡ listB i (a / 8) s
       → r ≡ counts (c .messages + 1) (c .records) → posted s₁ o₁ q r ≡ post o q c (sendPageB kind i a u (from s))
   unfolding sendPageB
   page-chain kind i a u s = sent-chain (listB i (a / 8) s) (pageB kind i a u s)
 
   -- 22
 
-  pub abort-fits : (i cause : ℕ) (s : List ℕ) → Room o q c (abortB i cause (from s)) → c .messages * 112 + 112 ≤ length o
+  pub abort-fits : (i cause : ℕ) (s : List ℕ) → Room o q c (abortB i cause (from s)) → c .messages * messageLength + messageLength ≤ length o
   unfolding abortB
   abort-fits i cause s = let t = finishB i (leaveB i s) in one-fits t (abortedB i (latestOf t i) cause) [] []
 
   pub abort-chain : (i cause : ℕ) (s : List ℕ) {t : ℕ} {s₁ s₂ o₁ : List ℕ} {r : Counts} → s₁ ≡ leaveB i s → s₂ ≡ finishB i s₁ → t ≡ latestOf s₂ i
-      → o₁ ≡ sets o (c .messages * 112) (abortedB i t cause) → r ≡ counts (c .messages + 1) (c .records)
+      → o₁ ≡ sets o (c .messages * messageLength) (abortedB i t cause) → r ≡ counts (c .messages + 1) (c .records)
       → posted s₂ o₁ q r ≡ post o q c (abortB i cause (from s))
   unfolding abortB
   abort-chain i cause s e₁ e₂ et eo er =
@@ -57,11 +59,11 @@ module _ (o q : List ℕ) (c : Counts) where
 
   -- 23
 
-  pub inform-fits : (i d j : ℕ) (s : List ℕ) → informedB s i d j ≡ true → Room o q c (informB i d (from s) j) → c .messages * 112 + 112 ≤ length o
+  pub inform-fits : (i d j : ℕ) (s : List ℕ) → informedB s i d j ≡ true → Room o q c (informB i d (from s) j) → c .messages * messageLength + messageLength ≤ length o
   unfolding informB
   inform-fits i d j s e r = one-fits (unlistB j d s) (invalidateB j d) [] [] (rw e at r)
 
-  pub inform-chain : (i d j : ℕ) (s : List ℕ) {s₁ o₁ : List ℕ} {r : Counts} → informedB s i d j ≡ true → o₁ ≡ sets o (c .messages * 112) (invalidateB j d) → s₁ ≡ unlistB j d s
+  pub inform-chain : (i d j : ℕ) (s : List ℕ) {s₁ o₁ : List ℕ} {r : Counts} → informedB s i d j ≡ true → o₁ ≡ sets o (c .messages * messageLength) (invalidateB j d) → s₁ ≡ unlistB j d s
       → r ≡ counts (c .messages + 1) (c .records) → posted s₁ o₁ q r ≡ post o q c (informB i d (from s) j)
   unfolding informB
   inform-chain i d j s e eo es er = rw e (sent-chain (unlistB j d s) (invalidateB j d) eo es er)
@@ -73,13 +75,13 @@ module _ (o q : List ℕ) (c : Counts) where
   -- A RECORD AND 21
 
   module _ (i : ℕ) (s : List ℕ) where
-    pub installed-fits : Room o q c (installedB i (from s)) → (c .messages * 112 + 112 ≤ length o) × (c .records + 4624 ≤ length q)
+    pub installed-fits : Room o q c (installedB i (from s)) → (c .messages * messageLength + messageLength ≤ length o) × (c .records + longestRecord ≤ length q)
     unfolding installedB
     installed-fits r = (omega (arith, r .messages), omega (arith, r .records))
 
     pub installed-chain : {t n : ℕ} {s₁ s₂ s₃ o₁ q₁ : List ℕ} {e r : Counts} → t ≡ workNumber s i → s₁ ≡ writeB i s
         → (q₁ ≡ sets q (c .records) (recordB i s₁)) × (e ≡ counts (c .messages) (c .records + length (recordB i s₁)))
-        → s₂ ≡ leaveB i s₁ → s₃ ≡ finishB i s₂ → n ≡ lastOf s₃ → o₁ ≡ sets o (e .messages * 112) (committedB i t n) → r ≡ counts (e .messages + 1) (e .records)
+        → s₂ ≡ leaveB i s₁ → s₃ ≡ finishB i s₂ → n ≡ lastOf s₃ → o₁ ≡ sets o (e .messages * messageLength) (committedB i t n) → r ≡ counts (e .messages + 1) (e .records)
         → posted s₃ o₁ q₁ r ≡ post o q c (installedB i (from s))
     unfolding installedB
     installed-chain et e₁ (eq, ee) e₂ e₃ en eo er =

@@ -11,6 +11,7 @@ use Rattle.entries.specs.Entries.{entries-count}
 use Rattle.record_meaning.specs.Layout.{length-bytesOf}
 use Rattle.message.specs.Layout.{stationOf, pageOf, requesterOf, transactionOf, pagesOf, setOf}
 use Rattle.message.specs.Layout as Message
+use Rattle.layout.specs.Record.{longestRecord}
 use Rattle.station_state.specs.Layout.{hasBit}
 use Rattle.set_record.specs.Record.{valuesAt}
 use Rattle.server_state.specs.Layout.{lastOf, latestOf, workNumber, askedOf, wholeOf, wantOf, requestOf, calledOf, pendOf, lockingB, readSetFrom, writtenSetFrom, readValuesFrom, writtenValuesFrom}
@@ -41,7 +42,7 @@ unfolding informTo
 turns-informs i d = record { none = λ x. refl; next = λ x n. refl; acts = acts-inform i d }
 
 -- no record has more than 512 entries
-pub record-short : (i : ℕ) (s : List ℕ) → length (recordB i s) ≤ 4624
+pub record-short : (i : ℕ) (s : List ℕ) → length (recordB i s) ≤ longestRecord
 record-short i s =
     let r = entries-count (valuesAt s (readSetFrom i) (readValuesFrom i)) in
     let w = entries-count (valuesAt s (writtenSetFrom i) (writtenValuesFrom i)) in

@@ -11,6 +11,8 @@ use lib.Seq.{sets, length-sets}
 use Rattle.lists.specs.Stores.{sets-join}
 use Rattle.sets.specs.Base.{snoc}
 use Rattle.sets.specs.Laws.{byB}
+use Rattle.message.specs.Layout.{messageLength}
+use Rattle.layout.specs.Record.{longestRecord}
 use Rattle.station_callbacks.specs.Callbacks.{flat}
 use Rattle.server_actions.specs.Actions.{Serving, serving, onState, send}
 use Rattle.server_actions.specs.declared.Counts.{Counts}
@@ -25,7 +27,7 @@ behind x y = serving (y .state) (x .sent ++ y .sent) (x .recs ++ y .recs)
 
 -- no record is longer than the longest
 abbrev pub Short : Serving → Type 0
-Short x = length (flat (x .recs)) ≤ length (x .recs) * 4624
+Short x = length (flat (x .recs)) ≤ length (x .recs) * longestRecord
 
 -- what f does depends on the state alone, and adds to what was sent and archived
 pub record Acts (f : Serving → Serving) : Type 0 where
@@ -57,7 +59,7 @@ pub acts-send : (m : List ℕ) → Acts (λ x. send x m)
 unfolding flat
 acts-send m = record { grows = λ x. rw (append-nil (x .recs)); short = λ s. omega arith }
 
-pub acts-archive : (r : List ℕ) → length r ≤ 4624 → Acts (λ x. serving (x .state) (x .sent) (snoc (x .recs) r))
+pub acts-archive : (r : List ℕ) → length r ≤ longestRecord → Acts (λ x. serving (x .state) (x .sent) (snoc (x .recs) r))
 unfolding flat
 acts-archive r h = record { grows = λ x. rw (append-nil (x .sent)); short = λ s. rw (append-nil r) (omega arith) }
 
@@ -100,7 +102,7 @@ posted s o q c = record { state = s; messages = o; records = q; count = c }
 -- messages behind the first n
 unfoldable pub mailed : List ℕ → ℕ → List (List ℕ) → List ℕ
 mailed o n [] = o
-mailed o n (m ∷ ms) = mailed (sets o (n * 112) m) (n + 1) ms
+mailed o n (m ∷ ms) = mailed (sets o (n * messageLength) m) (n + 1) ms
 
 unfoldable pub post : List ℕ → List ℕ → Counts → Serving → Posted
 post o q c y =
@@ -110,26 +112,26 @@ post o q c y =
 length-mailed : (o : List ℕ) (n : ℕ) (ms : List (List ℕ)) → length (mailed o n ms) ≡ length o
 unfolding mailed
 length-mailed o n [] = refl
-length-mailed o n (m ∷ ms) = length-mailed (sets o (n * 112) m) (n + 1) ms ∙ length-sets o (n * 112) m
+length-mailed o n (m ∷ ms) = length-mailed (sets o (n * messageLength) m) (n + 1) ms ∙ length-sets o (n * messageLength) m
 
 mailed-append : (o : List ℕ) (n : ℕ) (a b : List (List ℕ)) → mailed o n (a ++ b) ≡ mailed (mailed o n a) (n + length a) b
 unfolding mailed
 mailed-append o n [] b = ap (λ (k : ℕ). mailed o k b) (omega arith)
 mailed-append o n (m ∷ a) b =
-    mailed-append (sets o (n * 112) m) (n + 1) a b
-    ∙ ap (λ (k : ℕ). mailed (mailed (sets o (n * 112) m) (n + 1) a) k b) (omega arith)
+    mailed-append (sets o (n * messageLength) m) (n + 1) a b
+    ∙ ap (λ (k : ℕ). mailed (mailed (sets o (n * messageLength) m) (n + 1) a) k b) (omega arith)
 
--- every message has 112 bytes
+-- every message has a message's length
 abbrev pub Whole : List (List ℕ) → Type 0
 Whole [] = Unit {0}
-Whole (m ∷ ms) = (length m ≡ 112) × Whole ms
+Whole (m ∷ ms) = (length m ≡ messageLength) × Whole ms
 
-pub mailed-flat : (o : List ℕ) (n : ℕ) (ms : List (List ℕ)) → Whole ms → mailed o n ms ≡ sets o (n * 112) (flat ms)
+pub mailed-flat : (o : List ℕ) (n : ℕ) (ms : List (List ℕ)) → Whole ms → mailed o n ms ≡ sets o (n * messageLength) (flat ms)
 unfolding mailed flat
 mailed-flat o n [] h = refl
 mailed-flat o n (m ∷ ms) h =
-    mailed-flat (sets o (n * 112) m) (n + 1) ms (h .1)
-    ∙ sets-join m (flat ms) o (n * 112) ((n + 1) * 112) (omega (arith, h .0))
+    mailed-flat (sets o (n * messageLength) m) (n + 1) ms (h .1)
+    ∙ sets-join m (flat ms) o (n * messageLength) ((n + 1) * messageLength) (omega (arith, h .0))
 
 counts-same : {a b x y : ℕ} → a ≡ x → b ≡ y → counts a b ≡ counts x y
 counts-same e f = rw (e, f)
@@ -140,13 +142,13 @@ unfolding post mailed flat
 post-none o q c s = ap (posted s o q) (counts-same (omega arith) (omega arith))
 
 -- one message
-pub post-one : (o q : List ℕ) (c : Counts) (s m : List ℕ) → posted s (sets o (c .messages * 112) m) q (counts (c .messages + 1) (c .records)) ≡ post o q c (serving s (m ∷ []) [])
+pub post-one : (o q : List ℕ) (c : Counts) (s m : List ℕ) → posted s (sets o (c .messages * messageLength) m) q (counts (c .messages + 1) (c .records)) ≡ post o q c (serving s (m ∷ []) [])
 unfolding post mailed flat
-post-one o q c s m = ap (posted s (sets o (c .messages * 112) m) q) (counts-same refl (omega arith))
+post-one o q c s m = ap (posted s (sets o (c .messages * messageLength) m) q) (counts-same refl (omega arith))
 
 -- one message and one record
 pub post-both : (o q : List ℕ) (c : Counts) (s m r : List ℕ)
-    → posted s (sets o (c .messages * 112) m) (sets q (c .records) r) (counts (c .messages + 1) (c .records + length r)) ≡ post o q c (serving s (m ∷ []) (r ∷ []))
+    → posted s (sets o (c .messages * messageLength) m) (sets q (c .records) r) (counts (c .messages + 1) (c .records + length r)) ≡ post o q c (serving s (m ∷ []) (r ∷ []))
 unfolding post mailed flat
 post-both o q c s m r = rw (append-nil r)
 
@@ -180,8 +182,8 @@ module _ {g : Serving → Serving} (b : Acts g) (o q : List ℕ) (c : Counts) (y
 
 -- the bytes lent have room for all that is sent and archived
 pub record Room (o q : List ℕ) (c : Counts) (y : Serving) : Type 0 where
-  pub messages : (c .messages + length (y .sent)) * 112 ≤ length o
-  pub records : c .records + length (y .recs) * 4624 ≤ length q
+  pub messages : (c .messages + length (y .sent)) * messageLength ≤ length o
+  pub records : c .records + length (y .recs) * longestRecord ≤ length q
 
 module _ (o q : List ℕ) (c : Counts) where
   room-behind : (x y : Serving) → Room o q c (behind x y) → Room o q c x
@@ -213,7 +215,7 @@ module _ (o q : List ℕ) (c : Counts) where
       rw es
       (record { messages = omega (arith, em, lo, n, w .messages); records = omega (arith, er, lq, h, k, w .records) })
 
-  pub message-fits : (y : Serving) → Room o q c y → (n : ℕ) → n < length (y .sent) → (c .messages + n) * 112 + 112 ≤ length o
+  pub message-fits : (y : Serving) → Room o q c y → (n : ℕ) → n < length (y .sent) → (c .messages + n) * messageLength + messageLength ≤ length o
   message-fits y r n h = omega (arith, h, r .messages)
 
 -- LOOPS

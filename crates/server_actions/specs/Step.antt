@@ -7,19 +7,21 @@ use lib.Seq.{sets}
 use lib.Dec.{eqb, leb}
 use Rattle.sets.specs.Base.{turned}
 use Rattle.message.specs.Number.{upNumber}
+use Rattle.message.specs.Commit.{recordsRoom, serverRoom}
 use Rattle.server_state.specs.Valid.{valid}
 use Rattle.server_tests.specs.Tests.{unexpectedB}
 use Rattle.station_callbacks.specs.Callbacks.{flat}
+use Rattle.server_state.specs.Layout.{kindFrom}
 use Rattle.server_actions.specs.Actions.{Serving}
 use Rattle.server_actions.specs.Pass.{serverStepB}
 
 -- number 1: "128 messages and 36,992 record bytes (server)"
 unfoldable pub ready : List ℕ → List ℕ → List ℕ → Bool
-ready s o q = valid s && leb 14336 (length o) && leb 36992 (length q)
+ready s o q = valid s && leb serverRoom (length o) && leb recordsRoom (length q)
 
 -- the kinds of the stations
 abbrev pub kindsOf : List ℕ → List ℕ
-kindsOf s = take 8 (drop 37016 s)
+kindsOf s = take 8 (drop kindFrom s)
 
 -- 2, 3, 4, 5 of the message, then 6
 unfoldable pub checkStepB : List ℕ → List ℕ → ℕ

@@ -1,5 +1,5 @@
 -- What is stored into a message that stands in lent bytes.
-use Prim.Native.Nat.{ℕ, zero, suc, _+_, _*_, _/_, _%_, _≤_, _<_}
+use Prim.Native.Nat.{ℕ, zero, suc, _+_, _/_, _%_, _≤_, _<_}
 use mathlib.Core.Path.{_≡_, refl, ap, _∙_}
 use mathlib.Core.List.{List, [], _∷_, _++_, append-assoc, append-nil}
 use native.Mathlib.Omega.{arith}
@@ -7,10 +7,10 @@ use lib.ListN.{length, take, drop, set, replicate, length-take, length-drop, len
 use lib.Seq.{sets, sets-eq, set-set, length-take-le}
 use Rattle.lists.specs.Stores.{copy-whole, put-part}
 use Rattle.le.specs.Width.{bytes}
-use Rattle.message.specs.Layout.{message, single}
+use Rattle.message.specs.Layout.{valuesFrom, setsFrom, valuesLength, messageLength, message, single}
 use Rattle.message.specs.Stores.{length-message}
 use Rattle.set_record.specs.Filled.{one-first}
-use Rattle.server_state.specs.Layout.{versionOf, latestOf, writtenSetFrom}
+use Rattle.server_state.specs.Layout.{pageRow, pageValuesFrom, serverLength, versionOf, latestOf, writtenSetFrom}
 use Rattle.server_actions.specs.Actions.{plain, pageB, callbackB}
 
 -- a copy out of one list into a part of another
@@ -40,44 +40,44 @@ sets-over (v ∷ y) x s a b k e h =
 
 module _ (kind station page object transaction version : ℕ) (o : List ℕ) (at : ℕ) where
   abbrev bare : List ℕ
-  bare = message kind station page object transaction 0 version (replicate 32 0) (replicate 64 0)
+  bare = message kind station page object transaction 0 version (replicate 32 0) (replicate valuesLength 0)
 
-  page-is : (u : ℕ) (y : List ℕ) → length y ≡ 64 → sets (set bare 16 u) 48 y ≡ message kind station page object transaction 0 version (single u) y
+  page-is : (u : ℕ) (y : List ℕ) → length y ≡ valuesLength → sets (set bare setsFrom u) valuesFrom y ≡ message kind station page object transaction 0 version (single u) y
   unfolding message bytes
-  page-is u y h = sets-eq y (set bare 16 u) 48 (omega (arith, h)) ∙ rw h (ap (λ (z : List ℕ). take 48 (set bare 16 u) ++ z) (append-nil y))
+  page-is u y h = sets-eq y (set bare setsFrom u) valuesFrom (omega (arith, h)) ∙ rw h (ap (λ (z : List ℕ). take valuesFrom (set bare setsFrom u) ++ z) (append-nil y))
 
   -- the set and the values of a page
-  page-stores : (u : ℕ) (y : List ℕ) {o₁ o₂ o₃ : List ℕ} → length y ≡ 64 → o₁ ≡ sets o at bare → o₂ ≡ set o₁ (at + 16) u → o₃ ≡ sets o₂ (at + 48) y
+  page-stores : (u : ℕ) (y : List ℕ) {o₁ o₂ o₃ : List ℕ} → length y ≡ valuesLength → o₁ ≡ sets o at bare → o₂ ≡ set o₁ (at + setsFrom) u → o₃ ≡ sets o₂ (at + valuesFrom) y
       → o₃ ≡ sets o at (message kind station page object transaction 0 version (single u) y)
   page-stores u y h e₁ e₂ e₃ =
-      let one = set bare 16 u in
-      let len : length bare ≡ 112 = length-message kind station page object transaction 0 version (replicate 32 0) (replicate 64 0) in
-      rw (e₃, e₂, e₁, set-over bare o at (at + 16) 16 u refl (omega arith))
-      (sets-over y one o at (at + 48) 48 refl (rw length-set (omega arith)) ∙ ap (sets o at) (page-is u y h))
+      let one = set bare setsFrom u in
+      let len : length bare ≡ messageLength = length-message kind station page object transaction 0 version (replicate 32 0) (replicate valuesLength 0) in
+      rw (e₃, e₂, e₁, set-over bare o at (at + setsFrom) setsFrom u refl (omega arith))
+      (sets-over y one o at (at + valuesFrom) valuesFrom refl (rw length-set (omega arith)) ∙ ap (sets o at) (page-is u y h))
 
-  sets-are : (x : List ℕ) → length x ≡ 32 → sets bare 16 x ≡ message kind station page object transaction 0 version x (replicate 64 0)
+  sets-are : (x : List ℕ) → length x ≡ 32 → sets bare setsFrom x ≡ message kind station page object transaction 0 version x (replicate valuesLength 0)
   unfolding message bytes
-  sets-are x h = sets-eq x bare 16 (omega (arith, h)) ∙ rw h (append-assoc (take 16 bare) x (replicate 64 0))
+  sets-are x h = sets-eq x bare setsFrom (omega (arith, h)) ∙ rw h (append-assoc (take setsFrom bare) x (replicate valuesLength 0))
 
   -- object sets by page
-  sets-stores : (x : List ℕ) {o₁ o₂ : List ℕ} → length x ≡ 32 → o₁ ≡ sets o at bare → o₂ ≡ sets o₁ (at + 16) x
-      → o₂ ≡ sets o at (message kind station page object transaction 0 version x (replicate 64 0))
+  sets-stores : (x : List ℕ) {o₁ o₂ : List ℕ} → length x ≡ 32 → o₁ ≡ sets o at bare → o₂ ≡ sets o₁ (at + setsFrom) x
+      → o₂ ≡ sets o at (message kind station page object transaction 0 version x (replicate valuesLength 0))
   sets-stores x h e₁ e₂ =
-      let len : length bare ≡ 112 = length-message kind station page object transaction 0 version (replicate 32 0) (replicate 64 0) in
-      rw (e₂, e₁) (sets-over x bare o at (at + 16) 16 refl (omega arith) ∙ ap (sets o at) (sets-are x h))
+      let len : length bare ≡ messageLength = length-message kind station page object transaction 0 version (replicate 32 0) (replicate valuesLength 0) in
+      rw (e₂, e₁) (sets-over x bare o at (at + setsFrom) setsFrom refl (omega arith) ∙ ap (sets o at) (sets-are x h))
 
 part-length : (s : List ℕ) (at n : ℕ) → at + n ≤ length s → length (take n (drop at s)) ≡ n
 part-length s at n l = length-take-le n (drop at s) (rw length-drop (omega arith))
 
-module _ (s o : List ℕ) (at : ℕ) (len : length s ≡ 37072) where
+module _ (s o : List ℕ) (at : ℕ) (len : length s ≡ serverLength) where
   pub page-put : (kind i a u : ℕ) → a < 256 → {t v : ℕ} {o₁ o₂ o₃ : List ℕ} → t ≡ latestOf s i → v ≡ versionOf s (a / 8)
-      → o₁ ≡ sets o at (plain kind i (a / 8) (a % 8) t 0 v) → o₂ ≡ set o₁ (at + 16) u → o₃ ≡ sets o₂ (at + 48) (take 64 (drop (a / 8 * 64) s))
+      → o₁ ≡ sets o at (plain kind i (a / 8) (a % 8) t 0 v) → o₂ ≡ set o₁ (at + setsFrom) u → o₃ ≡ sets o₂ (at + valuesFrom) (take pageRow (drop (pageValuesFrom (a / 8)) s))
       → o₃ ≡ sets o at (pageB kind i a u s)
   page-put kind i a u la {t} {v} et ev e₁ e₂ e₃ =
-      page-stores kind i (a / 8) (a % 8) t v o at u (take 64 (drop (a / 8 * 64) s)) (part-length s (a / 8 * 64) 64 (omega arith)) e₁ e₂ e₃
+      page-stores kind i (a / 8) (a % 8) t v o at u (take pageRow (drop (pageValuesFrom (a / 8)) s)) (part-length s (pageValuesFrom (a / 8)) pageRow (omega arith)) e₁ e₂ e₃
       ∙ rw (et, ev)
 
   pub callback-put : (j i : ℕ) → i < 8 → {t : ℕ} {o₁ o₂ : List ℕ} → t ≡ latestOf s i → o₁ ≡ sets o at (plain 20 j i 0 t 0 0)
-      → o₂ ≡ sets o₁ (at + 16) (take 32 (drop (writtenSetFrom i) s)) → o₂ ≡ sets o at (callbackB j i s)
+      → o₂ ≡ sets o₁ (at + setsFrom) (take 32 (drop (writtenSetFrom i) s)) → o₂ ≡ sets o at (callbackB j i s)
   callback-put j i l {t} et e₁ e₂ =
       sets-stores 20 j i 0 t 0 o at (take 32 (drop (writtenSetFrom i) s)) (part-length s (writtenSetFrom i) 32 (omega arith)) e₁ e₂ ∙ rw et

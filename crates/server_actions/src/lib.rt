@@ -5,10 +5,27 @@ ghost use mathlib.Core.Bool.{cond};
 ghost use Prim.Native.Nat.{_+_, _*_, _^_, _≤_, _<_};
 ghost use lib.ListN.{length, take, drop};
 ghost use lib.Seq.{sets};
-ghost use Rattle.server_state.specs.Layout.{lastOf};
+ghost use Rattle.message.specs.Layout.{messageLength};
+ghost use Rattle.layout.specs.Record.{longestRecord};
+ghost use Rattle.server_state.specs.Layout.{serverLength, lastOf};
 ghost use Rattle.server_actions.specs.Actions.{pageB, callbackB, recordB, sendPageB, abortB, writtenPageB, writtenPagesB, informB, informTo, installB};
 ghost use Rattle.server_actions.specs.Posting.{from as Posting·from, counts, posted, post, Room};
 ghost use Rattle.server_actions.specs.Parts.{installedB};
+use message::LENGTH as MESSAGE;
+use server_state::KIND;
+use server_state::LAST;
+use server_state::LATEST;
+use server_state::PAGE_ROW;
+use server_state::READ_SET;
+use server_state::READ_VALUE;
+use server_state::SET_ROW;
+use server_state::VALUE;
+use server_state::VALUE_ROW;
+use server_state::VERSION;
+use server_state::WORK;
+use server_state::WRITTEN_SET;
+use server_state::WRITTEN_VALUE;
+use station_state::NUMBER_WIDTH;
 
 // How many messages stand in o, and how many bytes of records in q.
 pub struct Counts {
@@ -39,25 +56,25 @@ fn copy_in(o: &mut [u8], at: usize, s: &[u8], from: usize, n: usize)
 
 // 16, 17 or 18 with the page of address a.
 fn put_page(o: &mut [u8], at: usize, s: &[u8], kind: u8, i: usize, a: usize, u: u8)
-    requires { ⌜ (length (now s) ≡ 37072) × (i < 8) × (a < 256) × (at + 112 ≤ length (now o)) ⌝ }
+    requires { ⌜ (length (now s) ≡ serverLength) × (i < 8) × (a < 256) × (at + messageLength ≤ length (now o)) ⌝ }
     ensures { λ _. ⌜ now (o .exit) ≡ sets (now (o .entry)) at (pageB kind i a u (now (s .entry))) ⌝ }
 {
     let p = a / 8;
-    let t = le::get_u32(s, 36144 + i * 4);
-    let v = le::get_u32(s, 34960 + p * 4);
+    let t = le::get_u32(s, LATEST + i * NUMBER_WIDTH);
+    let v = le::get_u32(s, VERSION + p * NUMBER_WIDTH);
     message::put_message(o, at, kind, i as u8, p as u8, (a % 8) as u8, t, 0, v);
-    le::put_u8(o, at + 16, u);
-    copy_in(o, at + 48, s, p * 64, 64);
+    le::put_u8(o, at + message::SETS, u);
+    copy_in(o, at + message::VALUES, s, VALUE + p * PAGE_ROW, PAGE_ROW);
 }
 
 // 20 to station j, with what i's entry writes.
 pub fn put_callback(o: &mut [u8], at: usize, s: &[u8], j: usize, i: usize)
-    requires { ⌜ (length (now s) ≡ 37072) × (j < 8) × (i < 8) × (at + 112 ≤ length (now o)) ⌝ }
+    requires { ⌜ (length (now s) ≡ serverLength) × (j < 8) × (i < 8) × (at + messageLength ≤ length (now o)) ⌝ }
     ensures { λ _. ⌜ now (o .exit) ≡ sets (now (o .entry)) at (callbackB j i (now (s .entry))) ⌝ }
 {
-    let t = le::get_u32(s, 36144 + i * 4);
+    let t = le::get_u32(s, LATEST + i * NUMBER_WIDTH);
     message::put_message(o, at, 20, j as u8, i as u8, 0, t, 0, 0);
-    copy_in(o, at + 16, s, 36760 + i * 32, 32);
+    copy_in(o, at + message::SETS, s, WRITTEN_SET + i * SET_ROW, SET_ROW);
 }
 
 // Sends the page of address a to station i, which is listed for it from now on.
@@ -71,23 +88,23 @@ pub fn send_page(
     a: usize,
     u: u8,
 ) -> Counts
-    requires { ⌜ (length (now s) ≡ 37072) × (i < 8) × (a < 256) × Room (now o) (now q) c (sendPageB kind i a u (Posting·from (now s))) ⌝ }
+    requires { ⌜ (length (now s) ≡ serverLength) × (i < 8) × (a < 256) × Room (now o) (now q) c (sendPageB kind i a u (Posting·from (now s))) ⌝ }
     ensures { λ r. ⌜ posted (now (s .exit)) (now (o .exit)) (now (q .exit)) r ≡ post (now (o .entry)) (now (q .entry)) c (sendPageB kind i a u (Posting·from (now (s .entry)))) ⌝ }
 {
-    put_page(o, c.messages * 112, s, kind, i, a, u);
+    put_page(o, c.messages * MESSAGE, s, kind, i, a, u);
     server_changes::list(s, i, a / 8);
     one_more(c)
 }
 
 // Station i's transaction is aborted: its locks and its entry go, and it gets 22.
 pub fn abort(s: &mut [u8], o: &mut [u8], q: &mut [u8], c: Counts, i: usize, cause: u8) -> Counts
-    requires { ⌜ (length (now s) ≡ 37072) × (i < 8) × Room (now o) (now q) c (abortB i cause (Posting·from (now s))) ⌝ }
+    requires { ⌜ (length (now s) ≡ serverLength) × (i < 8) × Room (now o) (now q) c (abortB i cause (Posting·from (now s))) ⌝ }
     ensures { λ r. ⌜ posted (now (s .exit)) (now (o .exit)) (now (q .exit)) r ≡ post (now (o .entry)) (now (q .entry)) c (abortB i cause (Posting·from (now (s .entry)))) ⌝ }
 {
     server_changes::leave(s, i);
     server_changes::finish(s, i);
-    let t = le::get_u32(s, 36144 + i * 4);
-    message::put_message(o, c.messages * 112, 22, i as u8, 0, cause, t, 0, 0);
+    let t = le::get_u32(s, LATEST + i * NUMBER_WIDTH);
+    message::put_message(o, c.messages * MESSAGE, 22, i as u8, 0, cause, t, 0, 0);
     one_more(c)
 }
 
@@ -102,15 +119,15 @@ fn page_if(yes: bool, p: usize) -> u32
 }
 
 fn written_page(s: &[u8], i: usize, p: usize) -> bool
-    requires { ⌜ (length (now s) ≡ 37072) × (i < 8) × (p < 32) ⌝ }
+    requires { ⌜ (length (now s) ≡ serverLength) × (i < 8) × (p < 32) ⌝ }
     ensures { λ r. ⌜ r ≡ writtenPageB (now (s .entry)) i p ⌝ }
 {
-    s[36760 + i * 32 + p] != 0
+    s[WRITTEN_SET + i * SET_ROW + p] != 0
 }
 
 // The pages that i's entry writes.
 fn written_pages(s: &[u8], i: usize) -> u32
-    requires { ⌜ (length (now s) ≡ 37072) × (i < 8) ⌝ }
+    requires { ⌜ (length (now s) ≡ serverLength) × (i < 8) ⌝ }
     ensures { λ r. ⌜ r ≡ writtenPagesB (now (s .entry)) i ⌝ }
 {
     let mut d: u32 = 0;
@@ -124,11 +141,11 @@ fn written_pages(s: &[u8], i: usize) -> u32
 
 // Station j, if it validates and is listed for one of the pages d, gets 23 and is listed for none of them.
 fn inform(s: &mut [u8], o: &mut [u8], q: &mut [u8], c: Counts, i: usize, d: u32, j: usize) -> Counts
-    requires { ⌜ (length (now s) ≡ 37072) × (i < 8) × (j < 8) × Room (now o) (now q) c (informB i d (Posting·from (now s)) j) ⌝ }
+    requires { ⌜ (length (now s) ≡ serverLength) × (i < 8) × (j < 8) × Room (now o) (now q) c (informB i d (Posting·from (now s)) j) ⌝ }
     ensures { λ r. ⌜ posted (now (s .exit)) (now (o .exit)) (now (q .exit)) r ≡ post (now (o .entry)) (now (q .entry)) c (informB i d (Posting·from (now (s .entry))) j) ⌝ }
 {
     if server_tests::informed(s, i, d, j) {
-        message::put_message(o, c.messages * 112, 23, j as u8, 0, 0, 0, d, 0);
+        message::put_message(o, c.messages * MESSAGE, 23, j as u8, 0, 0, 0, d, 0);
         server_changes::unlist(s, j, d);
         return one_more(c);
     }
@@ -137,7 +154,7 @@ fn inform(s: &mut [u8], o: &mut [u8], q: &mut [u8], c: Counts, i: usize, d: u32,
 
 // Stations rising.
 fn inform_all(s: &mut [u8], o: &mut [u8], q: &mut [u8], c: Counts, i: usize, d: u32) -> Counts
-    requires { ⌜ (length (now s) ≡ 37072) × (i < 8) × Room (now o) (now q) c (informTo i d (Posting·from (now s)) 8) ⌝ }
+    requires { ⌜ (length (now s) ≡ serverLength) × (i < 8) × Room (now o) (now q) c (informTo i d (Posting·from (now s)) 8) ⌝ }
     ensures { λ r. ⌜ posted (now (s .exit)) (now (o .exit)) (now (q .exit)) r ≡ post (now (o .entry)) (now (q .entry)) c (informTo i d (Posting·from (now (s .entry))) 8) ⌝ }
 {
     let mut b = c;
@@ -152,20 +169,20 @@ fn inform_all(s: &mut [u8], o: &mut [u8], q: &mut [u8], c: Counts, i: usize, d: 
 
 // The record of i's entry, with the last commit number.
 fn archive(s: &[u8], q: &mut [u8], c: Counts, i: usize) -> Counts
-    requires { ⌜ (length (now s) ≡ 37072) × (i < 8) × (c .records + 4624 ≤ length (now q)) ⌝ }
+    requires { ⌜ (length (now s) ≡ serverLength) × (i < 8) × (c .records + longestRecord ≤ length (now q)) ⌝ }
     ensures { λ r. ⌜ (now (q .exit) ≡ sets (now (q .entry)) (c .records) (recordB i (now (s .entry)))) × (r ≡ counts (c .messages) (c .records + length (recordB i (now (s .entry))))) ⌝ }
 {
-    let n = le::get_u32(s, 36208);
-    let t = le::get_u32(s, 36112 + i * 4);
-    let kind = le::wide(s[37016 + i]);
+    let n = le::get_u32(s, LAST);
+    let t = le::get_u32(s, WORK + i * NUMBER_WIDTH);
+    let kind = le::wide(s[KIND + i]);
     let k = set_record::put_record(
         s,
         q,
         c.records,
-        36504 + i * 32,
-        2048 + i * 2048,
-        36760 + i * 32,
-        18432 + i * 2048,
+        READ_SET + i * SET_ROW,
+        READ_VALUE + i * VALUE_ROW,
+        WRITTEN_SET + i * SET_ROW,
+        WRITTEN_VALUE + i * VALUE_ROW,
         n,
         t,
         i as u32,
@@ -179,22 +196,22 @@ fn archive(s: &[u8], q: &mut [u8], c: Counts, i: usize) -> Counts
 
 // What i's entry writes is written and archived; its locks and the entry go, and it gets 21.
 fn put_installed(s: &mut [u8], o: &mut [u8], q: &mut [u8], c: Counts, i: usize) -> Counts
-    requires { ⌜ (length (now s) ≡ 37072) × (i < 8) × (lastOf (now s) < 4294967295) × Room (now o) (now q) c (installedB i (Posting·from (now s))) ⌝ }
+    requires { ⌜ (length (now s) ≡ serverLength) × (i < 8) × (lastOf (now s) < 4294967295) × Room (now o) (now q) c (installedB i (Posting·from (now s))) ⌝ }
     ensures { λ r. ⌜ posted (now (s .exit)) (now (o .exit)) (now (q .exit)) r ≡ post (now (o .entry)) (now (q .entry)) c (installedB i (Posting·from (now (s .entry)))) ⌝ }
 {
-    let t = le::get_u32(s, 36112 + i * 4);
+    let t = le::get_u32(s, WORK + i * NUMBER_WIDTH);
     server_changes::write(s, i);
     let e = archive(s, q, c, i);
     server_changes::leave(s, i);
     server_changes::finish(s, i);
-    let n = le::get_u32(s, 36208);
-    message::put_message(o, e.messages * 112, 21, i as u8, 0, 0, t, 0, n);
+    let n = le::get_u32(s, LAST);
+    message::put_message(o, e.messages * MESSAGE, 21, i as u8, 0, 0, t, 0, n);
     one_more(e)
 }
 
 // Installs i's entry; other validating stations listed for a written page get 23.
 pub fn install(s: &mut [u8], o: &mut [u8], q: &mut [u8], c: Counts, i: usize) -> Counts
-    requires { ⌜ (length (now s) ≡ 37072) × (i < 8) × (lastOf (now s) < 4294967295) × Room (now o) (now q) c (installB i (Posting·from (now s))) ⌝ }
+    requires { ⌜ (length (now s) ≡ serverLength) × (i < 8) × (lastOf (now s) < 4294967295) × Room (now o) (now q) c (installB i (Posting·from (now s))) ⌝ }
     ensures { λ r. ⌜ posted (now (s .exit)) (now (o .exit)) (now (q .exit)) r ≡ post (now (o .entry)) (now (q .entry)) c (installB i (Posting·from (now (s .entry)))) ⌝ }
 {
     let d = written_pages(s, i);

@@ -7,48 +7,50 @@ use lib.Bits.{bitAnd, bitOr}
 use lib.Dec.{eqb}
 use Rattle.le.specs.Le.{u16At, u32At, u64At, setU32, setU64}
 use Rattle.message.specs.Layout.{transactionOf}
-use Rattle.message.specs.Commit.{entriesOf}
-use Rattle.station_state.specs.Layout.{hasBit, member}
+use Rattle.message.specs.Commit.{recordAt, addressesAt, versionWidth, versionsAt, entriesOf}
+use Rattle.layout.specs.Record.{valueLength}
+use Rattle.record.specs.Check.{writeCountFrom, readCountFrom}
+use Rattle.station_state.specs.Layout.{pageSetWidth, numberWidth, valueWidth, hasBit, member}
 use Rattle.station_state.specs.Changes.{addTo, pageOn, pageOff, clearTo}
-use Rattle.server_state.specs.Layout.{readValuesFrom, writtenValuesFrom, agesOf, arrivalsOf, latestOf, listedOf, lastOf, lockOf, wholeOf, readSetFrom, writtenSetFrom, writtenSet, pendOf, busyOf}
+use Rattle.server_state.specs.Layout.{ageWidth, valueFrom, ageFrom, arrivalFrom, nextAgeFrom, nextArrivalFrom, versionFrom, workFrom, latestFrom, listedFrom, lastFrom, askedFrom, lockFrom, wholeFrom, wantFrom, requestFrom, calledFrom, pendFrom, busyFrom, unfinishedFrom, sentVersionsFrom, readValuesFrom, writtenValuesFrom, agesOf, arrivalsOf, latestOf, listedOf, lastOf, lockOf, wholeOf, readSetFrom, writtenSetFrom, writtenSet, pendOf, busyOf}
 
 -- "each transaction gets a new age" with its first message
 unfoldable pub noticeB : ℕ → ℕ → List ℕ → List ℕ
 noticeB i t s =
     cond (eqb t (latestOf s i)) s
-    (setU32 (set (setU64 (setU64 s (34816 + i * 8) (agesOf s)) 34944 (agesOf s + 1)) (37064 + i) 1) (36144 + i * 4) t)
+    (setU32 (set (setU64 (setU64 s (ageFrom + i * ageWidth) (agesOf s)) nextAgeFrom (agesOf s + 1)) (unfinishedFrom + i) 1) (latestFrom + i * numberWidth) t)
 
 -- "every transaction's end frees its locks"
 
 -- a page locked whole by i, with its 19
 unfoldable pub freePageB : ℕ → List ℕ → ℕ → List ℕ
-freePageB i s p = cond (eqb (wholeOf s p) (i + 1)) (pageOff (set s (36472 + p) 0) 36212 p) s
+freePageB i s p = cond (eqb (wholeOf s p) (i + 1)) (pageOff (set s (wholeFrom + p) 0) askedFrom p) s
 
 unfoldable pub freePagesTo : ℕ → List ℕ → ℕ → List ℕ
 freePagesTo i s zero = s
 freePagesTo i s (suc p) = freePageB i (freePagesTo i s p) p
 
 unfoldable pub freeOneB : ℕ → List ℕ → ℕ → List ℕ
-freeOneB i s a = cond (eqb (lockOf s a) (i + 1)) (set s (36216 + a) 0) s
+freeOneB i s a = cond (eqb (lockOf s a) (i + 1)) (set s (lockFrom + a) 0) s
 
 unfoldable pub freeTo : ℕ → List ℕ → ℕ → List ℕ
 freeTo i s zero = s
 freeTo i s (suc a) = freeOneB i (freeTo i s a) a
 
 unfoldable pub finishB : ℕ → List ℕ → List ℕ
-finishB i s = set (freeTo i (freePagesTo i s 32) 256) (37064 + i) 0
+finishB i s = set (freeTo i (freePagesTo i s 32) 256) (unfinishedFrom + i) 0
 
 -- a station's entry in the waiting list goes
 unfoldable pub leaveB : ℕ → List ℕ → List ℕ
 leaveB i s =
-    set (set (set (clearTo (clearTo (set (setU64 (set s (37024 + i) 0) (34880 + i * 8) 0) (37032 + i) 0) (readSetFrom i) 32) (writtenSetFrom i) 32)
-    (37040 + i) 0) (37048 + i) 0) (37056 + i) 0
+    set (set (set (clearTo (clearTo (set (setU64 (set s (wantFrom + i) 0) (arrivalFrom + i * ageWidth) 0) (requestFrom + i) 0) (readSetFrom i) 32) (writtenSetFrom i) 32)
+    (calledFrom + i) 0) (pendFrom + i) 0) (busyFrom + i) 0
 
 -- "joins one waiting list by arrival": wanting k (1 a read, 2 a write, 3 a commit) at address a
 unfoldable pub joinB : ℕ → ℕ → ℕ → List ℕ → List ℕ
 joinB i k a s =
     let t = leaveB i s in
-    setU64 (set (set (setU64 t (34880 + i * 8) (arrivalsOf s)) (37024 + i) k) (37032 + i) a) 34952 (arrivalsOf s + 1)
+    setU64 (set (set (setU64 t (arrivalFrom + i * ageWidth) (arrivalsOf s)) (wantFrom + i) k) (requestFrom + i) a) nextArrivalFrom (arrivalsOf s + 1)
 
 unfoldable pub joinReadB : ℕ → ℕ → List ℕ → List ℕ
 joinReadB i a s = addTo (joinB i 1 a s) (readSetFrom i) a
@@ -59,8 +61,8 @@ joinWriteB i a s = addTo (joinB i 2 a s) (writtenSetFrom i) a
 -- a commit's record, from message m: entry e, of the sets from `at` with values from `from`
 unfoldable pub unpackOne : List ℕ → List ℕ → ℕ → ℕ → ℕ → List ℕ
 unpackOne m s at from e =
-    let a = getD m (256 + e) 0 in
-    setU64 (addTo s at a) (from + a * 8) (u64At m (256 + entriesOf m + e * 8))
+    let a = getD m (addressesAt + e) 0 in
+    setU64 (addTo s at a) (from + a * valueWidth) (u64At m (addressesAt + entriesOf m + e * valueLength))
 
 -- n entries from the first on
 unfoldable pub unpackTo : List ℕ → List ℕ → ℕ → ℕ → ℕ → ℕ → List ℕ
@@ -69,74 +71,74 @@ unpackTo m s at from first (suc n) = unpackOne m (unpackTo m s at from first n) 
 
 unfoldable pub versionsIn : List ℕ → ℕ → List ℕ → ℕ → List ℕ
 versionsIn m i s zero = s
-versionsIn m i s (suc p) = setU32 (versionsIn m i s p) (35088 + i * 128 + p * 4) (u32At m (112 + p * 4))
+versionsIn m i s (suc p) = setU32 (versionsIn m i s p) (sentVersionsFrom i + p * numberWidth) (u32At m (versionsAt + p * versionWidth))
 
 -- the work of a commit: transaction, versions, reads, writes. The sets were empty before
 unfoldable pub unpackB : ℕ → List ℕ → List ℕ → List ℕ
 unpackB i m s =
     unpackTo m
-    (unpackTo m (versionsIn m i (setU32 s (36112 + i * 4) (transactionOf m)) 32) (readSetFrom i) (readValuesFrom i) 0 (u16At m 240))
-    (writtenSetFrom i) (writtenValuesFrom i) (u16At m 240) (u16At m 242)
+    (unpackTo m (versionsIn m i (setU32 s (workFrom + i * numberWidth) (transactionOf m)) 32) (readSetFrom i) (readValuesFrom i) 0 (u16At m (recordAt + readCountFrom)))
+    (writtenSetFrom i) (writtenValuesFrom i) (u16At m (recordAt + readCountFrom)) (u16At m (recordAt + writeCountFrom))
 
 unfoldable pub joinCommitB : ℕ → List ℕ → List ℕ → List ℕ
 joinCommitB i m s = unpackB i m (joinB i 3 0 s)
 
 -- "A station is listed as holding a page from the sending of 16, 17 or 18 until 5, a page in 7, or 23"
 unfoldable pub listB : ℕ → ℕ → List ℕ → List ℕ
-listB i p s = pageOn s (36176 + i * 4) p
+listB i p s = pageOn s (listedFrom + i * pageSetWidth) p
 
 unfoldable pub unlistB : ℕ → ℕ → List ℕ → List ℕ
-unlistB i d s = setU32 s (36176 + i * 4) (bitAnd (listedOf s i) (4294967295 - d))
+unlistB i d s = setU32 s (listedFrom + i * pageSetWidth) (bitAnd (listedOf s i) (4294967295 - d))
 
 -- 6 and 7 to r's 20
 unfoldable pub markBusyB : ℕ → ℕ → List ℕ → List ℕ
-markBusyB i r s = set s (37056 + r) (bitOr (busyOf s r) (2 ^ i))
+markBusyB i r s = set s (busyFrom + r) (bitOr (busyOf s r) (2 ^ i))
 
 unfoldable pub answeredB : ℕ → ℕ → List ℕ → List ℕ
 answeredB i r s =
-    set (set s (37056 + r) (bitAnd (busyOf s r) (255 - 2 ^ i))) (37048 + r) (bitAnd (pendOf s r) (255 - 2 ^ i))
+    set (set s (busyFrom + r) (bitAnd (busyOf s r) (255 - 2 ^ i))) (pendFrom + r) (bitAnd (pendOf s r) (255 - 2 ^ i))
 
 -- "8 makes it locks on its set"
 unfoldable pub lockOneB : ℕ → ℕ → ℕ → List ℕ → ℕ → List ℕ
-lockOneB i p x s o = cond (hasBit x o) (set s (36216 + (p * 8 + o)) (i + 1)) s
+lockOneB i p x s o = cond (hasBit x o) (set s (lockFrom + (p * 8 + o)) (i + 1)) s
 
 unfoldable pub lockTo : ℕ → ℕ → ℕ → List ℕ → ℕ → List ℕ
 lockTo i p x s zero = s
 lockTo i p x s (suc o) = lockOneB i p x (lockTo i p x s o) o
 
 unfoldable pub loosenB : ℕ → ℕ → ℕ → List ℕ → List ℕ
-loosenB i p x s = lockTo i p x (set (pageOff s 36212 p) (36472 + p) 0) 8
+loosenB i p x s = lockTo i p x (set (pageOff s askedFrom p) (wholeFrom + p) 0) 8
 
 -- "send 19, once for each 18"
 unfoldable pub askedB : ℕ → List ℕ → List ℕ
-askedB p s = pageOn s 36212 p
+askedB p s = pageOn s askedFrom p
 
 -- the 20s of i's entry are sent, to the stations of x
 unfoldable pub calledB : ℕ → ℕ → List ℕ → List ℕ
-calledB i x s = set (set s (37040 + i) 1) (37048 + i) x
+calledB i x s = set (set s (calledFrom + i) 1) (pendFrom + i) x
 
 -- 18 and 17
 unfoldable pub lockPageB : ℕ → ℕ → List ℕ → List ℕ
-lockPageB i p s = set (pageOff s 36212 p) (36472 + p) (i + 1)
+lockPageB i p s = set (pageOff s askedFrom p) (wholeFrom + p) (i + 1)
 
 unfoldable pub lockObjectB : ℕ → ℕ → List ℕ → List ℕ
-lockObjectB i a s = set s (36216 + a) (i + 1)
+lockObjectB i a s = set s (lockFrom + a) (i + 1)
 
 -- "write values", from i's entry; written pages take the new number as version
 
 unfoldable pub versionOneB : ℕ → ℕ → List ℕ → ℕ → List ℕ
-versionOneB i n s p = cond (eqb (writtenSet s i p) 0) s (setU32 s (34960 + p * 4) n)
+versionOneB i n s p = cond (eqb (writtenSet s i p) 0) s (setU32 s (versionFrom + p * numberWidth) n)
 
 unfoldable pub versionsTo : ℕ → ℕ → List ℕ → ℕ → List ℕ
 versionsTo i n s zero = s
 versionsTo i n s (suc p) = versionOneB i n (versionsTo i n s p) p
 
 unfoldable pub valueOneB : ℕ → List ℕ → ℕ → List ℕ
-valueOneB i s a = cond (member s (writtenSetFrom i) a) (setU64 s (a * 8) (u64At s (writtenValuesFrom i + a * 8))) s
+valueOneB i s a = cond (member s (writtenSetFrom i) a) (setU64 s (valueFrom + a * valueWidth) (u64At s (writtenValuesFrom i + a * valueWidth))) s
 
 unfoldable pub valuesTo : ℕ → List ℕ → ℕ → List ℕ
 valuesTo i s zero = s
 valuesTo i s (suc a) = valueOneB i (valuesTo i s a) a
 
 unfoldable pub writeB : ℕ → List ℕ → List ℕ
-writeB i s = valuesTo i (versionsTo i (lastOf s + 1) (setU32 s 36208 (lastOf s + 1)) 32) 256
+writeB i s = valuesTo i (versionsTo i (lastOf s + 1) (setU32 s lastFrom (lastOf s + 1)) 32) 256

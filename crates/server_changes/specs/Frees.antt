@@ -5,7 +5,7 @@ use mathlib.Core.List.{List}
 use native.Mathlib.Omega.{arith}
 use borrow.Author.Tests.{ne-eqb}
 use Rattle.le.specs.Le.{u64At}
-use Rattle.server_state.specs.Layout.{lockOf}
+use Rattle.server_state.specs.Layout.{lockFrom, lockOf}
 use Rattle.server_state.specs.Facts.{zero-eight}
 use Rattle.server_changes.specs.Changes.{freeOneB, freeTo}
 
@@ -33,10 +33,10 @@ none-freed i s a zero h = refl
 none-freed i s a (suc n) h =
     rw (none-freed i s a n (λ k l. h k (omega arith)), h n (omega arith), ne-eqb 0 (i + 1) (λ e. omega arith))
 
-pub nothing-locked : (i p : ℕ) (s : List ℕ) → u64At s (36216 + p * 8) ≡ 0 → s ≡ freeFrom i s (p * 8) 8
+pub nothing-locked : (i p : ℕ) (s : List ℕ) → u64At s (lockFrom + p * 8) ≡ 0 → s ≡ freeFrom i s (p * 8) 8
 nothing-locked i p s e =
     sym
     (none-freed i s (p * 8) 8
     (λ k l.
-    let at : 36216 + (p * 8 + k) ≡ 36216 + p * 8 + k = omega arith in
-    rw at (zero-eight s (36216 + p * 8) k l e)))
+    let at : lockFrom + (p * 8 + k) ≡ lockFrom + p * 8 + k = omega arith in
+    rw at (zero-eight s (lockFrom + p * 8) k l e)))

@@ -5,31 +5,34 @@ use mathlib.Core.List.{List}
 use lib.ListN.{set}
 use Rattle.le.specs.Le.{u16At, setU32, setU64}
 use Rattle.message.specs.Layout.{transactionOf}
+use Rattle.message.specs.Commit.{recordAt}
+use Rattle.record.specs.Check.{writeCountFrom, readCountFrom}
 use Rattle.station_state.specs.Changes.{clearTo}
+use Rattle.station_state.specs.Layout.{numberWidth}
 use Rattle.server_state.specs.declared.Aged.{Aged}
 use Rattle.server_state.specs.Ages.{agedOf}
-use Rattle.server_state.specs.Layout.{agesOf, readValuesFrom, writtenValuesFrom, arrivalsOf, readSetFrom, writtenSetFrom}
+use Rattle.server_state.specs.Layout.{ageWidth, ageFrom, arrivalFrom, nextAgeFrom, nextArrivalFrom, workFrom, wantFrom, requestFrom, calledFrom, pendFrom, busyFrom, agesOf, readValuesFrom, writtenValuesFrom, arrivalsOf, readSetFrom, writtenSetFrom}
 use Rattle.server_changes.specs.Changes.{leaveB, joinB, unpackTo, versionsIn, unpackB}
 
-pub leave-stores : (i : ℕ) (s : List ℕ) {s₁ s₂ s₃ s₄ s₅ s₆ s₇ s₈ : List ℕ} → s₁ ≡ set s (37024 + i) 0 → s₂ ≡ setU64 s₁ (34880 + i * 8) 0 → s₃ ≡ set s₂ (37032 + i) 0
+pub leave-stores : (i : ℕ) (s : List ℕ) {s₁ s₂ s₃ s₄ s₅ s₆ s₇ s₈ : List ℕ} → s₁ ≡ set s (wantFrom + i) 0 → s₂ ≡ setU64 s₁ (arrivalFrom + i * ageWidth) 0 → s₃ ≡ set s₂ (requestFrom + i) 0
     → s₄ ≡ clearTo s₃ (readSetFrom i) 32 → s₅ ≡ clearTo s₄ (writtenSetFrom i) 32
-    → s₆ ≡ set s₅ (37040 + i) 0 → s₇ ≡ set s₆ (37048 + i) 0 → s₈ ≡ set s₇ (37056 + i) 0 → s₈ ≡ leaveB i s
+    → s₆ ≡ set s₅ (calledFrom + i) 0 → s₇ ≡ set s₆ (pendFrom + i) 0 → s₈ ≡ set s₇ (busyFrom + i) 0 → s₈ ≡ leaveB i s
 unfolding leaveB
 leave-stores i s e₁ e₂ e₃ e₄ e₅ e₆ e₇ e₈ = rw (e₈, e₇, e₆, e₅, e₄, e₃, e₂, e₁)
 
-pub join-stores : (i k a : ℕ) (s : List ℕ) {n : ℕ} {s₁ s₂ s₃ s₄ s₅ : List ℕ} → n ≡ arrivalsOf s → s₁ ≡ leaveB i s → s₂ ≡ setU64 s₁ (34880 + i * 8) n
-    → s₃ ≡ set s₂ (37024 + i) k → s₄ ≡ set s₃ (37032 + i) a → s₅ ≡ setU64 s₄ 34952 (n + 1) → s₅ ≡ joinB i k a s
+pub join-stores : (i k a : ℕ) (s : List ℕ) {n : ℕ} {s₁ s₂ s₃ s₄ s₅ : List ℕ} → n ≡ arrivalsOf s → s₁ ≡ leaveB i s → s₂ ≡ setU64 s₁ (arrivalFrom + i * ageWidth) n
+    → s₃ ≡ set s₂ (wantFrom + i) k → s₄ ≡ set s₃ (requestFrom + i) a → s₅ ≡ setU64 s₄ nextArrivalFrom (n + 1) → s₅ ≡ joinB i k a s
 unfolding joinB
 join-stores i k a s en e₁ e₂ e₃ e₄ e₅ = rw (e₅, e₄, e₃, e₂, e₁, en)
 
-pub unpack-stores : (i : ℕ) (m s : List ℕ) {n w t : ℕ} {s₁ s₂ s₃ s₄ : List ℕ} → n ≡ u16At m 240 → w ≡ u16At m 242 → t ≡ transactionOf m
-    → s₁ ≡ setU32 s (36112 + i * 4) t → s₂ ≡ versionsIn m i s₁ 32 → s₃ ≡ unpackTo m s₂ (readSetFrom i) (readValuesFrom i) 0 n
+pub unpack-stores : (i : ℕ) (m s : List ℕ) {n w t : ℕ} {s₁ s₂ s₃ s₄ : List ℕ} → n ≡ u16At m (recordAt + readCountFrom) → w ≡ u16At m (recordAt + writeCountFrom) → t ≡ transactionOf m
+    → s₁ ≡ setU32 s (workFrom + i * numberWidth) t → s₂ ≡ versionsIn m i s₁ 32 → s₃ ≡ unpackTo m s₂ (readSetFrom i) (readValuesFrom i) 0 n
     → s₄ ≡ unpackTo m s₃ (writtenSetFrom i) (writtenValuesFrom i) n w → s₄ ≡ unpackB i m s
 unfolding unpackB
 unpack-stores i m s en ew et e₁ e₂ e₃ e₄ = rw (e₄, e₃, e₂, e₁, en, ew, et)
 
 -- the age that the counter gives, and the counter one higher
-pub age-stores : (s : List ℕ) (i : ℕ) {n : ℕ} {a : Aged} {s₁ s₂ : List ℕ} → n ≡ agesOf s → a ≡ agedOf (record { next = n }) → s₁ ≡ setU64 s (34816 + i * 8) (a .age)
-    → s₂ ≡ setU64 s₁ 34944 (a .ages .next) → s₂ ≡ setU64 (setU64 s (34816 + i * 8) (agesOf s)) 34944 (agesOf s + 1)
+pub age-stores : (s : List ℕ) (i : ℕ) {n : ℕ} {a : Aged} {s₁ s₂ : List ℕ} → n ≡ agesOf s → a ≡ agedOf (record { next = n }) → s₁ ≡ setU64 s (ageFrom + i * ageWidth) (a .age)
+    → s₂ ≡ setU64 s₁ nextAgeFrom (a .ages .next) → s₂ ≡ setU64 (setU64 s (ageFrom + i * ageWidth) (agesOf s)) nextAgeFrom (agesOf s + 1)
 unfolding agedOf
 age-stores s i en ea e₁ e₂ = rw (e₂, e₁, ea, en)

@@ -1,13 +1,45 @@
-// The changes of the server's state. Where each field stands is in specs/Layout.antt of crate server_state.
+// The changes of the server's state.
 ghost use mathlib.Core.Path.{_≡_};
 ghost use Prim.Native.Nat.{_+_, _*_, _≤_, _<_};
 ghost use lib.ListN.{length};
 ghost use Rattle.le.specs.Le.{setU64};
-ghost use Rattle.message.specs.Commit.{entriesOf};
-ghost use Rattle.server_state.specs.Layout.{agesOf, arrivalsOf, lastOf};
+ghost use Rattle.message.specs.Commit.{addressesAt, entriesOf};
+ghost use Rattle.layout.specs.Record.{entryLength};
+ghost use Rattle.server_state.specs.Layout.{ageWidth, serverLength, valueRow, setRow, counterLimit, ageFrom, nextAgeFrom, agesOf, arrivalsOf, lastOf};
 ghost use Rattle.server_changes.specs.Changes.{noticeB, freePageB, freePagesTo, freeOneB, freeTo, finishB, leaveB, joinB, joinReadB, joinWriteB, unpackOne, unpackTo, versionsIn, unpackB, joinCommitB, listB, unlistB, markBusyB, answeredB, lockOneB, lockTo, loosenB, askedB, calledB, lockPageB, lockObjectB, versionOneB, versionsTo, valueOneB, valuesTo, writeB};
 ghost use Rattle.server_changes.specs.Frees.{freeFrom};
+use server_state::AGE;
+use server_state::AGE_WIDTH;
+use server_state::ARRIVAL;
+use server_state::ASKED;
 use server_state::Ages;
+use server_state::BUSY;
+use server_state::CALLED;
+use server_state::LAST;
+use server_state::LATEST;
+use server_state::LISTED;
+use server_state::LOCK;
+use server_state::NEXT_AGE;
+use server_state::NEXT_ARRIVAL;
+use server_state::PEND;
+use server_state::READ_SET;
+use server_state::READ_VALUE;
+use server_state::REQUEST;
+use server_state::SENT_VERSION;
+use server_state::SET_ROW;
+use server_state::UNFINISHED;
+use server_state::VALUE;
+use server_state::VALUE_ROW;
+use server_state::VERSION;
+use server_state::VERSION_ROW;
+use server_state::WANT;
+use server_state::WHOLE;
+use server_state::WORK;
+use server_state::WRITTEN_SET;
+use server_state::WRITTEN_VALUE;
+use station_state::NUMBER_WIDTH;
+use station_state::PAGE_SET_WIDTH;
+use station_state::VALUE_WIDTH;
 
 // The byte that names station i as a lock's holder: 0 is for none.
 fn holder(i: usize) -> u8
@@ -19,45 +51,45 @@ fn holder(i: usize) -> u8
 
 // Station i's transaction takes the next age.
 fn new_age(s: &mut [u8], i: usize)
-    requires { ⌜ (length (now s) ≡ 37072) × (i < 8) × (agesOf (now s) < 9223372036854775808) ⌝ }
-    ensures { λ _. ⌜ now (s .exit) ≡ setU64 (setU64 (now (s .entry)) (34816 + i * 8) (agesOf (now (s .entry)))) 34944 (agesOf (now (s .entry)) + 1) ⌝ }
+    requires { ⌜ (length (now s) ≡ serverLength) × (i < 8) × (agesOf (now s) < counterLimit) ⌝ }
+    ensures { λ _. ⌜ now (s .exit) ≡ setU64 (setU64 (now (s .entry)) (ageFrom + i * ageWidth) (agesOf (now (s .entry)))) nextAgeFrom (agesOf (now (s .entry)) + 1) ⌝ }
 {
     let ages = Ages {
-        next: le::get_u64(s, 34944),
+        next: le::get_u64(s, NEXT_AGE),
     };
     let aged = ages.take();
     let rest = aged.ages;
-    le::put_u64(s, 34816 + i * 8, aged.age);
-    le::put_u64(s, 34944, rest.next);
+    le::put_u64(s, AGE + i * AGE_WIDTH, aged.age);
+    le::put_u64(s, NEXT_AGE, rest.next);
 }
 
 // A message of i's transaction t: with its first one it is unfinished and has an age.
 pub fn notice(s: &mut [u8], i: usize, t: u32)
-    requires { ⌜ (length (now s) ≡ 37072) × (i < 8) × (agesOf (now s) < 9223372036854775808) ⌝ }
+    requires { ⌜ (length (now s) ≡ serverLength) × (i < 8) × (agesOf (now s) < counterLimit) ⌝ }
     ensures { λ _. ⌜ now (s .exit) ≡ noticeB i t (now (s .entry)) ⌝ }
 {
-    if t == le::get_u32(s, 36144 + i * 4) {
+    if t == le::get_u32(s, LATEST + i * NUMBER_WIDTH) {
         return;
     }
     new_age(s, i);
-    le::put_u8(s, 37064 + i, 1);
-    le::put_u32(s, 36144 + i * 4, t);
+    le::put_u8(s, UNFINISHED + i, 1);
+    le::put_u32(s, LATEST + i * NUMBER_WIDTH, t);
 }
 
 // The 19 of a page goes with its whole lock.
 fn free_page(s: &mut [u8], i: usize, p: usize)
-    requires { ⌜ (length (now s) ≡ 37072) × (i < 8) × (p < 32) ⌝ }
+    requires { ⌜ (length (now s) ≡ serverLength) × (i < 8) × (p < 32) ⌝ }
     ensures { λ _. ⌜ now (s .exit) ≡ freePageB i (now (s .entry)) p ⌝ }
 {
-    if s[36472 + p] == holder(i) {
-        le::put_u8(s, 36472 + p, 0);
-        station_state::page_off(s, 36212, p);
+    if s[WHOLE + p] == holder(i) {
+        le::put_u8(s, WHOLE + p, 0);
+        station_state::page_off(s, ASKED, p);
         return;
     }
 }
 
 fn free_pages(s: &mut [u8], i: usize)
-    requires { ⌜ (length (now s) ≡ 37072) × (i < 8) ⌝ }
+    requires { ⌜ (length (now s) ≡ serverLength) × (i < 8) ⌝ }
     ensures { λ _. ⌜ now (s .exit) ≡ freePagesTo i (now (s .entry)) 32 ⌝ }
 {
     let mut p = 0;
@@ -68,21 +100,21 @@ fn free_pages(s: &mut [u8], i: usize)
 }
 
 fn free_one(s: &mut [u8], i: usize, a: usize)
-    requires { ⌜ (length (now s) ≡ 37072) × (i < 8) × (a < 256) ⌝ }
+    requires { ⌜ (length (now s) ≡ serverLength) × (i < 8) × (a < 256) ⌝ }
     ensures { λ _. ⌜ now (s .exit) ≡ freeOneB i (now (s .entry)) a ⌝ }
 {
-    if s[36216 + a] == holder(i) {
-        le::put_u8(s, 36216 + a, 0);
+    if s[LOCK + a] == holder(i) {
+        le::put_u8(s, LOCK + a, 0);
         return;
     }
 }
 
 // The locks of i on the objects of page p. A page without locks is passed over.
 fn free_on(s: &mut [u8], i: usize, p: usize)
-    requires { ⌜ (length (now s) ≡ 37072) × (i < 8) × (p < 32) ⌝ }
+    requires { ⌜ (length (now s) ≡ serverLength) × (i < 8) × (p < 32) ⌝ }
     ensures { λ _. ⌜ now (s .exit) ≡ freeFrom i (now (s .entry)) (p * 8) 8 ⌝ }
 {
-    if le::get_u64(s, 36216 + p * 8) == 0 {
+    if le::get_u64(s, LOCK + p * 8) == 0 {
         return;
     }
     let mut o = 0;
@@ -93,7 +125,7 @@ fn free_on(s: &mut [u8], i: usize, p: usize)
 }
 
 fn free(s: &mut [u8], i: usize)
-    requires { ⌜ (length (now s) ≡ 37072) × (i < 8) ⌝ }
+    requires { ⌜ (length (now s) ≡ serverLength) × (i < 8) ⌝ }
     ensures { λ _. ⌜ now (s .exit) ≡ freeTo i (now (s .entry)) 256 ⌝ }
 {
     let mut p = 0;
@@ -105,80 +137,81 @@ fn free(s: &mut [u8], i: usize)
 
 // The transaction of i ends: its locks go.
 pub fn finish(s: &mut [u8], i: usize)
-    requires { ⌜ (length (now s) ≡ 37072) × (i < 8) ⌝ }
+    requires { ⌜ (length (now s) ≡ serverLength) × (i < 8) ⌝ }
     ensures { λ _. ⌜ now (s .exit) ≡ finishB i (now (s .entry)) ⌝ }
 {
     free_pages(s, i);
     free(s, i);
-    le::put_u8(s, 37064 + i, 0);
+    le::put_u8(s, UNFINISHED + i, 0);
 }
 
 // The entry of i in the waiting list goes.
 pub fn leave(s: &mut [u8], i: usize)
-    requires { ⌜ (length (now s) ≡ 37072) × (i < 8) ⌝ }
+    requires { ⌜ (length (now s) ≡ serverLength) × (i < 8) ⌝ }
     ensures { λ _. ⌜ now (s .exit) ≡ leaveB i (now (s .entry)) ⌝ }
 {
-    le::put_u8(s, 37024 + i, 0);
-    le::put_u64(s, 34880 + i * 8, 0);
-    le::put_u8(s, 37032 + i, 0);
-    station_state::clear(s, 36504 + i * 32);
-    station_state::clear(s, 36760 + i * 32);
-    le::put_u8(s, 37040 + i, 0);
-    le::put_u8(s, 37048 + i, 0);
-    le::put_u8(s, 37056 + i, 0);
+    le::put_u8(s, WANT + i, 0);
+    le::put_u64(s, ARRIVAL + i * AGE_WIDTH, 0);
+    le::put_u8(s, REQUEST + i, 0);
+    station_state::clear(s, READ_SET + i * SET_ROW);
+    station_state::clear(s, WRITTEN_SET + i * SET_ROW);
+    le::put_u8(s, CALLED + i, 0);
+    le::put_u8(s, PEND + i, 0);
+    le::put_u8(s, BUSY + i, 0);
 }
 
 // Station i joins the waiting list, wanting k (1 a read, 2 a write, 3 a commit) at address a.
 fn join(s: &mut [u8], i: usize, k: u8, a: u8)
-    requires { ⌜ (length (now s) ≡ 37072) × (i < 8) × (arrivalsOf (now s) < 9223372036854775808) ⌝ }
+    requires { ⌜ (length (now s) ≡ serverLength) × (i < 8) × (arrivalsOf (now s) < counterLimit) ⌝ }
     ensures { λ _. ⌜ now (s .exit) ≡ joinB i k a (now (s .entry)) ⌝ }
 {
-    let n = le::get_u64(s, 34952);
+    let n = le::get_u64(s, NEXT_ARRIVAL);
     leave(s, i);
-    le::put_u64(s, 34880 + i * 8, n);
-    le::put_u8(s, 37024 + i, k);
-    le::put_u8(s, 37032 + i, a);
-    le::put_u64(s, 34952, n + 1);
+    le::put_u64(s, ARRIVAL + i * AGE_WIDTH, n);
+    le::put_u8(s, WANT + i, k);
+    le::put_u8(s, REQUEST + i, a);
+    le::put_u64(s, NEXT_ARRIVAL, n + 1);
 }
 
 pub fn join_read(s: &mut [u8], i: usize, a: usize)
-    requires { ⌜ (length (now s) ≡ 37072) × (i < 8) × (a < 256) × (arrivalsOf (now s) < 9223372036854775808) ⌝ }
+    requires { ⌜ (length (now s) ≡ serverLength) × (i < 8) × (a < 256) × (arrivalsOf (now s) < counterLimit) ⌝ }
     ensures { λ _. ⌜ now (s .exit) ≡ joinReadB i a (now (s .entry)) ⌝ }
 {
     join(s, i, 1, a as u8);
-    station_state::add_to(s, 36504 + i * 32, a);
+    station_state::add_to(s, READ_SET + i * SET_ROW, a);
 }
 
 pub fn join_write(s: &mut [u8], i: usize, a: usize)
-    requires { ⌜ (length (now s) ≡ 37072) × (i < 8) × (a < 256) × (arrivalsOf (now s) < 9223372036854775808) ⌝ }
+    requires { ⌜ (length (now s) ≡ serverLength) × (i < 8) × (a < 256) × (arrivalsOf (now s) < counterLimit) ⌝ }
     ensures { λ _. ⌜ now (s .exit) ≡ joinWriteB i a (now (s .entry)) ⌝ }
 {
     join(s, i, 2, a as u8);
-    station_state::add_to(s, 36760 + i * 32, a);
+    station_state::add_to(s, WRITTEN_SET + i * SET_ROW, a);
 }
 
 // How many entries the record of a commit has.
 fn entries(m: &[u8]) -> usize
-    requires { ⌜ 256 ≤ length (now m) ⌝ }
+    requires { ⌜ addressesAt ≤ length (now m) ⌝ }
     ensures { λ r. ⌜ r ≡ entriesOf (now (m .entry)) ⌝ }
 {
-    le::index(le::get_u16(m, 240)) + le::index(le::get_u16(m, 242))
+    le::index(le::get_u16(m, message::RECORD_READS))
+        + le::index(le::get_u16(m, message::RECORD_WRITES))
 }
 
 // Entry e of a commit's record joins the sets from `at`, its value those from `from`.
 fn unpack_one(s: &mut [u8], m: &[u8], at: usize, from: usize, e: usize)
-    requires { ⌜ (length (now s) ≡ 37072) × (256 ≤ length (now m)) × (256 + 9 * entriesOf (now m) ≤ length (now m)) × (at + 32 ≤ 37072) × (from + 2048 ≤ 37072) × (e < entriesOf (now m)) ⌝ }
+    requires { ⌜ (length (now s) ≡ serverLength) × (addressesAt ≤ length (now m)) × (addressesAt + entryLength * entriesOf (now m) ≤ length (now m)) × (at + setRow ≤ serverLength) × (from + valueRow ≤ serverLength) × (e < entriesOf (now m)) ⌝ }
     ensures { λ _. ⌜ now (s .exit) ≡ unpackOne (now (m .entry)) (now (s .entry)) at from e ⌝ }
 {
-    let a = le::index(le::wide(m[256 + e]));
-    let v = le::get_u64(m, 256 + entries(m) + e * 8);
+    let a = le::index(le::wide(m[message::ADDRESSES + e]));
+    let v = le::get_u64(m, message::ADDRESSES + entries(m) + e * record::VALUE);
     station_state::add_to(s, at, a);
-    le::put_u64(s, from + a * 8, v);
+    le::put_u64(s, from + a * VALUE_WIDTH, v);
 }
 
 // n entries from the first on.
 fn unpack(s: &mut [u8], m: &[u8], at: usize, from: usize, first: usize, n: usize)
-    requires { ⌜ (length (now s) ≡ 37072) × (256 ≤ length (now m)) × (256 + 9 * entriesOf (now m) ≤ length (now m)) × (at + 32 ≤ 37072) × (from + 2048 ≤ 37072) × (first + n ≤ entriesOf (now m)) ⌝ }
+    requires { ⌜ (length (now s) ≡ serverLength) × (addressesAt ≤ length (now m)) × (addressesAt + entryLength * entriesOf (now m) ≤ length (now m)) × (at + setRow ≤ serverLength) × (from + valueRow ≤ serverLength) × (first + n ≤ entriesOf (now m)) ⌝ }
     ensures { λ _. ⌜ now (s .exit) ≡ unpackTo (now (m .entry)) (now (s .entry)) at from first n ⌝ }
 {
     let mut k = 0;
@@ -190,31 +223,53 @@ fn unpack(s: &mut [u8], m: &[u8], at: usize, from: usize, first: usize, n: usize
 
 // The versions that came with a commit.
 fn versions_in(s: &mut [u8], m: &[u8], i: usize)
-    requires { ⌜ (length (now s) ≡ 37072) × (256 ≤ length (now m)) × (i < 8) ⌝ }
+    requires { ⌜ (length (now s) ≡ serverLength) × (addressesAt ≤ length (now m)) × (i < 8) ⌝ }
     ensures { λ _. ⌜ now (s .exit) ≡ versionsIn (now (m .entry)) i (now (s .entry)) 32 ⌝ }
 {
     let mut p = 0;
     while p < 32 {
-        le::put_u32(s, 35088 + i * 128 + p * 4, le::get_u32(m, 112 + p * 4));
+        le::put_u32(
+            s,
+            SENT_VERSION + i * VERSION_ROW + p * NUMBER_WIDTH,
+            le::get_u32(m, message::VERSIONS + p * message::VERSION_WIDTH),
+        );
         p += 1;
     }
 }
 
 // The work of a commit goes to i's entry, whose sets are empty.
 pub fn unpack_commit(s: &mut [u8], m: &[u8], i: usize)
-    requires { ⌜ (length (now s) ≡ 37072) × (256 ≤ length (now m)) × (256 + 9 * entriesOf (now m) ≤ length (now m)) × (i < 8) ⌝ }
+    requires { ⌜ (length (now s) ≡ serverLength) × (addressesAt ≤ length (now m)) × (addressesAt + entryLength * entriesOf (now m) ≤ length (now m)) × (i < 8) ⌝ }
     ensures { λ _. ⌜ now (s .exit) ≡ unpackB i (now (m .entry)) (now (s .entry)) ⌝ }
 {
-    let n = le::index(le::get_u16(m, 240));
-    let w = le::index(le::get_u16(m, 242));
-    le::put_u32(s, 36112 + i * 4, le::get_u32(m, 4));
+    let n = le::index(le::get_u16(m, message::RECORD_READS));
+    let w = le::index(le::get_u16(m, message::RECORD_WRITES));
+    le::put_u32(
+        s,
+        WORK + i * NUMBER_WIDTH,
+        le::get_u32(m, message::TRANSACTION),
+    );
     versions_in(s, m, i);
-    unpack(s, m, 36504 + i * 32, 2048 + i * 2048, 0, n);
-    unpack(s, m, 36760 + i * 32, 18432 + i * 2048, n, w);
+    unpack(
+        s,
+        m,
+        READ_SET + i * SET_ROW,
+        READ_VALUE + i * VALUE_ROW,
+        0,
+        n,
+    );
+    unpack(
+        s,
+        m,
+        WRITTEN_SET + i * SET_ROW,
+        WRITTEN_VALUE + i * VALUE_ROW,
+        n,
+        w,
+    );
 }
 
 pub fn join_commit(s: &mut [u8], m: &[u8], i: usize)
-    requires { ⌜ (length (now s) ≡ 37072) × (256 ≤ length (now m)) × (256 + 9 * entriesOf (now m) ≤ length (now m)) × (i < 8) × (arrivalsOf (now s) < 9223372036854775808) ⌝ }
+    requires { ⌜ (length (now s) ≡ serverLength) × (addressesAt ≤ length (now m)) × (addressesAt + entryLength * entriesOf (now m) ≤ length (now m)) × (i < 8) × (arrivalsOf (now s) < counterLimit) ⌝ }
     ensures { λ _. ⌜ now (s .exit) ≡ joinCommitB i (now (m .entry)) (now (s .entry)) ⌝ }
 {
     join(s, i, 3, 0);
@@ -223,55 +278,55 @@ pub fn join_commit(s: &mut [u8], m: &[u8], i: usize)
 
 // Station i is listed as holding page p.
 pub fn list(s: &mut [u8], i: usize, p: usize)
-    requires { ⌜ (length (now s) ≡ 37072) × (i < 8) × (p < 32) ⌝ }
+    requires { ⌜ (length (now s) ≡ serverLength) × (i < 8) × (p < 32) ⌝ }
     ensures { λ _. ⌜ now (s .exit) ≡ listB i p (now (s .entry)) ⌝ }
 {
-    station_state::page_on(s, 36176 + i * 4, p);
+    station_state::page_on(s, LISTED + i * PAGE_SET_WIDTH, p);
 }
 
 // Station i is listed for none of the pages of d.
 pub fn unlist(s: &mut [u8], i: usize, d: u32)
-    requires { ⌜ (length (now s) ≡ 37072) × (i < 8) ⌝ }
+    requires { ⌜ (length (now s) ≡ serverLength) × (i < 8) ⌝ }
     ensures { λ _. ⌜ now (s .exit) ≡ unlistB i d (now (s .entry)) ⌝ }
 {
-    let x = le::get_u32(s, 36176 + i * 4);
-    le::put_u32(s, 36176 + i * 4, x & !d);
+    let x = le::get_u32(s, LISTED + i * PAGE_SET_WIDTH);
+    le::put_u32(s, LISTED + i * PAGE_SET_WIDTH, x & !d);
 }
 
 // Station i answers r's 20 with 6.
 pub fn mark_busy(s: &mut [u8], i: usize, r: usize)
-    requires { ⌜ (length (now s) ≡ 37072) × (i < 8) × (r < 8) ⌝ }
+    requires { ⌜ (length (now s) ≡ serverLength) × (i < 8) × (r < 8) ⌝ }
     ensures { λ _. ⌜ now (s .exit) ≡ markBusyB i r (now (s .entry)) ⌝ }
 {
-    let x = s[37056 + r] | station_state::bit8(i);
-    le::put_u8(s, 37056 + r, x);
+    let x = s[BUSY + r] | station_state::bit8(i);
+    le::put_u8(s, BUSY + r, x);
 }
 
 // Station i answers r's 20 with 7: it owes none, and a 6 before it is void.
 pub fn answered(s: &mut [u8], i: usize, r: usize)
-    requires { ⌜ (length (now s) ≡ 37072) × (i < 8) × (r < 8) ⌝ }
+    requires { ⌜ (length (now s) ≡ serverLength) × (i < 8) × (r < 8) ⌝ }
     ensures { λ _. ⌜ now (s .exit) ≡ answeredB i r (now (s .entry)) ⌝ }
 {
     let others = !station_state::bit8(i);
-    let busy = s[37056 + r] & others;
-    let pend = s[37048 + r] & others;
-    le::put_u8(s, 37056 + r, busy);
-    le::put_u8(s, 37048 + r, pend);
+    let busy = s[BUSY + r] & others;
+    let pend = s[PEND + r] & others;
+    le::put_u8(s, BUSY + r, busy);
+    le::put_u8(s, PEND + r, pend);
 }
 
 fn lock_one(s: &mut [u8], i: usize, p: usize, x: u8, o: usize)
-    requires { ⌜ (length (now s) ≡ 37072) × (i < 8) × (p < 32) × (o < 8) ⌝ }
+    requires { ⌜ (length (now s) ≡ serverLength) × (i < 8) × (p < 32) × (o < 8) ⌝ }
     ensures { λ _. ⌜ now (s .exit) ≡ lockOneB i p x (now (s .entry)) o ⌝ }
 {
     if station_state::has_bit8(x, o) {
-        le::put_u8(s, 36216 + (p * 8 + o), holder(i));
+        le::put_u8(s, LOCK + (p * 8 + o), holder(i));
         return;
     }
 }
 
 // Station i locks the objects of x on page p.
 fn lock_set(s: &mut [u8], i: usize, p: usize, x: u8)
-    requires { ⌜ (length (now s) ≡ 37072) × (i < 8) × (p < 32) ⌝ }
+    requires { ⌜ (length (now s) ≡ serverLength) × (i < 8) × (p < 32) ⌝ }
     ensures { λ _. ⌜ now (s .exit) ≡ lockTo i p x (now (s .entry)) 8 ⌝ }
 {
     let mut o = 0;
@@ -283,60 +338,60 @@ fn lock_set(s: &mut [u8], i: usize, p: usize, x: u8)
 
 // The whole lock of i on page p becomes locks on the objects of x.
 pub fn loosen(s: &mut [u8], i: usize, p: usize, x: u8)
-    requires { ⌜ (length (now s) ≡ 37072) × (i < 8) × (p < 32) ⌝ }
+    requires { ⌜ (length (now s) ≡ serverLength) × (i < 8) × (p < 32) ⌝ }
     ensures { λ _. ⌜ now (s .exit) ≡ loosenB i p x (now (s .entry)) ⌝ }
 {
-    station_state::page_off(s, 36212, p);
-    le::put_u8(s, 36472 + p, 0);
+    station_state::page_off(s, ASKED, p);
+    le::put_u8(s, WHOLE + p, 0);
     lock_set(s, i, p, x);
 }
 
 // The 19 of page p is sent.
 pub fn asked(s: &mut [u8], p: usize)
-    requires { ⌜ (length (now s) ≡ 37072) × (p < 32) ⌝ }
+    requires { ⌜ (length (now s) ≡ serverLength) × (p < 32) ⌝ }
     ensures { λ _. ⌜ now (s .exit) ≡ askedB p (now (s .entry)) ⌝ }
 {
-    station_state::page_on(s, 36212, p);
+    station_state::page_on(s, ASKED, p);
 }
 
 // The 20s of i's entry are sent, to the stations of x.
 pub fn called(s: &mut [u8], i: usize, x: u8)
-    requires { ⌜ (length (now s) ≡ 37072) × (i < 8) ⌝ }
+    requires { ⌜ (length (now s) ≡ serverLength) × (i < 8) ⌝ }
     ensures { λ _. ⌜ now (s .exit) ≡ calledB i x (now (s .entry)) ⌝ }
 {
-    le::put_u8(s, 37040 + i, 1);
-    le::put_u8(s, 37048 + i, x);
+    le::put_u8(s, CALLED + i, 1);
+    le::put_u8(s, PEND + i, x);
 }
 
 // No 19 was sent for the new lock: 19 goes once for each 18.
 pub fn lock_page(s: &mut [u8], i: usize, p: usize)
-    requires { ⌜ (length (now s) ≡ 37072) × (i < 8) × (p < 32) ⌝ }
+    requires { ⌜ (length (now s) ≡ serverLength) × (i < 8) × (p < 32) ⌝ }
     ensures { λ _. ⌜ now (s .exit) ≡ lockPageB i p (now (s .entry)) ⌝ }
 {
-    station_state::page_off(s, 36212, p);
-    le::put_u8(s, 36472 + p, holder(i));
+    station_state::page_off(s, ASKED, p);
+    le::put_u8(s, WHOLE + p, holder(i));
 }
 
 pub fn lock_object(s: &mut [u8], i: usize, a: usize)
-    requires { ⌜ (length (now s) ≡ 37072) × (i < 8) × (a < 256) ⌝ }
+    requires { ⌜ (length (now s) ≡ serverLength) × (i < 8) × (a < 256) ⌝ }
     ensures { λ _. ⌜ now (s .exit) ≡ lockObjectB i a (now (s .entry)) ⌝ }
 {
-    le::put_u8(s, 36216 + a, holder(i));
+    le::put_u8(s, LOCK + a, holder(i));
 }
 
 fn version_one(s: &mut [u8], i: usize, n: u32, p: usize)
-    requires { ⌜ (length (now s) ≡ 37072) × (i < 8) × (p < 32) ⌝ }
+    requires { ⌜ (length (now s) ≡ serverLength) × (i < 8) × (p < 32) ⌝ }
     ensures { λ _. ⌜ now (s .exit) ≡ versionOneB i n (now (s .entry)) p ⌝ }
 {
-    if s[36760 + i * 32 + p] == 0 {
+    if s[WRITTEN_SET + i * SET_ROW + p] == 0 {
         return;
     }
-    le::put_u32(s, 34960 + p * 4, n);
+    le::put_u32(s, VERSION + p * NUMBER_WIDTH, n);
 }
 
 // The pages that i's entry writes take version n.
 fn versions(s: &mut [u8], i: usize, n: u32)
-    requires { ⌜ (length (now s) ≡ 37072) × (i < 8) ⌝ }
+    requires { ⌜ (length (now s) ≡ serverLength) × (i < 8) ⌝ }
     ensures { λ _. ⌜ now (s .exit) ≡ versionsTo i n (now (s .entry)) 32 ⌝ }
 {
     let mut p = 0;
@@ -347,18 +402,18 @@ fn versions(s: &mut [u8], i: usize, n: u32)
 }
 
 fn value_one(s: &mut [u8], i: usize, a: usize)
-    requires { ⌜ (length (now s) ≡ 37072) × (i < 8) × (a < 256) ⌝ }
+    requires { ⌜ (length (now s) ≡ serverLength) × (i < 8) × (a < 256) ⌝ }
     ensures { λ _. ⌜ now (s .exit) ≡ valueOneB i (now (s .entry)) a ⌝ }
 {
-    if station_state::member(s, 36760 + i * 32, a) {
-        let v = le::get_u64(s, 18432 + i * 2048 + a * 8);
-        le::put_u64(s, a * 8, v);
+    if station_state::member(s, WRITTEN_SET + i * SET_ROW, a) {
+        let v = le::get_u64(s, WRITTEN_VALUE + i * VALUE_ROW + a * VALUE_WIDTH);
+        le::put_u64(s, VALUE + a * VALUE_WIDTH, v);
         return;
     }
 }
 
 fn values(s: &mut [u8], i: usize)
-    requires { ⌜ (length (now s) ≡ 37072) × (i < 8) ⌝ }
+    requires { ⌜ (length (now s) ≡ serverLength) × (i < 8) ⌝ }
     ensures { λ _. ⌜ now (s .exit) ≡ valuesTo i (now (s .entry)) 256 ⌝ }
 {
     let mut a = 0;
@@ -370,11 +425,11 @@ fn values(s: &mut [u8], i: usize)
 
 // What i's entry writes is written, under the next commit number.
 pub fn write(s: &mut [u8], i: usize)
-    requires { ⌜ (length (now s) ≡ 37072) × (i < 8) × (lastOf (now s) < 4294967295) ⌝ }
+    requires { ⌜ (length (now s) ≡ serverLength) × (i < 8) × (lastOf (now s) < 4294967295) ⌝ }
     ensures { λ _. ⌜ now (s .exit) ≡ writeB i (now (s .entry)) ⌝ }
 {
-    let n = le::get_u32(s, 36208) + 1;
-    le::put_u32(s, 36208, n);
+    let n = le::get_u32(s, LAST) + 1;
+    le::put_u32(s, LAST, n);
     versions(s, i, n);
     values(s, i);
 }

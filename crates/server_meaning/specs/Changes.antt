@@ -15,11 +15,11 @@ use Rattle.cells.specs.Bits.{tb, tb-set, tb-mask, tb-clear-all, bit-on}
 use Rattle.cells.specs.Cells.{off, view, put8, put32, put64, get64, cell-lt}
 use Rattle.cells.specs.Sets.{on32, off32, and32}
 use Rattle.line.specs.Server.{Server, setOl, setWl, setAsked, setListed, setLatest, setFin, setAge, setAges}
-use Rattle.station_state.specs.Layout.{hasBit}
+use Rattle.station_state.specs.Layout.{pageSetWidth, numberWidth, hasBit}
 use Rattle.station_state.specs.Changes.{pageOn, pageOff}
-use Rattle.server_state.specs.Layout.{agesOf, latestOf}
+use Rattle.server_state.specs.Layout.{ageWidth, ageCell, nextAgeCell, latestCell, listedCell, askedCell, lockCell, wholeCell, unfinishedCell, table, ageFrom, nextAgeFrom, latestFrom, listedFrom, askedFrom, lockFrom, wholeFrom, unfinishedFrom, agesOf, latestOf}
 use Rattle.server_changes.specs.Changes.{noticeB, listB, unlistB, lockOneB, lockTo, loosenB, askedB, lockPageB, lockObjectB}
-use Rattle.server_meaning.specs.Meant.{table, meant, Is, start, done}
+use Rattle.server_meaning.specs.Meant.{meant, Is, start, done}
 use Rattle.server_meaning.specs.Tests.{bit-is, latest-at}
 
 module _ {s : List ℕ} {m : Server} (h : Is s m) where
@@ -29,14 +29,14 @@ module _ {s : List ℕ} {m : Server} (h : Is s m) where
       (setLatest (setFin (setAge (setAges m (m .ages + 1)) (upd (m .age) i (m .ages))) (upd (m .fin) i false)) (upd (m .latest) i t)))
   unfolding noticeB
   notice-is i t l lt la =
-      let c : agesOf s ≡ view table 0 s 5 0 0 = get64 (start h) 5 0 0 34944 refl refl (omega arith) (omega arith) in
-      let age = put64 (start h) 3 i 0 (agesOf s) (34816 + i * 8) refl (omega arith) l (omega arith) (omega arith) in
-      let ages = put64 age 5 0 0 (agesOf s + 1) 34944 refl refl (omega arith) (omega arith) la in
-      let unfinished = put8 ages 24 i 0 1 (37064 + i) refl (omega arith) l (omega arith) (omega arith) in
+      let c : agesOf s ≡ view table 0 s nextAgeCell 0 0 = get64 (start h) nextAgeCell 0 0 nextAgeFrom refl refl (omega arith) (omega arith) in
+      let age = put64 (start h) ageCell i 0 (agesOf s) (ageFrom + i * ageWidth) refl (omega arith) l (omega arith) (omega arith) in
+      let ages = put64 age nextAgeCell 0 0 (agesOf s + 1) nextAgeFrom refl refl (omega arith) (omega arith) la in
+      let unfinished = put8 ages unfinishedCell i 0 1 (unfinishedFrom + i) refl (omega arith) l (omega arith) (omega arith) in
       cond-rel Is (eqb t (latestOf s i)) (eqb t (m .latest i))
       (ap (eqb t) (latest-at h i l)) h
       (done h (λ (n : Server). setLatest (setFin (setAge (setAges n (n .ages + 1)) (upd (n .age) i (n .ages))) (upd (n .fin) i false)) (upd (n .latest) i t))
-      (put32 unfinished 10 i 0 t (36144 + i * 4) refl (omega arith) l (omega arith) lt)
+      (put32 unfinished latestCell i 0 t (latestFrom + i * numberWidth) refl (omega arith) l (omega arith) lt)
       (ap₂ (λ (x : ℕ) (f : ℕ → Bool). setLatest (setFin (setAge (setAges (meant s) (x + 1)) (upd ((meant s) .age) i x)) f) (upd ((meant s) .latest) i t))
       c (fun-ext (λ j. byEq j i (λ e. rw e) (λ e. rw e)))))
 
@@ -46,8 +46,8 @@ module _ {s : List ℕ} {m : Server} (h : Is s m) where
   unfolding listB pageOn
   list-is i p l q =
       done h (λ (n : Server). setListed n (upd2 (n .listed) i p true))
-      (on32 (start h) 11 i 0 p (36176 + i * 4) (omega arith) l (omega arith) refl q)
-      (ap (setListed (meant s)) (bit-on (λ j. view table 0 s 11 j 0) i p))
+      (on32 (start h) listedCell i 0 p (listedFrom + i * pageSetWidth) (omega arith) l (omega arith) refl q)
+      (ap (setListed (meant s)) (bit-on (λ j. view table 0 s listedCell j 0) i p))
 
   pub unlist-is : (i d : ℕ) → i < 8 → d < 2 ^ 32
       → Is (unlistB i d s) (setListed m (λ j q. cond (eqb j i) (m .listed j q && not (tb d q)) (m .listed j q)))
@@ -55,14 +55,14 @@ module _ {s : List ℕ} {m : Server} (h : Is s m) where
   unlist-is i d l ld =
       let C = view table 0 s in
       done h (λ (n : Server). setListed n (λ j q. cond (eqb j i) (n .listed j q && not (tb d q)) (n .listed j q)))
-      (and32 (start h) 11 i 0 (4294967295 - d) (36176 + i * 4) (omega arith) l (omega arith) refl)
+      (and32 (start h) listedCell i 0 (4294967295 - d) (listedFrom + i * pageSetWidth) (omega arith) l (omega arith) refl)
       (ap (setListed (meant s))
       (fun-ext
       (λ j.
       fun-ext
       (λ q.
       byEq j i
-      (λ e. rw (e, eqb-yes j i e) (tb-mask 32 (C 11 i 0) d q (cell-lt (start h) 11 i 0) ld ∙ and-comm (not (tb d q)) (tb (C 11 i 0) q)))
+      (λ e. rw (e, eqb-yes j i e) (tb-mask 32 (C listedCell i 0) d q (cell-lt (start h) listedCell i 0) ld ∙ and-comm (not (tb d q)) (tb (C listedCell i 0) q)))
       (λ e. rw e)))))
 
   -- locks
@@ -71,29 +71,29 @@ module _ {s : List ℕ} {m : Server} (h : Is s m) where
   unfolding askedB pageOn
   asked-is p q =
       done h (λ (n : Server). setAsked n (upd (n .asked) p true))
-      (on32 (start h) 13 0 0 p 36212 refl (omega arith) (omega arith) refl q)
-      (ap (setAsked (meant s)) (fun-ext (tb-set (view table 0 s 13 0 0) p)))
+      (on32 (start h) askedCell 0 0 p askedFrom refl (omega arith) (omega arith) refl q)
+      (ap (setAsked (meant s)) (fun-ext (tb-set (view table 0 s askedCell 0 0) p)))
 
   pub lockObject-is : (i a : ℕ) → i < 8 → a < 256 → Is (lockObjectB i a s) (setOl m (upd (m .ol) a (suc i)))
   unfolding lockObjectB
   lockObject-is i a l la =
       done h (λ (n : Server). setOl n (upd (n .ol) a (suc i)))
-      (put8 (start h) 14 0 a (i + 1) (36216 + a) refl (omega arith) (omega arith) la (omega arith))
+      (put8 (start h) lockCell 0 a (i + 1) (lockFrom + a) refl (omega arith) (omega arith) la (omega arith))
       (ap (λ (x : ℕ). setOl (meant s) (upd ((meant s) .ol) a x)) (add-one i))
 
   -- page p is locked whole by x (0 for none), and no 19 of before counts
-  whole-is : (p x : ℕ) → p < 32 → x < 256 → Is (set (pageOff s 36212 p) (36472 + p) x) (setWl (setAsked m (upd (m .asked) p false)) (upd (m .wl) p x))
+  whole-is : (p x : ℕ) → p < 32 → x < 256 → Is (set (pageOff s askedFrom p) (wholeFrom + p) x) (setWl (setAsked m (upd (m .asked) p false)) (upd (m .wl) p x))
   unfolding pageOff
   whole-is p x q lx =
       done h (λ (n : Server). setWl (setAsked n (upd (n .asked) p false)) (upd (n .wl) p x))
-      (put8 (off32 (start h) 13 0 0 p 36212 refl (omega arith) (omega arith) refl) 15 0 p x (36472 + p) refl (omega arith) (omega arith) q lx)
+      (put8 (off32 (start h) askedCell 0 0 p askedFrom refl (omega arith) (omega arith) refl) wholeCell 0 p x (wholeFrom + p) refl (omega arith) (omega arith) q lx)
       (ap (λ (f : ℕ → Bool). setWl (setAsked (meant s) f) (upd ((meant s) .wl) p x))
-      (fun-ext (λ k. tb-clear-all 32 (view table 0 s 13 0 0) p k q (cell-lt (start h) 13 0 0))))
+      (fun-ext (λ k. tb-clear-all 32 (view table 0 s askedCell 0 0) p k q (cell-lt (start h) askedCell 0 0))))
 
   pub lockPage-is : (i p : ℕ) → i < 8 → p < 32 → Is (lockPageB i p s) (setWl (setAsked m (upd (m .asked) p false)) (upd (m .wl) p (suc i)))
   unfolding lockPageB
   lockPage-is i p l q =
-      subst (λ (x : ℕ). Is (set (pageOff s 36212 p) (36472 + p) (i + 1)) (setWl (setAsked m (upd (m .asked) p false)) (upd (m .wl) p x))) (add-one i)
+      subst (λ (x : ℕ). Is (set (pageOff s askedFrom p) (wholeFrom + p) (i + 1)) (setWl (setAsked m (upd (m .asked) p false)) (upd (m .wl) p x))) (add-one i)
       (whole-is p (i + 1) q (omega arith))
 
 -- "8 makes it locks on its set": the objects of x on page p, those below n
@@ -143,5 +143,5 @@ pub loosen-is : {s : List ℕ} {m : Server} → Is s m → (i p x : ℕ) → i <
 unfolding loosenB
 loosen-is {s} {m} h i p x l q =
     let n : Server = setWl (setAsked m (upd (m .asked) p false)) (upd (m .wl) p 0) in
-    subst (Is (lockTo i p x (set (pageOff s 36212 p) (36472 + p) 0) 8)) (ap (setOl n) (fun-ext (λ a. rw (lt-ltb (a % 8) 8 (omega arith)))))
+    subst (Is (lockTo i p x (set (pageOff s askedFrom p) (wholeFrom + p) 0) 8)) (ap (setOl n) (fun-ext (λ a. rw (lt-ltb (a % 8) 8 (omega arith)))))
     (lock-to (whole-is h p 0 q (omega arith)) i p x l q 8 (omega arith))

@@ -20,23 +20,24 @@ use Rattle.cells.specs.Num.{AllBytes, all-bytes, num-lt}
 use Rattle.cells.specs.Pages.{addr-on}
 use Rattle.cells.specs.Cells.{Cells, reg, off, view, view-col, upd3, Holds, put32, put64, rowTo, row-none, row-more}
 use Rattle.cells.specs.Sets.{on8}
-use Rattle.layout.specs.Record.{Entry, Rising, WellFormed}
-use Rattle.record.specs.Check.{readCount, writeCount}
+use Rattle.layout.specs.Record.{headerLength, valueLength, Entry, Rising, WellFormed}
+use Rattle.record.specs.Check.{writeCountFrom, readCountFrom, readCount, writeCount}
 use Rattle.record_meaning.specs.Parse.{entryAt, entriesAt, recordOf}
 use Rattle.entries.specs.Entries.{valueIn}
 use Rattle.line.specs.Messages.{Work}
 use Rattle.line.specs.Server.{Server, Waiter, noWork, waiterWork, waiterReads, waiterWrites, commitWaiter, setArrivals, setQueue}
-use Rattle.message.specs.Layout.{transactionOf}
-use Rattle.message.specs.Commit.{entriesOf}
+use Rattle.message.specs.Layout.{transactionFrom, transactionOf}
+use Rattle.message.specs.Commit.{addressesAt, recordAt, versionWidth, versionsAt, entriesOf}
 use Rattle.message_meaning.specs.Meant.{versionAt, workAt}
 use Rattle.message_meaning.specs.CommitRead.{u16-behind}
 use Rattle.message_meaning.specs.UpAccepted.{CommitFields, commit-record}
 use Rattle.station_state.specs.Changes.{addTo}
-use Rattle.server_state.specs.Layout.{arrivalsOf}
+use Rattle.station_state.specs.Layout.{numberWidth, valueWidth}
+use Rattle.server_state.specs.Layout.{readValueCell, writtenValueCell, sentVersionCell, workCell, readSetCell, writtenSetCell, wantCell, table, workFrom, readValuesFrom, writtenValuesFrom, sentVersionsFrom, readSetFrom, writtenSetFrom, arrivalsOf}
 use Rattle.server_changes.specs.Changes.{leaveB, unpackOne, unpackTo, versionsIn, unpackB, joinCommitB}
 use Rattle.station_meaning.specs.Meant.{within, valueIf}
 use Rattle.station_meaning.specs.Tests.{has-if}
-use Rattle.server_meaning.specs.Meant.{table, rowWork, waiterC, meant, Is, start, done, workOf}
+use Rattle.server_meaning.specs.Meant.{rowWork, waiterC, meant, Is, start, done, workOf}
 use Rattle.server_meaning.specs.Waiting.{updIf, rowIf, isCommit, commit-want, joining, upd-twice, join-is}
 use Rattle.server_meaning.specs.Writes.{rowAs, as-none, as-more}
 
@@ -49,10 +50,10 @@ u64-lt x b at = rw (u64At-is x at) (num-lt 8 x at b)
 
 -- the address of entry e, and its value
 abbrev addressIn : List ℕ → ℕ → ℕ
-addressIn x e = getD x (256 + e) 0
+addressIn x e = getD x (addressesAt + e) 0
 
 abbrev valueAt : List ℕ → ℕ → ℕ
-valueAt x e = u64At x (256 + entriesOf x + e * 8)
+valueAt x e = u64At x (addressesAt + entriesOf x + e * valueLength)
 
 -- sets and values when n entries from the first on have joined them
 setsTo : List ℕ → (ℕ → ℕ) → ℕ → ℕ → ℕ → ℕ
@@ -95,40 +96,40 @@ unpack-to {s₀} {s} {C} h x b k r i at from first wk wr ik ir ck cr hk hr d d�
     let p = unpack-to h x b k r i at from first wk wr ik ir ck cr hk hr d d′ n in
     let a = addressIn x (first + n) in
     let v = valueAt x (first + n) in
-    let la : a < 256 = b (256 + (first + n)) in
+    let la : a < 256 = b (addressesAt + (first + n)) in
     let c : E k i (a / 8) ≡ D (a / 8) = rw (d, eqb-same k, eqb-same i) in
     subst (Holds table 0 s₀ (unpackOne x (unpackTo x s at from first n) at from (first + n)))
     (ap (λ (y : ℕ). upd3 (upd3 E k i (a / 8) (bitOr y (2 ^ (a % 8)))) r i a v) c
     ∙ ap (λ (F : Cells). upd3 F r i a v) (as-under C k r i (a / 8) (bitOr (D (a / 8)) (2 ^ (a % 8))) D W d d′)
     ∙ as-more (rowAs C k i (upd D (a / 8) (bitOr (D (a / 8)) (2 ^ (a % 8))))) r i a v W)
-    (put64 (on8 p k i (a / 8) (a % 8) (at + a / 8) (hk (a / 8)) ik (rw ck (omega arith)) wk (omega arith)) r i a v (from + a * 8) wr (hr a) ir (rw cr la)
-    (u64-lt x b (256 + entriesOf x + (first + n) * 8)))
+    (put64 (on8 p k i (a / 8) (a % 8) (at + a / 8) (hk (a / 8)) ik (rw ck (omega arith)) wk (omega arith)) r i a v (from + a * valueWidth) wr (hr a) ir (rw cr la)
+    (u64-lt x b (addressesAt + entriesOf x + (first + n) * valueLength)))
 
 versions-in : {s₀ s : List ℕ} {C : Cells} → Holds table 0 s₀ s C → (x : List ℕ) → AllBytes x → (i : ℕ) → i < 8 → (n : ℕ) → n ≤ 32
-    → Holds table 0 s₀ (versionsIn x i s n) (rowTo C 8 i n (λ p. u32At x (112 + p * 4)))
+    → Holds table 0 s₀ (versionsIn x i s n) (rowTo C sentVersionCell i n (λ p. u32At x (versionsAt + p * versionWidth)))
 unfolding versionsIn
-versions-in {s₀} {s} {C} h x b i l zero q = subst (Holds table 0 s₀ s) (row-none C 8 i (λ p. u32At x (112 + p * 4))) h
+versions-in {s₀} {s} {C} h x b i l zero q = subst (Holds table 0 s₀ s) (row-none C sentVersionCell i (λ p. u32At x (versionsAt + p * versionWidth))) h
 versions-in {s₀} {s} {C} h x b i l (suc n) q =
-    subst (Holds table 0 s₀ (setU32 (versionsIn x i s n) (35088 + i * 128 + n * 4) (u32At x (112 + n * 4)))) (row-more C 8 i n (λ p. u32At x (112 + p * 4)))
-    (put32 (versions-in h x b i l n (omega arith)) 8 i n (u32At x (112 + n * 4)) (35088 + i * 128 + n * 4) refl (omega arith) l q (u32-lt x b (112 + n * 4)))
+    subst (Holds table 0 s₀ (setU32 (versionsIn x i s n) (sentVersionsFrom i + n * numberWidth) (u32At x (versionsAt + n * versionWidth)))) (row-more C sentVersionCell i n (λ p. u32At x (versionsAt + p * versionWidth)))
+    (put32 (versions-in h x b i l n (omega arith)) sentVersionCell i n (u32At x (versionsAt + n * versionWidth)) (sentVersionsFrom i + n * numberWidth) refl (omega arith) l q (u32-lt x b (versionsAt + n * versionWidth)))
 
 -- the cells when the record is unpacked into row i
 abbrev unpackedC : Cells → ℕ → List ℕ → Cells
 unpackedC C i x =
     rowAs
     (rowAs
-    (rowAs (rowAs (rowTo (upd3 C 9 i 0 (transactionOf x)) 8 i 32 (λ p. u32At x (112 + p * 4))) 16 i (setsTo x (C 16 i) 0 (u16At x 240))) 1 i
-    (valuesTo x (C 1 i) 0 (u16At x 240)))
-    17 i (setsTo x (C 17 i) (u16At x 240) (u16At x 242)))
-    2 i (valuesTo x (C 2 i) (u16At x 240) (u16At x 242))
+    (rowAs (rowAs (rowTo (upd3 C workCell i 0 (transactionOf x)) sentVersionCell i 32 (λ p. u32At x (versionsAt + p * versionWidth))) readSetCell i (setsTo x (C readSetCell i) 0 (u16At x (recordAt + readCountFrom)))) readValueCell i
+    (valuesTo x (C readValueCell i) 0 (u16At x (recordAt + readCountFrom))))
+    writtenSetCell i (setsTo x (C writtenSetCell i) (u16At x (recordAt + readCountFrom)) (u16At x (recordAt + writeCountFrom))))
+    writtenValueCell i (valuesTo x (C writtenValueCell i) (u16At x (recordAt + readCountFrom)) (u16At x (recordAt + writeCountFrom)))
 
 unpack-cells : {s₀ s : List ℕ} {C : Cells} → Holds table 0 s₀ s C → (x : List ℕ) → AllBytes x → (i : ℕ) → i < 8 → Holds table 0 s₀ (unpackB i x s) (unpackedC C i x)
 unfolding unpackB
 unpack-cells h x b i l =
-    let number = put32 h 9 i 0 (transactionOf x) (36112 + i * 4) refl (omega arith) l (omega arith) (u32-lt x b 4) in
+    let number = put32 h workCell i 0 (transactionOf x) (workFrom + i * numberWidth) refl (omega arith) l (omega arith) (u32-lt x b transactionFrom) in
     let versions = versions-in number x b i l 32 (omega arith) in
-    let reads = unpack-to versions x b 16 1 i (36504 + i * 32) (2048 + i * 2048) 0 refl refl l l refl refl (λ n. omega arith) (λ n. omega arith) refl refl (u16At x 240) in
-    unpack-to reads x b 17 2 i (36760 + i * 32) (18432 + i * 2048) (u16At x 240) refl refl l l refl refl (λ n. omega arith) (λ n. omega arith) refl refl (u16At x 242)
+    let reads = unpack-to versions x b readSetCell readValueCell i (readSetFrom i) (readValuesFrom i) 0 refl refl l l refl refl (λ n. omega arith) (λ n. omega arith) refl refl (u16At x (recordAt + readCountFrom)) in
+    unpack-to reads x b writtenSetCell writtenValueCell i (writtenSetFrom i) (writtenValuesFrom i) (u16At x (recordAt + readCountFrom)) refl refl l l refl refl (λ n. omega arith) (λ n. omega arith) refl refl (u16At x (recordAt + writeCountFrom))
 
 -- WHAT THE ROW THEN TELLS
 
@@ -170,19 +171,19 @@ entries-last s k i (suc c) = rw (add-suc i c, ← suc-add i c) (ap (λ (t : List
 u64-behind : (a : ℕ) (x : List ℕ) (i : ℕ) → u64At x (a + i) ≡ u64At (drop a x) i
 u64-behind a x i = rw (u64At-is x (a + i), u64At-is (drop a x) i) (sym (numAt-drop 8 a x i))
 
-address-at : (x : List ℕ) (k e : ℕ) → addressIn x e ≡ (entryAt (drop 240 x) k e) .address
-address-at x k e = let p : 256 + e ≡ 240 + (16 + e) = omega arith in rw p (sym (getD-drop 240 x (16 + e) 0))
+address-at : (x : List ℕ) (k e : ℕ) → addressIn x e ≡ (entryAt (drop recordAt x) k e) .address
+address-at x k e = let p : addressesAt + e ≡ recordAt + (headerLength + e) = omega arith in rw p (sym (getD-drop recordAt x (headerLength + e) 0))
 
-value-at : (x : List ℕ) (k e : ℕ) → entriesOf x ≡ k → valueAt x e ≡ (entryAt (drop 240 x) k e) .value
-value-at x k e h = let p : 256 + k + e * 8 ≡ 240 + (16 + k + 8 * e) = omega arith in rw (h, p) (u64-behind 240 x (16 + k + 8 * e))
+value-at : (x : List ℕ) (k e : ℕ) → entriesOf x ≡ k → valueAt x e ≡ (entryAt (drop recordAt x) k e) .value
+value-at x k e h = let p : addressesAt + k + e * valueLength ≡ recordAt + (headerLength + k + valueLength * e) = omega arith in rw (h, p) (u64-behind recordAt x (headerLength + k + valueLength * e))
 
 -- the sets and values of n entries, where the set was empty before
-told : (x : List ℕ) (D W : ℕ → ℕ) (k first : ℕ) → entriesOf x ≡ k → _≡_ {A = ℕ → Bool} (within D) nowhere → (n : ℕ) → Rising (entriesAt (drop 240 x) k first n)
-    → _≡_ {A = ℕ → Val} (λ b. valueIf (within (setsTo x D first n) b) (valuesTo x W first n b)) (valueIn (entriesAt (drop 240 x) k first n))
+told : (x : List ℕ) (D W : ℕ → ℕ) (k first : ℕ) → entriesOf x ≡ k → _≡_ {A = ℕ → Bool} (within D) nowhere → (n : ℕ) → Rising (entriesAt (drop recordAt x) k first n)
+    → _≡_ {A = ℕ → Val} (λ b. valueIf (within (setsTo x D first n) b) (valuesTo x W first n b)) (valueIn (entriesAt (drop recordAt x) k first n))
 unfolding setsTo valuesTo entriesAt
 told x D W k first hk g zero h = ap {B = ℕ → Val} (λ (f : ℕ → Bool) b. valueIf (f b) (W b)) g
 told x D W k first hk g (suc n) h =
-    let s = drop 240 x in
+    let s = drop recordAt x in
     let es = entriesAt s k first n in
     let e = entryAt s k (first + n) in
     let q : Rising (es ++ (e ∷ [])) = subst Rising (entries-last s k first n) h in
@@ -193,26 +194,26 @@ told x D W k first hk g (suc n) h =
     ∙ ap valueIn (sym (entries-last s k first n))
 
 -- the fields of the work
-module _ (x : List ℕ) (well : WellFormed (recordOf (drop 240 x))) where
-  count-is : entriesOf x ≡ readCount (drop 240 x) + writeCount (drop 240 x)
-  count-is = rw (u16-behind 240 x 0, u16-behind 240 x 2)
+module _ (x : List ℕ) (well : WellFormed (recordOf (drop recordAt x))) where
+  count-is : entriesOf x ≡ readCount (drop recordAt x) + writeCount (drop recordAt x)
+  count-is = rw (u16-behind recordAt x readCountFrom, u16-behind recordAt x writeCountFrom)
 
   reads-told : (D W : ℕ → ℕ) → _≡_ {A = ℕ → Bool} (within D) nowhere
-      → _≡_ {A = ℕ → Val} (λ b. valueIf (within (setsTo x D 0 (u16At x 240)) b) (valuesTo x W 0 (u16At x 240) b)) (workAt x .reads)
+      → _≡_ {A = ℕ → Val} (λ b. valueIf (within (setsTo x D 0 (u16At x (recordAt + readCountFrom))) b) (valuesTo x W 0 (u16At x (recordAt + readCountFrom)) b)) (workAt x .reads)
   unfolding workAt recordOf
   reads-told D W g =
-      let s = drop 240 x in
-      rw (u16-behind 240 x 0) (told x D W (readCount s + writeCount s) 0 count-is g (readCount s) (well .reads-rise))
+      let s = drop recordAt x in
+      rw (u16-behind recordAt x readCountFrom) (told x D W (readCount s + writeCount s) 0 count-is g (readCount s) (well .reads-rise))
 
   writes-told : (D W : ℕ → ℕ) → _≡_ {A = ℕ → Bool} (within D) nowhere
-      → _≡_ {A = ℕ → Val} (λ b. valueIf (within (setsTo x D (u16At x 240) (u16At x 242)) b) (valuesTo x W (u16At x 240) (u16At x 242) b)) (workAt x .writes)
+      → _≡_ {A = ℕ → Val} (λ b. valueIf (within (setsTo x D (u16At x (recordAt + readCountFrom)) (u16At x (recordAt + writeCountFrom))) b) (valuesTo x W (u16At x (recordAt + readCountFrom)) (u16At x (recordAt + writeCountFrom)) b)) (workAt x .writes)
   unfolding workAt recordOf
   writes-told D W g =
-      let s = drop 240 x in
-      rw (u16-behind 240 x 0, u16-behind 240 x 2) (told x D W (readCount s + writeCount s) (readCount s) count-is g (writeCount s) (well .writes-rise))
+      let s = drop recordAt x in
+      rw (u16-behind recordAt x readCountFrom, u16-behind recordAt x writeCountFrom) (told x D W (readCount s + writeCount s) (readCount s) count-is g (writeCount s) (well .writes-rise))
 
 versions-told : (x : List ℕ) (f : ℕ → ℕ) → ((p : ℕ) → 32 ≤ p → f p ≡ 0)
-    → _≡_ {A = ℕ → ℕ} (λ p. cond (ltb p 32) (u32At x (112 + p * 4)) (f p)) (workAt x .versions)
+    → _≡_ {A = ℕ → ℕ} (λ p. cond (ltb p 32) (u32At x (versionsAt + p * versionWidth)) (f p)) (workAt x .versions)
 unfolding workAt versionAt
 versions-told x f g = fun-ext (λ p. byB (ltb p 32) (λ e. rw e) (λ e. rw (e, g p (ltb-no p 32 e))))
 
@@ -229,22 +230,22 @@ asIf b C k f k′ i′ j′ = cond (eqb k′ k) (cond b (f j′) (C k′ i′ j�
 
 abbrev unpackedIf : Bool → Cells → List ℕ → (ℕ → ℕ) → (ℕ → ℕ) → (ℕ → ℕ) → (ℕ → ℕ) → Cells
 unpackedIf b C x D W E X =
-    asIf b (asIf b (asIf b (asIf b (rowIf b (updIf b C 9 0 (transactionOf x)) 8 32 (λ p. u32At x (112 + p * 4))) 16 D) 1 W) 17 E) 2 X
+    asIf b (asIf b (asIf b (asIf b (rowIf b (updIf b C workCell 0 (transactionOf x)) sentVersionCell 32 (λ p. u32At x (versionsAt + p * versionWidth))) readSetCell D) readValueCell W) writtenSetCell E) writtenValueCell X
 
 -- D and W are the sets and values of the reads, E and X those of the writes
 module _ (x : List ℕ) (D W E X : ℕ → ℕ) (reads : _≡_ {A = ℕ → Val} (λ b. valueIf (within D b) (W b)) (workAt x .reads))
     (writes : _≡_ {A = ℕ → Val} (λ b. valueIf (within E b) (X b)) (workAt x .writes)) where
-  work-if : (C : Cells) (j : ℕ) → ((p : ℕ) → 32 ≤ p → C 8 j p ≡ 0) → rowWork (unpackedIf true C x D W E X) j ≡ workAt x
+  work-if : (C : Cells) (j : ℕ) → ((p : ℕ) → 32 ≤ p → C sentVersionCell j p ≡ 0) → rowWork (unpackedIf true C x D W E X) j ≡ workAt x
   unfolding workAt
-  work-if C j g = λ t. record { transaction = transactionOf x; reads = reads t; writes = writes t; versions = versions-told x (C 8 j) g t }
+  work-if C j g = λ t. record { transaction = transactionOf x; reads = reads t; writes = writes t; versions = versions-told x (C sentVersionCell j) g t }
 
   -- an entry y: its sets are seen, and its work where it is a commit
-  row-if : (C : Cells) (j : ℕ) (b : Bool) (y : Waiter) → (b ≡ true → waiterC C j ≡ y) → ((p : ℕ) → 32 ≤ p → C 8 j p ≡ 0)
+  row-if : (C : Cells) (j : ℕ) (b : Bool) (y : Waiter) → (b ≡ true → waiterC C j ≡ y) → ((p : ℕ) → 32 ≤ p → C sentVersionCell j p ≡ 0)
       → waiterC (unpackedIf b C x D W E X) j ≡ cond b (bringing (workAt x) y) (waiterC C j)
   row-if C j true y f g =
       let q : waiterC C j ≡ y = f refl in
-      let work : cond (eqb (C 19 j 0) 3) (rowWork (unpackedIf true C x D W E X) j) noWork ≡ cond (isCommit (y .want)) (workAt x) noWork =
-      ap₂ (λ (c : Bool) (v : Work). cond c v noWork) (commit-want (C 19 j 0) ∙ ap (λ (z : Waiter). isCommit (z .want)) q) (work-if C j g) in
+      let work : cond (eqb (C wantCell j 0) 3) (rowWork (unpackedIf true C x D W E X) j) noWork ≡ cond (isCommit (y .want)) (workAt x) noWork =
+      ap₂ (λ (c : Bool) (v : Work). cond c v noWork) (commit-want (C wantCell j 0) ∙ ap (λ (z : Waiter). isCommit (z .want)) q) (work-if C j g) in
       λ t.
       record {
         want = q t .want;
@@ -262,7 +263,7 @@ module _ (x : List ℕ) (D W E X : ℕ → ℕ) (reads : _≡_ {A = ℕ → Val}
 -- THE MESSAGE'S RECORD WAS ACCEPTED
 
 module _ (kind : ℕ) (x : List ℕ) (hx : Bytes x) (c : CommitFields kind x) where
-  well : WellFormed (recordOf (drop 240 x))
+  well : WellFormed (recordOf (drop recordAt x))
   well = commit-record kind x hx c
 
   module _ {s : List ℕ} {m : Server} (h : Is s m) (i : ℕ) (l : i < 8) where
@@ -270,39 +271,39 @@ module _ (kind : ℕ) (x : List ℕ) (hx : Bytes x) (c : CommitFields kind x) wh
     pub unpack-row : _≡_ {A = ℕ → Bool} (m .queue i .reads) nowhere → _≡_ {A = ℕ → Bool} (m .queue i .writes) nowhere → workOf (unpackB i x s) i ≡ workAt x
     unpack-row no-reads no-writes =
         let C = view table 0 s in
-        let n = u16At x 240 in
-        let w = u16At x 242 in
-        let D = setsTo x (C 16 i) 0 n in
-        let W = valuesTo x (C 1 i) 0 n in
-        let E = setsTo x (C 17 i) n w in
-        let X = valuesTo x (C 2 i) n w in
+        let n = u16At x (recordAt + readCountFrom) in
+        let w = u16At x (recordAt + writeCountFrom) in
+        let D = setsTo x (C readSetCell i) 0 n in
+        let W = valuesTo x (C readValueCell i) 0 n in
+        let E = setsTo x (C writtenSetCell i) n w in
+        let X = valuesTo x (C writtenValueCell i) n w in
         ap (λ (F : Cells). rowWork F i) (unpack-cells (start h) x (all-bytes x hx) i l .is)
         ∙ subst (λ (b : Bool). rowWork (unpackedIf b C x D W E X) i ≡ workAt x) (sym (eqb-same i))
         (work-if x D W E X
-        (reads-told x well (C 16 i) (C 1 i) (ap (λ (n : Server). n .queue i .reads) (h .is) ∙ no-reads))
-        (writes-told x well (C 17 i) (C 2 i) (ap (λ (n : Server). n .queue i .writes) (h .is) ∙ no-writes))
-        C i (λ p q. view-col table 0 s 8 i p q))
+        (reads-told x well (C readSetCell i) (C readValueCell i) (ap (λ (n : Server). n .queue i .reads) (h .is) ∙ no-reads))
+        (writes-told x well (C writtenSetCell i) (C writtenValueCell i) (ap (λ (n : Server). n .queue i .writes) (h .is) ∙ no-writes))
+        C i (λ p q. view-col table 0 s sentVersionCell i p q))
 
     -- .. and nothing else changes that the state means
     pub unpack-is : (y : Waiter) → m .queue i ≡ y → _≡_ {A = ℕ → Bool} (y .reads) nowhere → _≡_ {A = ℕ → Bool} (y .writes) nowhere
         → Is (unpackB i x s) (setQueue m (upd (m .queue) i (bringing (workAt x) y)))
     unpack-is y e no-reads no-writes =
         let C = view table 0 s in
-        let n = u16At x 240 in
-        let w = u16At x 242 in
-        let D = setsTo x (C 16 i) 0 n in
-        let W = valuesTo x (C 1 i) 0 n in
-        let E = setsTo x (C 17 i) n w in
-        let X = valuesTo x (C 2 i) n w in
+        let n = u16At x (recordAt + readCountFrom) in
+        let w = u16At x (recordAt + writeCountFrom) in
+        let D = setsTo x (C readSetCell i) 0 n in
+        let W = valuesTo x (C readValueCell i) 0 n in
+        let E = setsTo x (C writtenSetCell i) n w in
+        let X = valuesTo x (C writtenValueCell i) n w in
         let q : waiterC C i ≡ y = ap (λ (n : Server). n .queue i) (h .is) ∙ e in
         done h (λ (n : Server). setQueue n (upd (n .queue) i (bringing (workAt x) y))) (unpack-cells (start h) x (all-bytes x hx) i l)
         (ap (setQueue (meant s))
         (fun-ext
         (λ j.
         row-if x D W E X
-        (reads-told x well (C 16 i) (C 1 i) (ap (λ (y : Waiter). y .reads) q ∙ no-reads))
-        (writes-told x well (C 17 i) (C 2 i) (ap (λ (y : Waiter). y .writes) q ∙ no-writes))
-        C j (eqb j i) y (λ e. rw (eqb-yes j i e) q) (λ p q. view-col table 0 s 8 j p q))))
+        (reads-told x well (C readSetCell i) (C readValueCell i) (ap (λ (y : Waiter). y .reads) q ∙ no-reads))
+        (writes-told x well (C writtenSetCell i) (C writtenValueCell i) (ap (λ (y : Waiter). y .writes) q ∙ no-writes))
+        C j (eqb j i) y (λ e. rw (eqb-yes j i e) q) (λ p q. view-col table 0 s sentVersionCell j p q))))
 
   pub joinCommit-is : {s : List ℕ} {m : Server} → Is s m → (i : ℕ) → i < 8 → arrivalsOf s + 1 < 2 ^ 64
       → Is (joinCommitB i x s) (setQueue (setArrivals m (m .arrivals + 1)) (upd (m .queue) i (commitWaiter m (workAt x))))

@@ -16,9 +16,9 @@ use Rattle.cells.specs.Cells.{view, view-col, put8, cell-lt}
 use Rattle.cells.specs.Sets.{off32}
 use Rattle.line.specs.Server.{Server, setOl, setWl, setAsked, setFin}
 use Rattle.station_state.specs.Changes.{pageOff}
-use Rattle.server_state.specs.Layout.{lockOf, wholeOf}
+use Rattle.server_state.specs.Layout.{askedCell, lockCell, wholeCell, unfinishedCell, table, askedFrom, lockFrom, wholeFrom, unfinishedFrom, lockOf, wholeOf}
 use Rattle.server_changes.specs.Changes.{freePageB, freePagesTo, freeOneB, freeTo, finishB}
-use Rattle.server_meaning.specs.Meant.{table, meant, Is, start, done}
+use Rattle.server_meaning.specs.Meant.{meant, Is, start, done}
 use Rattle.server_meaning.specs.Tests.{lock-at, whole-at}
 
 -- one round more of a loop that changes two functions
@@ -36,28 +36,28 @@ own i f a = eqb (f a) (suc i)
 
 module _ {s : List ℕ} {m : Server} (h : Is s m) where
   whole-high : (p : ℕ) → 32 ≤ p → m .wl p ≡ 0
-  whole-high p l = sym (ap (λ (n : Server). n .wl p) (h .is)) ∙ view-col table 0 s 15 0 p l
+  whole-high p l = sym (ap (λ (n : Server). n .wl p) (h .is)) ∙ view-col table 0 s wholeCell 0 p l
 
   lock-high : (a : ℕ) → 256 ≤ a → m .ol a ≡ 0
-  lock-high a l = sym (ap (λ (n : Server). n .ol a) (h .is)) ∙ view-col table 0 s 14 0 a l
+  lock-high a l = sym (ap (λ (n : Server). n .ol a) (h .is)) ∙ view-col table 0 s lockCell 0 a l
 
-  page-free : (p : ℕ) → p < 32 → Is (pageOff (set s (36472 + p) 0) 36212 p) (setWl (setAsked m (upd (m .asked) p false)) (upd (m .wl) p 0))
+  page-free : (p : ℕ) → p < 32 → Is (pageOff (set s (wholeFrom + p) 0) askedFrom p) (setWl (setAsked m (upd (m .asked) p false)) (upd (m .wl) p 0))
   unfolding pageOff
   page-free p l =
       done h (λ (n : Server). setWl (setAsked n (upd (n .asked) p false)) (upd (n .wl) p 0))
-      (off32 (put8 (start h) 15 0 p 0 (36472 + p) refl (omega arith) (omega arith) l (omega arith)) 13 0 0 p 36212 refl (omega arith) (omega arith) refl)
+      (off32 (put8 (start h) wholeCell 0 p 0 (wholeFrom + p) refl (omega arith) (omega arith) l (omega arith)) askedCell 0 0 p askedFrom refl (omega arith) (omega arith) refl)
       (ap (λ (f : ℕ → Bool). setWl (setAsked (meant s) f) (upd ((meant s) .wl) p 0))
-      (fun-ext (λ k. tb-clear-all 32 (view table 0 s 13 0 0) p k l (cell-lt (start h) 13 0 0))))
+      (fun-ext (λ k. tb-clear-all 32 (view table 0 s askedCell 0 0) p k l (cell-lt (start h) askedCell 0 0))))
 
-  one-free : (a : ℕ) → a < 256 → Is (set s (36216 + a) 0) (setOl m (upd (m .ol) a 0))
+  one-free : (a : ℕ) → a < 256 → Is (set s (lockFrom + a) 0) (setOl m (upd (m .ol) a 0))
   one-free a l =
       done h (λ (n : Server). setOl n (upd (n .ol) a 0))
-      (put8 (start h) 14 0 a 0 (36216 + a) refl (omega arith) (omega arith) l (omega arith)) refl
+      (put8 (start h) lockCell 0 a 0 (lockFrom + a) refl (omega arith) (omega arith) l (omega arith)) refl
 
-  fin-is : (i : ℕ) → i < 8 → Is (set s (37064 + i) 0) (setFin m (upd (m .fin) i true))
+  fin-is : (i : ℕ) → i < 8 → Is (set s (unfinishedFrom + i) 0) (setFin m (upd (m .fin) i true))
   fin-is i l =
       done h (λ (n : Server). setFin n (upd (n .fin) i true))
-      (put8 (start h) 24 i 0 0 (37064 + i) refl (omega arith) l (omega arith) (omega arith))
+      (put8 (start h) unfinishedCell i 0 0 (unfinishedFrom + i) refl (omega arith) l (omega arith) (omega arith))
       (ap (setFin (meant s)) (fun-ext (λ j. byEq j i (λ e. rw e) (λ e. rw e))))
 
 -- pages below n

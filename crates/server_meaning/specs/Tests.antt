@@ -9,8 +9,8 @@ use native.Mathlib.Omega.{arith}
 use lib.Dec.{eqb, ltb}
 use lib.ListN.{getD}
 use lib.Bits.{bitAnd, and-le-l}
-use borrow.Author.Tests.{lt-ltb, leb-true}
-use Rattle.lists.specs.Tests.{and-l, and-r, allTo-at}
+use borrow.Author.Tests.{lt-ltb}
+use Rattle.lists.specs.Tests.{and-l, and-r}
 use Rattle.sets.specs.Base.{has, any}
 use Rattle.sets.specs.Laws.{byB, byEq, eqb-same, eqb-yes, eqb-no, any-no, any-yes, any-some, any-ext, ltb-yes}
 use Rattle.le.specs.Le.{u16At}
@@ -22,13 +22,16 @@ use Rattle.cells.specs.Loops.{anyTo, any-to, any-same, mask-is, mask-lt}
 use Rattle.cells.specs.Pages.{any-bits, any-byte, page-any, page-join, any-all}
 use Rattle.line.specs.Messages.{locking, Work}
 use Rattle.line.specs.Server.{Server, isWant, waits, other, wants, wantsPage, writesPage, usedPage, lockOn, badNumber, unlocked, unavailable, openCall, openAsk, stale, lockedAt, locked, fault, earlier, blocks, blockedAt, blocked, shut, concerned, hinders, allAnswered, edge}
-use Rattle.station_state.specs.Layout.{hasBit}
-use Rattle.server_state.specs.Layout.{valueOf, ageOf, arrivalOf, agesOf, arrivalsOf, versionOf, sentVersion, latestOf, listedOf, lastOf, askedOf, lockOf, wholeOf, readSet, writtenSet, kindOf, wantOf, requestOf, calledOf, pendOf, busyOf, unfinishedOf, waitsB, otherB, wantedOn}
-use Rattle.server_state.specs.Valid.{mostAt, most, rangesOk, valid}
+use Rattle.message.specs.Commit.{recordAt, addressesAt}
+use Rattle.record.specs.Check.{writeCountFrom, readCountFrom}
+use Rattle.station_state.specs.Layout.{pageSetWidth, numberWidth, valueWidth, hasBit}
+use Rattle.server_state.specs.Layout.{ageWidth, valueCell, readValueCell, writtenValueCell, ageCell, arrivalCell, nextAgeCell, nextArrivalCell, versionCell, sentVersionCell, latestCell, listedCell, lastCell, askedCell, lockCell, wholeCell, readSetCell, writtenSetCell, kindCell, wantCell, requestCell, calledCell, pendCell, busyCell, unfinishedCell, valueFrom, table, ageFrom, arrivalFrom, nextAgeFrom, nextArrivalFrom, versionFrom, latestFrom, listedFrom, lastFrom, askedFrom, lockFrom, wholeFrom, kindFrom, wantFrom, requestFrom, calledFrom, pendFrom, busyFrom, unfinishedFrom, sentVersionsFrom, readSetFrom, writtenSetFrom, valueOf, ageOf, arrivalOf, agesOf, arrivalsOf, versionOf, sentVersion, latestOf, listedOf, lastOf, askedOf, lockOf, wholeOf, readSet, writtenSet, kindOf, wantOf, requestOf, calledOf, pendOf, busyOf, unfinishedOf, waitsB, otherB, wantedOn}
+use Rattle.server_state.specs.Valid.{valid}
+use Rattle.server_state.specs.Facts.{valid-ranged}
 use Rattle.server_tests.specs.Tests.{lockAtB, lockOnB, badNumberB, unlockedAt, unlockedB, dropsLockedB, dropsOwnB, openCallB, openAskB, staleAt, staleB, lockedAtB, lockedOnB, lockedB, faultB, earlierB, blocksB, blockedAtB, blockedOnB, blockedB, shutB, shutOutB, concernsAt, concernedB, concernedSet, hindersB, hinderedB, waitsToWriteB, unavailableAt, unavailableB, informedB, edgeAtB, edgeOnB, edgeB, edgeSet}
 use Rattle.station_meaning.specs.Meant.{within}
 use Rattle.station_meaning.specs.Tests.{has-if}
-use Rattle.server_meaning.specs.Meant.{table, wantAs, workOf, Is, start}
+use Rattle.server_meaning.specs.Meant.{wantAs, workOf, Is, start}
 
 -- a bit of a number, and of a page of a set of addresses
 
@@ -88,10 +91,7 @@ abbrev pub Wanting : List ℕ → Type 0
 Wanting s = (i : ℕ) → i < 8 → wantOf s i ≤ 3
 
 pub wanting : (s : List ℕ) → valid s ≡ true → Wanting s
-unfolding valid rangesOk most mostAt
-wanting s v i l =
-    let ranges : rangesOk s ≡ true = search (and-l, and-r) depth 7 in
-    leb-true (wantOf s i) 3 (allTo-at (mostAt s 37024 3) 8 (search (and-l, and-r) depth 7) i l)
+wanting s v i l = valid-ranged s v .want-fits i l
 
 waits-of : (k : ℕ) → k ≤ 3 → not (eqb k 0) ≡ isWant (wantAs k)
 waits-of zero l = refl
@@ -118,65 +118,65 @@ module _ {s : List ℕ} {m : Server} (h : Is s m) where
   -- numbers
 
   pub value-at : (a : ℕ) → a < 256 → valueOf s a ≡ m .val a
-  value-at a l = get64 (start h) 0 0 a (a * 8) refl (omega arith) (omega arith) l ∙ ap (λ (n : Server). n .val a) (h .is)
+  value-at a l = get64 (start h) valueCell 0 a (valueFrom + a * valueWidth) refl (omega arith) (omega arith) l ∙ ap (λ (n : Server). n .val a) (h .is)
 
   pub age-at : (i : ℕ) → i < 8 → ageOf s i ≡ m .age i
-  age-at i l = get64 (start h) 3 i 0 (34816 + i * 8) refl (omega arith) l (omega arith) ∙ ap (λ (n : Server). n .age i) (h .is)
+  age-at i l = get64 (start h) ageCell i 0 (ageFrom + i * ageWidth) refl (omega arith) l (omega arith) ∙ ap (λ (n : Server). n .age i) (h .is)
 
   pub arrival-at : (i : ℕ) → i < 8 → arrivalOf s i ≡ m .queue i .arrival
-  arrival-at i l = get64 (start h) 4 i 0 (34880 + i * 8) refl (omega arith) l (omega arith) ∙ ap (λ (n : Server). n .queue i .arrival) (h .is)
+  arrival-at i l = get64 (start h) arrivalCell i 0 (arrivalFrom + i * ageWidth) refl (omega arith) l (omega arith) ∙ ap (λ (n : Server). n .queue i .arrival) (h .is)
 
   pub ages-at : agesOf s ≡ m .ages
-  ages-at = get64 (start h) 5 0 0 34944 refl refl (omega arith) (omega arith) ∙ ap (λ (n : Server). n .ages) (h .is)
+  ages-at = get64 (start h) nextAgeCell 0 0 nextAgeFrom refl refl (omega arith) (omega arith) ∙ ap (λ (n : Server). n .ages) (h .is)
 
   pub arrivals-at : arrivalsOf s ≡ m .arrivals
-  arrivals-at = get64 (start h) 6 0 0 34952 refl refl (omega arith) (omega arith) ∙ ap (λ (n : Server). n .arrivals) (h .is)
+  arrivals-at = get64 (start h) nextArrivalCell 0 0 nextArrivalFrom refl refl (omega arith) (omega arith) ∙ ap (λ (n : Server). n .arrivals) (h .is)
 
   pub version-at : (p : ℕ) → p < 32 → versionOf s p ≡ m .ver p
-  version-at p l = get32 (start h) 7 0 p (34960 + p * 4) refl (omega arith) (omega arith) l ∙ ap (λ (n : Server). n .ver p) (h .is)
+  version-at p l = get32 (start h) versionCell 0 p (versionFrom + p * numberWidth) refl (omega arith) (omega arith) l ∙ ap (λ (n : Server). n .ver p) (h .is)
 
   pub latest-at : (i : ℕ) → i < 8 → latestOf s i ≡ m .latest i
-  latest-at i l = get32 (start h) 10 i 0 (36144 + i * 4) refl (omega arith) l (omega arith) ∙ ap (λ (n : Server). n .latest i) (h .is)
+  latest-at i l = get32 (start h) latestCell i 0 (latestFrom + i * numberWidth) refl (omega arith) l (omega arith) ∙ ap (λ (n : Server). n .latest i) (h .is)
 
   pub last-at : lastOf s ≡ m .last
-  last-at = get32 (start h) 12 0 0 36208 refl refl (omega arith) (omega arith) ∙ ap (λ (n : Server). n .last) (h .is)
+  last-at = get32 (start h) lastCell 0 0 lastFrom refl refl (omega arith) (omega arith) ∙ ap (λ (n : Server). n .last) (h .is)
 
   pub lock-at : (a : ℕ) → a < 256 → lockOf s a ≡ m .ol a
-  lock-at a l = get8 (start h) 14 0 a (36216 + a) refl (omega arith) (omega arith) l ∙ ap (λ (n : Server). n .ol a) (h .is)
+  lock-at a l = get8 (start h) lockCell 0 a (lockFrom + a) refl (omega arith) (omega arith) l ∙ ap (λ (n : Server). n .ol a) (h .is)
 
   pub whole-at : (p : ℕ) → p < 32 → wholeOf s p ≡ m .wl p
-  whole-at p l = get8 (start h) 15 0 p (36472 + p) refl (omega arith) (omega arith) l ∙ ap (λ (n : Server). n .wl p) (h .is)
+  whole-at p l = get8 (start h) wholeCell 0 p (wholeFrom + p) refl (omega arith) (omega arith) l ∙ ap (λ (n : Server). n .wl p) (h .is)
 
   pub kind-at : (i : ℕ) → i < 8 → kindOf s i ≡ m .kind i
-  kind-at i l = get8 (start h) 18 i 0 (37016 + i) refl (omega arith) l (omega arith) ∙ ap (λ (n : Server). n .kind i) (h .is)
+  kind-at i l = get8 (start h) kindCell i 0 (kindFrom + i) refl (omega arith) l (omega arith) ∙ ap (λ (n : Server). n .kind i) (h .is)
 
   pub request-at : (i : ℕ) → i < 8 → requestOf s i ≡ m .queue i .req
-  request-at i l = get8 (start h) 20 i 0 (37032 + i) refl (omega arith) l (omega arith) ∙ ap (λ (n : Server). n .queue i .req) (h .is)
+  request-at i l = get8 (start h) requestCell i 0 (requestFrom + i) refl (omega arith) l (omega arith) ∙ ap (λ (n : Server). n .queue i .req) (h .is)
 
   pub called-at : (i : ℕ) → i < 8 → not (eqb (calledOf s i) 0) ≡ m .queue i .called
-  called-at i l = rw (get8 (start h) 21 i 0 (37040 + i) refl (omega arith) l (omega arith)) (ap (λ (n : Server). n .queue i .called) (h .is))
+  called-at i l = rw (get8 (start h) calledCell i 0 (calledFrom + i) refl (omega arith) l (omega arith)) (ap (λ (n : Server). n .queue i .called) (h .is))
 
   pub fin-at : (i : ℕ) → i < 8 → eqb (unfinishedOf s i) 0 ≡ m .fin i
-  fin-at i l = rw (get8 (start h) 24 i 0 (37064 + i) refl (omega arith) l (omega arith)) (ap (λ (n : Server). n .fin i) (h .is))
+  fin-at i l = rw (get8 (start h) unfinishedCell i 0 (unfinishedFrom + i) refl (omega arith) l (omega arith)) (ap (λ (n : Server). n .fin i) (h .is))
 
   -- they fit their fields
 
   pub value-lt : (a : ℕ) → a < 256 → valueOf s a < 2 ^ 64
-  value-lt a l = rw (get64 (start h) 0 0 a (a * 8) refl (omega arith) (omega arith) l) (cell-lt (start h) 0 0 a)
+  value-lt a l = rw (get64 (start h) valueCell 0 a (valueFrom + a * valueWidth) refl (omega arith) (omega arith) l) (cell-lt (start h) valueCell 0 a)
 
   pub version-lt : (p : ℕ) → p < 32 → versionOf s p < 2 ^ 32
-  version-lt p l = rw (get32 (start h) 7 0 p (34960 + p * 4) refl (omega arith) (omega arith) l) (cell-lt (start h) 7 0 p)
+  version-lt p l = rw (get32 (start h) versionCell 0 p (versionFrom + p * numberWidth) refl (omega arith) (omega arith) l) (cell-lt (start h) versionCell 0 p)
 
   pub latest-lt : (i : ℕ) → i < 8 → latestOf s i < 2 ^ 32
-  latest-lt i l = rw (get32 (start h) 10 i 0 (36144 + i * 4) refl (omega arith) l (omega arith)) (cell-lt (start h) 10 i 0)
+  latest-lt i l = rw (get32 (start h) latestCell i 0 (latestFrom + i * numberWidth) refl (omega arith) l (omega arith)) (cell-lt (start h) latestCell i 0)
 
   pub last-lt : lastOf s < 2 ^ 32
-  last-lt = rw (get32 (start h) 12 0 0 36208 refl refl (omega arith) (omega arith)) (cell-lt (start h) 12 0 0)
+  last-lt = rw (get32 (start h) lastCell 0 0 lastFrom refl refl (omega arith) (omega arith)) (cell-lt (start h) lastCell 0 0)
 
   -- what is waited for
 
-  want-cell : (i : ℕ) → i < 8 → wantOf s i ≡ view table 0 s 19 i 0
-  want-cell i l = get8 (start h) 19 i 0 (37024 + i) refl (omega arith) l (omega arith)
+  want-cell : (i : ℕ) → i < 8 → wantOf s i ≡ view table 0 s wantCell i 0
+  want-cell i l = get8 (start h) wantCell i 0 (wantFrom + i) refl (omega arith) l (omega arith)
 
   pub want-at : (i : ℕ) → i < 8 → m .queue i .want ≡ wantAs (wantOf s i)
   want-at i l = sym (rw (want-cell i l) (ap (λ (n : Server). n .queue i .want) (h .is)))
@@ -186,7 +186,7 @@ module _ {s : List ℕ} {m : Server} (h : Is s m) where
 
   pub work-at : (i : ℕ) → i < 8 → wantOf s i ≡ 3 → m .queue i .work ≡ workOf s i
   work-at i l k =
-      let e : view table 0 s 19 i 0 ≡ 3 = sym (want-cell i l) ∙ k in
+      let e : view table 0 s wantCell i 0 ≡ 3 = sym (want-cell i l) ∙ k in
       sym (ap (λ (n : Server). n .queue i .work) (h .is)) ∙ rw e
 
   -- sets of pages and of stations
@@ -194,19 +194,19 @@ module _ {s : List ℕ} {m : Server} (h : Is s m) where
   pub asked-at : (p : ℕ) → hasBit (askedOf s) p ≡ m .asked p
   asked-at p =
       bit-is (askedOf s) p
-      ∙ rw (get32 (start h) 13 0 0 36212 refl refl (omega arith) (omega arith)) (ap (λ (n : Server). n .asked p) (h .is))
+      ∙ rw (get32 (start h) askedCell 0 0 askedFrom refl refl (omega arith) (omega arith)) (ap (λ (n : Server). n .asked p) (h .is))
 
-  listed-cell : (i : ℕ) → i < 8 → listedOf s i ≡ view table 0 s 11 i 0
-  listed-cell i l = get32 (start h) 11 i 0 (36176 + i * 4) refl (omega arith) l (omega arith)
+  listed-cell : (i : ℕ) → i < 8 → listedOf s i ≡ view table 0 s listedCell i 0
+  listed-cell i l = get32 (start h) listedCell i 0 (listedFrom + i * pageSetWidth) refl (omega arith) l (omega arith)
 
   pub listed-lt : (i : ℕ) → i < 8 → listedOf s i < 2 ^ 32
-  listed-lt i l = rw (listed-cell i l) (cell-lt (start h) 11 i 0)
+  listed-lt i l = rw (listed-cell i l) (cell-lt (start h) listedCell i 0)
 
   pub listed-at : (i p : ℕ) → i < 8 → hasBit (listedOf s i) p ≡ m .listed i p
   listed-at i p l = bit-is (listedOf s i) p ∙ rw (listed-cell i l) (ap (λ (n : Server). n .listed i p) (h .is))
 
-  pend-cell : (i : ℕ) → i < 8 → pendOf s i ≡ view table 0 s 22 i 0
-  pend-cell i l = get8 (start h) 22 i 0 (37048 + i) refl (omega arith) l (omega arith)
+  pend-cell : (i : ℕ) → i < 8 → pendOf s i ≡ view table 0 s pendCell i 0
+  pend-cell i l = get8 (start h) pendCell i 0 (pendFrom + i) refl (omega arith) l (omega arith)
 
   pub pend-at : (i j : ℕ) → i < 8 → hasBit (pendOf s i) j ≡ m .queue i .pend j
   pend-at i j l = bit-is (pendOf s i) j ∙ rw (pend-cell i l) (ap (λ (n : Server). n .queue i .pend j) (h .is))
@@ -214,25 +214,25 @@ module _ {s : List ℕ} {m : Server} (h : Is s m) where
   pub busy-at : (i j : ℕ) → i < 8 → hasBit (busyOf s i) j ≡ m .queue i .busy j
   busy-at i j l =
       bit-is (busyOf s i) j
-      ∙ rw (get8 (start h) 23 i 0 (37056 + i) refl (omega arith) l (omega arith)) (ap (λ (n : Server). n .queue i .busy j) (h .is))
+      ∙ rw (get8 (start h) busyCell i 0 (busyFrom + i) refl (omega arith) l (omega arith)) (ap (λ (n : Server). n .queue i .busy j) (h .is))
 
   -- sets of addresses
 
-  readSet-cell : (i p : ℕ) → i < 8 → p < 32 → readSet s i p ≡ view table 0 s 16 i p
-  readSet-cell i p li lp = get8 (start h) 16 i p (36504 + i * 32 + p) refl (omega arith) li lp
+  readSet-cell : (i p : ℕ) → i < 8 → p < 32 → readSet s i p ≡ view table 0 s readSetCell i p
+  readSet-cell i p li lp = get8 (start h) readSetCell i p (readSetFrom i + p) refl (omega arith) li lp
 
-  writtenSet-cell : (i p : ℕ) → i < 8 → p < 32 → writtenSet s i p ≡ view table 0 s 17 i p
-  writtenSet-cell i p li lp = get8 (start h) 17 i p (36760 + i * 32 + p) refl (omega arith) li lp
+  writtenSet-cell : (i p : ℕ) → i < 8 → p < 32 → writtenSet s i p ≡ view table 0 s writtenSetCell i p
+  writtenSet-cell i p li lp = get8 (start h) writtenSetCell i p (writtenSetFrom i + p) refl (omega arith) li lp
 
   pub reads-at : (i p o : ℕ) → i < 8 → p < 32 → o < 8 → hasBit (readSet s i p) o ≡ m .queue i .reads (p * 8 + o)
   reads-at i p o li lp lo =
       bit-is (readSet s i p) o
-      ∙ rw (readSet-cell i p li lp) (tb-page (view table 0 s 16 i) p o lo ∙ ap (λ (n : Server). n .queue i .reads (p * 8 + o)) (h .is))
+      ∙ rw (readSet-cell i p li lp) (tb-page (view table 0 s readSetCell i) p o lo ∙ ap (λ (n : Server). n .queue i .reads (p * 8 + o)) (h .is))
 
   pub writes-at : (i p o : ℕ) → i < 8 → p < 32 → o < 8 → hasBit (writtenSet s i p) o ≡ m .queue i .writes (p * 8 + o)
   writes-at i p o li lp lo =
       bit-is (writtenSet s i p) o
-      ∙ rw (writtenSet-cell i p li lp) (tb-page (view table 0 s 17 i) p o lo ∙ ap (λ (n : Server). n .queue i .writes (p * 8 + o)) (h .is))
+      ∙ rw (writtenSet-cell i p li lp) (tb-page (view table 0 s writtenSetCell i) p o lo ∙ ap (λ (n : Server). n .queue i .writes (p * 8 + o)) (h .is))
 
   pub wants-at : (i p o : ℕ) → i < 8 → p < 32 → o < 8 → hasBit (wantedOn s i p) o ≡ wants m i (p * 8 + o)
   wants-at i p o li lp lo =
@@ -242,24 +242,24 @@ module _ {s : List ℕ} {m : Server} (h : Is s m) where
   pub wantsPage-at : (i p : ℕ) → i < 8 → p < 32 → not (eqb (wantedOn s i p) 0) ≡ wantsPage m i p
   wantsPage-at i p li lp =
       rw (readSet-cell i p li lp, writtenSet-cell i p li lp)
-      (sym (page-join (view table 0 s 16 i) (view table 0 s 17 i) p (cell-lt (start h) 16 i p) (cell-lt (start h) 17 i p))
+      (sym (page-join (view table 0 s readSetCell i) (view table 0 s writtenSetCell i) p (cell-lt (start h) readSetCell i p) (cell-lt (start h) writtenSetCell i p))
       ∙ ap (λ (n : Server). wantsPage n i p) (h .is))
 
   pub writesPage-at : (i p : ℕ) → i < 8 → p < 32 → not (eqb (writtenSet s i p) 0) ≡ writesPage m i p
   writesPage-at i p li lp =
       rw (writtenSet-cell i p li lp)
-      (sym (page-any (view table 0 s 17 i) p (cell-lt (start h) 17 i p)) ∙ ap (λ (n : Server). writesPage n i p) (h .is))
+      (sym (page-any (view table 0 s writtenSetCell i) p (cell-lt (start h) writtenSetCell i p)) ∙ ap (λ (n : Server). writesPage n i p) (h .is))
 
   -- past the last page and address there is nothing
 
   pub listed-high : (i p : ℕ) → 32 ≤ p → m .listed i p ≡ false
-  listed-high i p l = sym (ap (λ (n : Server). n .listed i p) (h .is)) ∙ tb-high 32 p (view table 0 s 11 i 0) l (cell-lt (start h) 11 i 0)
+  listed-high i p l = sym (ap (λ (n : Server). n .listed i p) (h .is)) ∙ tb-high 32 p (view table 0 s listedCell i 0) l (cell-lt (start h) listedCell i 0)
 
   pub reads-high : (i a : ℕ) → 256 ≤ a → m .queue i .reads a ≡ false
-  reads-high i a l = sym (ap (λ (n : Server). n .queue i .reads a) (h .is)) ∙ rw (view-col table 0 s 16 i (a / 8) (omega arith)) (tb-zero (a % 8))
+  reads-high i a l = sym (ap (λ (n : Server). n .queue i .reads a) (h .is)) ∙ rw (view-col table 0 s readSetCell i (a / 8) (omega arith)) (tb-zero (a % 8))
 
   pub writes-high : (i a : ℕ) → 256 ≤ a → m .queue i .writes a ≡ false
-  writes-high i a l = sym (ap (λ (n : Server). n .queue i .writes a) (h .is)) ∙ rw (view-col table 0 s 17 i (a / 8) (omega arith)) (tb-zero (a % 8))
+  writes-high i a l = sym (ap (λ (n : Server). n .queue i .writes a) (h .is)) ∙ rw (view-col table 0 s writtenSetCell i (a / 8) (omega arith)) (tb-zero (a % 8))
 
   -- number 6
 
@@ -290,18 +290,18 @@ module _ {s : List ℕ} {m : Server} (h : Is s m) where
 
   -- a validating commit's faults
 
-  sentVersion-at : (i p : ℕ) → i < 8 → p < 32 → sentVersion s i p ≡ view table 0 s 8 i p
-  sentVersion-at i p li lp = get32 (start h) 8 i p (35088 + i * 128 + p * 4) refl (omega arith) li lp
+  sentVersion-at : (i p : ℕ) → i < 8 → p < 32 → sentVersion s i p ≡ view table 0 s sentVersionCell i p
+  sentVersion-at i p li lp = get32 (start h) sentVersionCell i p (sentVersionsFrom i + p * numberWidth) refl (omega arith) li lp
 
   used-at : (i p : ℕ) → i < 8 → p < 32 → not (eqb (wantedOn s i p) 0) ≡ usedPage (workOf s i) p
   used-at i p li lp =
       rw (readSet-cell i p li lp, writtenSet-cell i p li lp)
-      (sym (page-join (view table 0 s 16 i) (view table 0 s 17 i) p (cell-lt (start h) 16 i p) (cell-lt (start h) 17 i p))
-      ∙ any-ext 8 (λ o. within (view table 0 s 16 i) (p * 8 + o) || within (view table 0 s 17 i) (p * 8 + o))
+      (sym (page-join (view table 0 s readSetCell i) (view table 0 s writtenSetCell i) p (cell-lt (start h) readSetCell i p) (cell-lt (start h) writtenSetCell i p))
+      ∙ any-ext 8 (λ o. within (view table 0 s readSetCell i) (p * 8 + o) || within (view table 0 s writtenSetCell i) (p * 8 + o))
       (λ o. has ((workOf s i) .reads (p * 8 + o)) || has ((workOf s i) .writes (p * 8 + o)))
       (λ o.
       sym
-      (ap₂ _||_ (has-if (within (view table 0 s 16 i) (p * 8 + o)) (view table 0 s 1 i (p * 8 + o))) (has-if (within (view table 0 s 17 i) (p * 8 + o)) (view table 0 s 2 i (p * 8 + o))))))
+      (ap₂ _||_ (has-if (within (view table 0 s readSetCell i) (p * 8 + o)) (view table 0 s readValueCell i (p * 8 + o))) (has-if (within (view table 0 s writtenSetCell i) (p * 8 + o)) (view table 0 s writtenValueCell i (p * 8 + o))))))
 
   pub stale-at : (i : ℕ) → i < 8 → staleB s i ≡ stale m (workOf s i)
   unfolding staleB staleAt
@@ -331,18 +331,18 @@ module _ {s : List ℕ} {m : Server} (h : Is s m) where
   -- "a locking commit that writes an unlocked object": the work's writes are at the addresses of the message's record
 
   pub unlocked-of : (i : ℕ) (x : List ℕ) (w : Work) → i < 8 → AllBytes x
-      → ((a : ℕ) → has (w .writes a) ≡ any (u16At x 242) (λ k. eqb a (getD x (256 + u16At x 240 + k) 0))) → unlockedB s i x ≡ unlocked m i w
+      → ((a : ℕ) → has (w .writes a) ≡ any (u16At x (recordAt + writeCountFrom)) (λ k. eqb a (getD x (addressesAt + u16At x (recordAt + readCountFrom) + k) 0))) → unlockedB s i x ≡ unlocked m i w
   unfolding unlockedB unlockedAt
   unlocked-of i x w l b named =
       rw (kind-at i l)
       (ap (λ c. locking (m .kind i) && c)
-      (any-to (unlockedAt s i x) (λ k. free (at k)) (u16At x 242) (λ k _. rw (lock-at (at k) (b (256 + u16At x 240 + k)), whole-at (at k / 8) (omega (arith, b (256 + u16At x 240 + k))), add-one i))
-      ∙ sym (any-through 256 (u16At x 242) (λ a. has (w .writes a)) free at named (λ k _. b (256 + u16At x 240 + k)))
+      (any-to (unlockedAt s i x) (λ k. free (at k)) (u16At x (recordAt + writeCountFrom)) (λ k _. rw (lock-at (at k) (b (addressesAt + u16At x (recordAt + readCountFrom) + k)), whole-at (at k / 8) (omega (arith, b (addressesAt + u16At x (recordAt + readCountFrom) + k))), add-one i))
+      ∙ sym (any-through 256 (u16At x (recordAt + writeCountFrom)) (λ a. has (w .writes a)) free at named (λ k _. b (addressesAt + u16At x (recordAt + readCountFrom) + k)))
       ∙ any-ext 256 (λ a. has (w .writes a) && free a) (λ a. has (w .writes a) && not (eqb (m .ol a) (suc i)) && not (eqb (m .wl (a / 8)) (suc i)))
       (λ a. sym (and-assoc (has (w .writes a)) (not (eqb (m .ol a) (suc i))) (not (eqb (m .wl (a / 8)) (suc i)))))))
     where
       at : ℕ → ℕ
-      at k = getD x (256 + u16At x 240 + k) 0
+      at k = getD x (addressesAt + u16At x (recordAt + readCountFrom) + k) 0
 
       free : ℕ → Bool
       free a = not (eqb (m .ol a) (suc i)) && not (eqb (m .wl (a / 8)) (suc i))
@@ -382,7 +382,7 @@ module _ {s : List ℕ} {m : Server} (h : Is s m) where
   pub allAnswered-at : (i : ℕ) → i < 8 → eqb (pendOf s i) 0 ≡ allAnswered m i
   allAnswered-at i l =
       rw (pend-cell i l)
-      (sym (Bool·not-not (eqb (view table 0 s 22 i 0) 0)) ∙ ap not (any-byte (view table 0 s 22 i 0) (cell-lt (start h) 22 i 0)) ∙ ap (λ (n : Server). allAnswered n i) (h .is))
+      (sym (Bool·not-not (eqb (view table 0 s pendCell i 0) 0)) ∙ ap not (any-byte (view table 0 s pendCell i 0) (cell-lt (start h) pendCell i 0)) ∙ ap (λ (n : Server). allAnswered n i) (h .is))
 
   -- "other validating stations listed for one" of the pages d
 

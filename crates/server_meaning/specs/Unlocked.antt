@@ -15,6 +15,9 @@ use Rattle.cells.specs.Num.{AllBytes}
 use Rattle.cells.specs.Loops.{any-suc}
 use Rattle.entries.specs.Entries.{valueIn}
 use Rattle.record_meaning.specs.Parse.{entriesAt, recordOf}
+use Rattle.message.specs.Commit.{addressesAt, recordAt}
+use Rattle.record.specs.Check.{writeCount, readCount, writeCountFrom, readCountFrom}
+use Rattle.layout.specs.Record.{headerLength}
 use Rattle.message_meaning.specs.Meant.{workAt}
 use Rattle.message_meaning.specs.CommitRead.{u16-behind}
 use Rattle.line.specs.Server.{Server, unlocked}
@@ -28,32 +31,32 @@ any-front (suc n) f =
     any-suc (suc n) f ∙ rw (any-front n f) (or-assoc (f zero) (any n (λ i. f (suc i))) (f (suc n)) ∙ ap (λ b. f zero || b) (sym (any-suc n (λ i. f (suc i)))))
 
 -- entries have a value at their addresses, and nowhere else
-has-at : (s : List ℕ) (k i c a : ℕ) → has (valueIn (entriesAt s k i c) a) ≡ any c (λ j. eqb a (getD s (16 + i + j) 0))
+has-at : (s : List ℕ) (k i c a : ℕ) → has (valueIn (entriesAt s k i c) a) ≡ any c (λ j. eqb a (getD s (headerLength + i + j) 0))
 unfolding entriesAt
 has-at s k i zero a = refl
 has-at s k i (suc c) a =
-    first (eqb a (getD s (16 + i) 0)) _ (valueIn (entriesAt s k (suc i) c) a)
-    ∙ rw (has-at s k (suc i) c a, any-ext c (λ j. eqb a (getD s (16 + suc i + j) 0)) (λ j. eqb a (getD s (16 + i + suc j) 0)) next)
-    (sym (rw (add-zero (16 + i)) at (any-front c (λ j. eqb a (getD s (16 + i + j) 0)))))
+    first (eqb a (getD s (headerLength + i) 0)) _ (valueIn (entriesAt s k (suc i) c) a)
+    ∙ rw (has-at s k (suc i) c a, any-ext c (λ j. eqb a (getD s (headerLength + suc i + j) 0)) (λ j. eqb a (getD s (headerLength + i + suc j) 0)) next)
+    (sym (rw (add-zero (headerLength + i)) at (any-front c (λ j. eqb a (getD s (headerLength + i + j) 0)))))
   where
     first : (b : Bool) (x : ℕ) (v : Val) → has (cond b (some x) v) ≡ (b || has v)
     first true x v = refl
     first false x v = refl
 
-    next : (j : ℕ) → eqb a (getD s (16 + suc i + j) 0) ≡ eqb a (getD s (16 + i + suc j) 0)
+    next : (j : ℕ) → eqb a (getD s (headerLength + suc i + j) 0) ≡ eqb a (getD s (headerLength + i + suc j) 0)
     next j = ap (λ (n : ℕ). eqb a (getD s n 0)) (omega arith)
 
 -- the addresses that a commit writes
-pub wrote-at : (x : List ℕ) (a : ℕ) → has ((workAt x) .writes a) ≡ any (u16At x 242) (λ k. eqb a (getD x (256 + u16At x 240 + k) 0))
+pub wrote-at : (x : List ℕ) (a : ℕ) → has ((workAt x) .writes a) ≡ any (u16At x (recordAt + writeCountFrom)) (λ k. eqb a (getD x (addressesAt + u16At x (recordAt + readCountFrom) + k) 0))
 unfolding workAt recordOf
 wrote-at x a =
-    let n = u16At (drop 240 x) 0 in
-    has-at (drop 240 x) (n + u16At (drop 240 x) 2) n (u16At (drop 240 x) 2) a
-    ∙ any-ext (u16At (drop 240 x) 2) (λ k. eqb a (getD (drop 240 x) (16 + n + k) 0)) (λ k. eqb a (getD x (256 + n + k) 0)) place
-    ∙ rw (← u16-behind 240 x 0, ← u16-behind 240 x 2)
+    let n = readCount (drop recordAt x) in
+    has-at (drop recordAt x) (n + writeCount (drop recordAt x)) n (writeCount (drop recordAt x)) a
+    ∙ any-ext (writeCount (drop recordAt x)) (λ k. eqb a (getD (drop recordAt x) (headerLength + n + k) 0)) (λ k. eqb a (getD x (addressesAt + n + k) 0)) place
+    ∙ rw (← u16-behind recordAt x readCountFrom, ← u16-behind recordAt x writeCountFrom)
   where
-    place : (k : ℕ) → eqb a (getD (drop 240 x) (16 + u16At (drop 240 x) 0 + k) 0) ≡ eqb a (getD x (256 + u16At (drop 240 x) 0 + k) 0)
-    place k = rw (getD-drop 240 x (16 + u16At (drop 240 x) 0 + k) 0) (ap (λ (n : ℕ). eqb a (getD x n 0)) (omega arith))
+    place : (k : ℕ) → eqb a (getD (drop recordAt x) (headerLength + readCount (drop recordAt x) + k) 0) ≡ eqb a (getD x (addressesAt + readCount (drop recordAt x) + k) 0)
+    place k = rw (getD-drop recordAt x (headerLength + readCount (drop recordAt x) + k) 0) (ap (λ (n : ℕ). eqb a (getD x n 0)) (omega arith))
 
 pub unlocked-at : {s : List ℕ} {m : Server} → Is s m → (i : ℕ) (x : List ℕ) → i < 8 → AllBytes x → unlockedB s i x ≡ unlocked m i (workAt x)
 unlocked-at h i x l b = unlocked-of h i x (workAt x) l b (wrote-at x)

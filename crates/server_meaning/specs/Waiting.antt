@@ -18,10 +18,10 @@ use Rattle.cells.specs.Sets.{on8, off8}
 use Rattle.line.specs.Messages.{Work}
 use Rattle.line.specs.Server.{Server, Waiter, Want, NoWant, WantRead, WantWrite, WantCommit, noWork, noWaiter, waiterWork, waiterReads, waiterWrites, waiterCalled, waiterPend, waiterBusy, setArrivals, setQueue, readWaiter, writeWaiter}
 use Rattle.station_state.specs.Changes.{addTo, clearTo}
-use Rattle.server_state.specs.Layout.{arrivalsOf, readSetFrom, writtenSetFrom, pendOf}
+use Rattle.server_state.specs.Layout.{ageWidth, arrivalCell, nextArrivalCell, readSetCell, writtenSetCell, wantCell, requestCell, calledCell, pendCell, busyCell, table, arrivalFrom, nextArrivalFrom, wantFrom, requestFrom, calledFrom, pendFrom, busyFrom, arrivalsOf, readSetFrom, writtenSetFrom, pendOf}
 use Rattle.server_changes.specs.Changes.{leaveB, joinB, joinReadB, joinWriteB, markBusyB, answeredB, calledB}
 use Rattle.station_meaning.specs.Meant.{within}
-use Rattle.server_meaning.specs.Meant.{table, wantAs, rowWork, waiterC, meant, Is, start, done, workOf}
+use Rattle.server_meaning.specs.Meant.{wantAs, rowWork, waiterC, meant, Is, start, done, workOf}
 use Rattle.server_meaning.specs.Tests.{arrivals-at}
 
 -- a set that is cleared
@@ -57,12 +57,12 @@ rowIf b C k n f k′ i′ j′ = cond (eqb k′ k) (cond b (cond (ltb j′ n) (f
 -- station i's entry is gone
 abbrev leftIf : Bool → Cells → Cells
 leftIf b C =
-    updIf b (updIf b (updIf b (rowIf b (rowIf b (updIf b (updIf b (updIf b C 19 0 0) 4 0 0) 20 0 0) 16 32 (λ _. 0)) 17 32 (λ _. 0)) 21 0 0) 22 0 0) 23 0 0
+    updIf b (updIf b (updIf b (rowIf b (rowIf b (updIf b (updIf b (updIf b C wantCell 0 0) arrivalCell 0 0) requestCell 0 0) readSetCell 32 (λ _. 0)) writtenSetCell 32 (λ _. 0)) calledCell 0 0) pendCell 0 0) busyCell 0 0
 
-left-at : (C : Cells) (j : ℕ) (b : Bool) → ((c : ℕ) → 32 ≤ c → C 16 j c ≡ 0) → ((c : ℕ) → 32 ≤ c → C 17 j c ≡ 0)
+left-at : (C : Cells) (j : ℕ) (b : Bool) → ((c : ℕ) → 32 ≤ c → C readSetCell j c ≡ 0) → ((c : ℕ) → 32 ≤ c → C writtenSetCell j c ≡ 0)
     → waiterC (leftIf b C) j ≡ cond b noWaiter (waiterC C j)
 left-at C j true f g =
-    λ t. waiterBusy (waiterPend (waiterWrites (waiterReads noWaiter (set-none (C 16 j) f t)) (set-none (C 17 j) g t)) (zero-set t)) (zero-set t)
+    λ t. waiterBusy (waiterPend (waiterWrites (waiterReads noWaiter (set-none (C readSetCell j) f t)) (set-none (C writtenSetCell j) g t)) (zero-set t)) (zero-set t)
 left-at C j false f g = refl
 
 -- one that wants k at address a joins, of arrival n; g is the work that stands in its row
@@ -81,7 +81,7 @@ joining k a n g =
     }
 
 joined-at : (C : Cells) (j k a n : ℕ) (b : Bool) → (b ≡ true → waiterC C j ≡ noWaiter)
-    → waiterC (updIf b (updIf b (updIf b C 4 0 n) 19 0 k) 20 0 a) j ≡ cond b (joining k a n (rowWork C j)) (waiterC C j)
+    → waiterC (updIf b (updIf b (updIf b C arrivalCell 0 n) wantCell 0 k) requestCell 0 a) j ≡ cond b (joining k a n (rowWork C j)) (waiterC C j)
 joined-at C j k a n true f =
     let q : waiterC C j ≡ noWaiter = f refl in
     λ t.
@@ -117,18 +117,18 @@ set-on : (D : ℕ → ℕ) (a x : ℕ) → x ≡ D (a / 8)
     → _≡_ {A = ℕ → Bool} (within (λ j. cond (eqb j (a / 8)) (bitOr x (2 ^ (a % 8))) (D j))) (upd (within D) a true)
 set-on D a x f = ap {B = ℕ → Bool} (λ (y : ℕ). within (λ j. cond (eqb j (a / 8)) (bitOr y (2 ^ (a % 8))) (D j))) f ∙ addr-on D a
 
-reads-at : (C : Cells) (j a x : ℕ) (b : Bool) → (b ≡ true → (eqb (C 19 j 0) 3 ≡ false) × (x ≡ C 16 j (a / 8)))
-    → waiterC (updIf b C 16 (a / 8) (bitOr x (2 ^ (a % 8)))) j ≡ cond b (waiterReads (waiterC C j) (upd (within (C 16 j)) a true)) (waiterC C j)
+reads-at : (C : Cells) (j a x : ℕ) (b : Bool) → (b ≡ true → (eqb (C wantCell j 0) 3 ≡ false) × (x ≡ C readSetCell j (a / 8)))
+    → waiterC (updIf b C readSetCell (a / 8) (bitOr x (2 ^ (a % 8)))) j ≡ cond b (waiterReads (waiterC C j) (upd (within (C readSetCell j)) a true)) (waiterC C j)
 reads-at C j a x true f =
-    let D = updIf true C 16 (a / 8) (bitOr x (2 ^ (a % 8))) in
-    λ t. waiterWork (waiterReads (waiterC C j) (set-on (C 16 j) a x (f refl .1) t)) (no-work (C 19 j 0) (rowWork D j) (rowWork C j) (f refl .0) t)
+    let D = updIf true C readSetCell (a / 8) (bitOr x (2 ^ (a % 8))) in
+    λ t. waiterWork (waiterReads (waiterC C j) (set-on (C readSetCell j) a x (f refl .1) t)) (no-work (C wantCell j 0) (rowWork D j) (rowWork C j) (f refl .0) t)
 reads-at C j a x false f = refl
 
-writes-at : (C : Cells) (j a x : ℕ) (b : Bool) → (b ≡ true → (eqb (C 19 j 0) 3 ≡ false) × (x ≡ C 17 j (a / 8)))
-    → waiterC (updIf b C 17 (a / 8) (bitOr x (2 ^ (a % 8)))) j ≡ cond b (waiterWrites (waiterC C j) (upd (within (C 17 j)) a true)) (waiterC C j)
+writes-at : (C : Cells) (j a x : ℕ) (b : Bool) → (b ≡ true → (eqb (C wantCell j 0) 3 ≡ false) × (x ≡ C writtenSetCell j (a / 8)))
+    → waiterC (updIf b C writtenSetCell (a / 8) (bitOr x (2 ^ (a % 8)))) j ≡ cond b (waiterWrites (waiterC C j) (upd (within (C writtenSetCell j)) a true)) (waiterC C j)
 writes-at C j a x true f =
-    let D = updIf true C 17 (a / 8) (bitOr x (2 ^ (a % 8))) in
-    λ t. waiterWork (waiterWrites (waiterC C j) (set-on (C 17 j) a x (f refl .1) t)) (no-work (C 19 j 0) (rowWork D j) (rowWork C j) (f refl .0) t)
+    let D = updIf true C writtenSetCell (a / 8) (bitOr x (2 ^ (a % 8))) in
+    λ t. waiterWork (waiterWrites (waiterC C j) (set-on (C writtenSetCell j) a x (f refl .1) t)) (no-work (C wantCell j 0) (rowWork D j) (rowWork C j) (f refl .0) t)
 writes-at C j a x false f = refl
 
 -- what changes in row i only
@@ -140,12 +140,12 @@ upd-twice q i v w = fun-ext (λ j. byEq j i (λ e. rw e) (λ e. rw e))
 
 -- the sets of stations in an entry
 busy-on : (C : Cells) (i r : ℕ)
-    → _≡_ {A = ℕ → Waiter} (waiterC (upd3 C 23 r 0 (bitOr (C 23 r 0) (2 ^ i)))) (upd (waiterC C) r (waiterBusy (waiterC C r) (upd (tb (C 23 r 0)) i true)))
-busy-on C i r = fun-ext (λ j. byEq j r (λ e. rw (e, eqb-yes j r e) (ap (waiterBusy (waiterC C r)) (fun-ext (tb-set (C 23 r 0) i)))) (λ e. rw e))
+    → _≡_ {A = ℕ → Waiter} (waiterC (upd3 C busyCell r 0 (bitOr (C busyCell r 0) (2 ^ i)))) (upd (waiterC C) r (waiterBusy (waiterC C r) (upd (tb (C busyCell r 0)) i true)))
+busy-on C i r = fun-ext (λ j. byEq j r (λ e. rw (e, eqb-yes j r e) (ap (waiterBusy (waiterC C r)) (fun-ext (tb-set (C busyCell r 0) i)))) (λ e. rw e))
 
-answered-row : (C : Cells) (i r y : ℕ) → i < 8 → C 23 r 0 < 256 → C 22 r 0 < 256 → y ≡ C 22 r 0
-    → _≡_ {A = ℕ → Waiter} (waiterC (upd3 (upd3 C 23 r 0 (bitAnd (C 23 r 0) (255 - 2 ^ i))) 22 r 0 (bitAnd y (255 - 2 ^ i))))
-    (upd (waiterC C) r (waiterPend (waiterBusy (waiterC C r) (upd (tb (C 23 r 0)) i false)) (upd (tb (C 22 r 0)) i false)))
+answered-row : (C : Cells) (i r y : ℕ) → i < 8 → C busyCell r 0 < 256 → C pendCell r 0 < 256 → y ≡ C pendCell r 0
+    → _≡_ {A = ℕ → Waiter} (waiterC (upd3 (upd3 C busyCell r 0 (bitAnd (C busyCell r 0) (255 - 2 ^ i))) pendCell r 0 (bitAnd y (255 - 2 ^ i))))
+    (upd (waiterC C) r (waiterPend (waiterBusy (waiterC C r) (upd (tb (C busyCell r 0)) i false)) (upd (tb (C pendCell r 0)) i false)))
 answered-row C i r y l p q f =
     fun-ext
     (λ j.
@@ -153,12 +153,12 @@ answered-row C i r y l p q f =
     (λ e.
     rw (e, eqb-yes j r e, f)
     (ap₂ (λ (a b : ℕ → Bool). waiterPend (waiterBusy (waiterC C r) a) b)
-    (fun-ext (λ k. tb-clear-all 8 (C 23 r 0) i k l p))
-    (fun-ext (λ k. tb-clear-all 8 (C 22 r 0) i k l q))))
+    (fun-ext (λ k. tb-clear-all 8 (C busyCell r 0) i k l p))
+    (fun-ext (λ k. tb-clear-all 8 (C pendCell r 0) i k l q))))
     (λ e. rw e))
 
 called-row : (C : Cells) (i x : ℕ)
-    → _≡_ {A = ℕ → Waiter} (waiterC (upd3 (upd3 C 21 i 0 1) 22 i 0 x)) (upd (waiterC C) i (waiterPend (waiterCalled (waiterC C i) true) (tb x)))
+    → _≡_ {A = ℕ → Waiter} (waiterC (upd3 (upd3 C calledCell i 0 1) pendCell i 0 x)) (upd (waiterC C) i (waiterPend (waiterCalled (waiterC C i) true) (tb x)))
 called-row C i x = fun-ext (λ j. byEq j i (λ e. rw (e, eqb-yes j i e)) (λ e. rw e))
 
 module _ {s : List ℕ} {m : Server} (h : Is s m) where
@@ -166,29 +166,29 @@ module _ {s : List ℕ} {m : Server} (h : Is s m) where
   unfolding leaveB
   leave-is i l =
       let past : (k : ℕ) → (reg table k) .cols ≡ 32 → (j c : ℕ) → 32 ≤ c → view table 0 s k j c ≡ 0 = λ k e j c q. view-col table 0 s k j c (rw e q) in
-      let want = put8 (start h) 19 i 0 0 (37024 + i) refl (omega arith) l (omega arith) (omega arith) in
-      let arrival = put64 want 4 i 0 0 (34880 + i * 8) refl (omega arith) l (omega arith) (omega arith) in
-      let req = put8 arrival 20 i 0 0 (37032 + i) refl (omega arith) l (omega arith) (omega arith) in
-      let reads = clear-to req 16 i (36504 + i * 32) refl l refl (λ n. omega arith) 32 (omega arith) in
-      let writes = clear-to reads 17 i (36760 + i * 32) refl l refl (λ n. omega arith) 32 (omega arith) in
-      let called = put8 writes 21 i 0 0 (37040 + i) refl (omega arith) l (omega arith) (omega arith) in
-      let pend = put8 called 22 i 0 0 (37048 + i) refl (omega arith) l (omega arith) (omega arith) in
+      let want = put8 (start h) wantCell i 0 0 (wantFrom + i) refl (omega arith) l (omega arith) (omega arith) in
+      let arrival = put64 want arrivalCell i 0 0 (arrivalFrom + i * ageWidth) refl (omega arith) l (omega arith) (omega arith) in
+      let req = put8 arrival requestCell i 0 0 (requestFrom + i) refl (omega arith) l (omega arith) (omega arith) in
+      let reads = clear-to req readSetCell i (readSetFrom i) refl l refl (λ n. omega arith) 32 (omega arith) in
+      let writes = clear-to reads writtenSetCell i (writtenSetFrom i) refl l refl (λ n. omega arith) 32 (omega arith) in
+      let called = put8 writes calledCell i 0 0 (calledFrom + i) refl (omega arith) l (omega arith) (omega arith) in
+      let pend = put8 called pendCell i 0 0 (pendFrom + i) refl (omega arith) l (omega arith) (omega arith) in
       done h (λ (n : Server). setQueue n (upd (n .queue) i noWaiter))
-      (put8 pend 23 i 0 0 (37056 + i) refl (omega arith) l (omega arith) (omega arith))
-      (ap (setQueue (meant s)) (fun-ext (λ j. left-at (view table 0 s) j (eqb j i) (past 16 refl j) (past 17 refl j))))
+      (put8 pend busyCell i 0 0 (busyFrom + i) refl (omega arith) l (omega arith) (omega arith))
+      (ap (setQueue (meant s)) (fun-ext (λ j. left-at (view table 0 s) j (eqb j i) (past readSetCell refl j) (past writtenSetCell refl j))))
 
   -- where station i has no entry, one that wants k at address a, of arrival n
   enter-is : (i k a n : ℕ) → i < 8 → k < 256 → a < 256 → n + 1 < 2 ^ 64 → m .queue i ≡ noWaiter
-      → Is (setU64 (set (set (setU64 s (34880 + i * 8) n) (37024 + i) k) (37032 + i) a) 34952 (n + 1))
+      → Is (setU64 (set (set (setU64 s (arrivalFrom + i * ageWidth) n) (wantFrom + i) k) (requestFrom + i) a) nextArrivalFrom (n + 1))
       (setQueue (setArrivals m (n + 1)) (upd (m .queue) i (joining k a n (workOf s i))))
   enter-is i k a n l lk la ln none =
       let C = view table 0 s in
       let q : waiterC C i ≡ noWaiter = ap (λ (n : Server). n .queue i) (h .is) ∙ none in
-      let arrival = put64 (start h) 4 i 0 n (34880 + i * 8) refl (omega arith) l (omega arith) (omega arith) in
-      let want = put8 arrival 19 i 0 k (37024 + i) refl (omega arith) l (omega arith) lk in
-      let req = put8 want 20 i 0 a (37032 + i) refl (omega arith) l (omega arith) la in
+      let arrival = put64 (start h) arrivalCell i 0 n (arrivalFrom + i * ageWidth) refl (omega arith) l (omega arith) (omega arith) in
+      let want = put8 arrival wantCell i 0 k (wantFrom + i) refl (omega arith) l (omega arith) lk in
+      let req = put8 want requestCell i 0 a (requestFrom + i) refl (omega arith) l (omega arith) la in
       done h (λ (m : Server). setQueue (setArrivals m (n + 1)) (upd (m .queue) i (joining k a n (workOf s i))))
-      (put64 req 6 0 0 (n + 1) 34952 refl refl (omega arith) (omega arith) ln)
+      (put64 req nextArrivalCell 0 0 (n + 1) nextArrivalFrom refl refl (omega arith) (omega arith) ln)
       (ap (setQueue (setArrivals (meant s) (n + 1)))
       (fun-ext (λ j. joined-at C j k a n (eqb j i) (λ e. rw (eqb-yes j i e) q))
       ∙ at-row (waiterC C) (λ j. joining k a n (rowWork C j)) i (joining k a n (rowWork C i)) refl))
@@ -200,12 +200,12 @@ module _ {s : List ℕ} {m : Server} (h : Is s m) where
   add-read i a l la w e g =
       let C = view table 0 s in
       let q : waiterC C i ≡ w = ap (λ (n : Server). n .queue i) (h .is) ∙ e in
-      let f : eqb (C 19 i 0) 3 ≡ false = commit-want (C 19 i 0) ∙ ap (λ (y : Waiter). isCommit (y .want)) q ∙ g in
+      let f : eqb (C wantCell i 0) 3 ≡ false = commit-want (C wantCell i 0) ∙ ap (λ (y : Waiter). isCommit (y .want)) q ∙ g in
       done h (λ (n : Server). setQueue n (upd (n .queue) i (waiterReads w (upd (w .reads) a true))))
-      (on8 (start h) 16 i (a / 8) (a % 8) (36504 + i * 32 + a / 8) (omega arith) l (omega arith) refl (omega arith))
+      (on8 (start h) readSetCell i (a / 8) (a % 8) (readSetFrom i + a / 8) (omega arith) l (omega arith) refl (omega arith))
       (ap (setQueue (meant s))
-      (fun-ext (λ j. reads-at C j a (C 16 i (a / 8)) (eqb j i) (λ y. rw (eqb-yes j i y) (f, refl)))
-      ∙ at-row (waiterC C) (λ j. waiterReads (waiterC C j) (upd (within (C 16 j)) a true)) i (waiterReads w (upd (w .reads) a true))
+      (fun-ext (λ j. reads-at C j a (C readSetCell i (a / 8)) (eqb j i) (λ y. rw (eqb-yes j i y) (f, refl)))
+      ∙ at-row (waiterC C) (λ j. waiterReads (waiterC C j) (upd (within (C readSetCell j)) a true)) i (waiterReads w (upd (w .reads) a true))
       (ap (λ (y : Waiter). waiterReads y (upd (y .reads) a true)) q)))
 
   add-write : (i a : ℕ) → i < 8 → a < 256 → (w : Waiter) → m .queue i ≡ w → isCommit (w .want) ≡ false
@@ -214,12 +214,12 @@ module _ {s : List ℕ} {m : Server} (h : Is s m) where
   add-write i a l la w e g =
       let C = view table 0 s in
       let q : waiterC C i ≡ w = ap (λ (n : Server). n .queue i) (h .is) ∙ e in
-      let f : eqb (C 19 i 0) 3 ≡ false = commit-want (C 19 i 0) ∙ ap (λ (y : Waiter). isCommit (y .want)) q ∙ g in
+      let f : eqb (C wantCell i 0) 3 ≡ false = commit-want (C wantCell i 0) ∙ ap (λ (y : Waiter). isCommit (y .want)) q ∙ g in
       done h (λ (n : Server). setQueue n (upd (n .queue) i (waiterWrites w (upd (w .writes) a true))))
-      (on8 (start h) 17 i (a / 8) (a % 8) (36760 + i * 32 + a / 8) (omega arith) l (omega arith) refl (omega arith))
+      (on8 (start h) writtenSetCell i (a / 8) (a % 8) (writtenSetFrom i + a / 8) (omega arith) l (omega arith) refl (omega arith))
       (ap (setQueue (meant s))
-      (fun-ext (λ j. writes-at C j a (C 17 i (a / 8)) (eqb j i) (λ y. rw (eqb-yes j i y) (f, refl)))
-      ∙ at-row (waiterC C) (λ j. waiterWrites (waiterC C j) (upd (within (C 17 j)) a true)) i (waiterWrites w (upd (w .writes) a true))
+      (fun-ext (λ j. writes-at C j a (C writtenSetCell i (a / 8)) (eqb j i) (λ y. rw (eqb-yes j i y) (f, refl)))
+      ∙ at-row (waiterC C) (λ j. waiterWrites (waiterC C j) (upd (within (C writtenSetCell j)) a true)) i (waiterWrites w (upd (w .writes) a true))
       (ap (λ (y : Waiter). waiterWrites y (upd (y .writes) a true)) q)))
 
   -- 6 and 7 to r's 20
@@ -228,7 +228,7 @@ module _ {s : List ℕ} {m : Server} (h : Is s m) where
   unfolding markBusyB
   markBusy-is i r l lr =
       done h (λ (n : Server). setQueue n (upd (n .queue) r (waiterBusy (n .queue r) (upd (n .queue r .busy) i true))))
-      (on8 (start h) 23 r 0 i (37056 + r) (omega arith) lr (omega arith) refl l)
+      (on8 (start h) busyCell r 0 i (busyFrom + r) (omega arith) lr (omega arith) refl l)
       (ap (setQueue (meant s)) (busy-on (view table 0 s) i r))
 
   pub answered-is : (i r : ℕ) → i < 8 → r < 8
@@ -238,11 +238,11 @@ module _ {s : List ℕ} {m : Server} (h : Is s m) where
   answered-is i r l lr =
       let y = pendOf s r in
       done h (λ (n : Server). setQueue n (upd (n .queue) r (waiterPend (waiterBusy (n .queue r) (upd (n .queue r .busy) i false)) (upd (n .queue r .pend) i false))))
-      (put8 (off8 (start h) 23 r 0 i (37056 + r) (omega arith) lr (omega arith) refl) 22 r 0 (bitAnd y (255 - 2 ^ i)) (37048 + r) refl (omega arith) lr (omega arith)
-      (lt-of-le-of-lt (and-le-l y (255 - 2 ^ i)) (h .bytes (37048 + r))))
+      (put8 (off8 (start h) busyCell r 0 i (busyFrom + r) (omega arith) lr (omega arith) refl) pendCell r 0 (bitAnd y (255 - 2 ^ i)) (pendFrom + r) refl (omega arith) lr (omega arith)
+      (lt-of-le-of-lt (and-le-l y (255 - 2 ^ i)) (h .bytes (pendFrom + r))))
       (ap (setQueue (meant s))
-      (answered-row (view table 0 s) i r y l (cell-lt (start h) 23 r 0) (cell-lt (start h) 22 r 0)
-      (get8 (start h) 22 r 0 (37048 + r) refl (omega arith) lr (omega arith))))
+      (answered-row (view table 0 s) i r y l (cell-lt (start h) busyCell r 0) (cell-lt (start h) pendCell r 0)
+      (get8 (start h) pendCell r 0 (pendFrom + r) refl (omega arith) lr (omega arith))))
 
   -- the 20s of i's entry are sent
 
@@ -250,7 +250,7 @@ module _ {s : List ℕ} {m : Server} (h : Is s m) where
   unfolding calledB
   called-is i x l lx =
       done h (λ (n : Server). setQueue n (upd (n .queue) i (waiterPend (waiterCalled (n .queue i) true) (tb x))))
-      (put8 (put8 (start h) 21 i 0 1 (37040 + i) refl (omega arith) l (omega arith) (omega arith)) 22 i 0 x (37048 + i) refl (omega arith) l (omega arith) lx)
+      (put8 (put8 (start h) calledCell i 0 1 (calledFrom + i) refl (omega arith) l (omega arith) (omega arith)) pendCell i 0 x (pendFrom + i) refl (omega arith) l (omega arith) lx)
       (ap (setQueue (meant s)) (called-row (view table 0 s) i x))
 
 -- "joins one waiting list by arrival"

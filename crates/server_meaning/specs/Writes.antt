@@ -14,12 +14,12 @@ use Rattle.cells.specs.Pages.{page-any}
 use Rattle.cells.specs.Cells.{Cells, view, view-col, upd3, Holds, put32, put64, get8, get32, get64, cell-lt}
 use Rattle.cells.specs.Sets.{test8}
 use Rattle.line.specs.Server.{Server, wrotePage, setLast, setVer, setVal}
-use Rattle.station_state.specs.Layout.{hasBit, member}
-use Rattle.server_state.specs.Layout.{lastOf, writtenSet, writtenSetFrom}
+use Rattle.station_state.specs.Layout.{numberWidth, valueWidth, hasBit, member}
+use Rattle.server_state.specs.Layout.{valueCell, writtenValueCell, versionCell, lastCell, writtenSetCell, valueFrom, table, versionFrom, lastFrom, writtenValuesFrom, lastOf, writtenSet, writtenSetFrom}
 use Rattle.server_changes.specs.Changes.{versionOneB, versionsTo, valueOneB, valuesTo, writeB}
 use Rattle.station_meaning.specs.Meant.{within, valueIf}
 use Rattle.station_meaning.specs.Tests.{has-if}
-use Rattle.server_meaning.specs.Meant.{table, rowWork, meant, Is, start, done, workOf}
+use Rattle.server_meaning.specs.Meant.{rowWork, meant, Is, start, done, workOf}
 
 -- a whole row changed
 abbrev pub rowAs : Cells → ℕ → ℕ → (ℕ → ℕ) → Cells
@@ -44,43 +44,43 @@ cond-not false x y = refl
 
 -- the pages that row i writes, of those below n
 abbrev versioned : Cells → ℕ → ℕ → ℕ → ℕ → ℕ
-versioned C i v n = bulk (C 7 0) (λ p. not (eqb (C 17 i p) 0)) (λ _. v) n
+versioned C i v n = bulk (C versionCell 0) (λ p. not (eqb (C writtenSetCell i p) 0)) (λ _. v) n
 
 versions-to : {s₀ s : List ℕ} {C : Cells} → Holds table 0 s₀ s C → (i v : ℕ) → i < 8 → v < 2 ^ 32 → (n : ℕ) → n ≤ 32
-    → Holds table 0 s₀ (versionsTo i v s n) (rowAs C 7 0 (versioned C i v n))
+    → Holds table 0 s₀ (versionsTo i v s n) (rowAs C versionCell 0 (versioned C i v n))
 unfolding versionsTo versionOneB
 versions-to {s₀} {s} {C} h i v l lv zero q =
-    subst (Holds table 0 s₀ s) (as-none C 7 0 (versioned C i v 0) (bulk-none (C 7 0) (λ p. not (eqb (C 17 i p) 0)) (λ _. v))) h
+    subst (Holds table 0 s₀ s) (as-none C versionCell 0 (versioned C i v 0) (bulk-none (C versionCell 0) (λ p. not (eqb (C writtenSetCell i p) 0)) (λ _. v))) h
 versions-to {s₀} {s} {C} h i v l lv (suc n) q =
     let r = versions-to h i v l lv n (omega arith) in
     let t = versionsTo i v s n in
-    let b = eqb (C 17 i n) 0 in
-    let D = rowAs C 7 0 (versioned C i v n) in
+    let b = eqb (C writtenSetCell i n) 0 in
+    let D = rowAs C versionCell 0 (versioned C i v n) in
     subst (Holds table 0 s₀ (versionOneB i v t n))
-    (ap (cond b D) (as-more C 7 0 n v (versioned C i v n)) ∙ cond-not b D (rowAs C 7 0 (upd (versioned C i v n) n v))
-    ∙ bulk-more (rowAs C 7 0) (C 7 0) (λ p. not (eqb (C 17 i p) 0)) (λ _. v) n)
-    (cond-rel (Holds table 0 s₀) (eqb (writtenSet t i n) 0) b (ap (λ (x : ℕ). eqb x 0) (get8 r 17 i n (36760 + i * 32 + n) refl (omega arith) l q)) r
-    (put32 r 7 0 n v (34960 + n * 4) refl (omega arith) (omega arith) q lv))
+    (ap (cond b D) (as-more C versionCell 0 n v (versioned C i v n)) ∙ cond-not b D (rowAs C versionCell 0 (upd (versioned C i v n) n v))
+    ∙ bulk-more (rowAs C versionCell 0) (C versionCell 0) (λ p. not (eqb (C writtenSetCell i p) 0)) (λ _. v) n)
+    (cond-rel (Holds table 0 s₀) (eqb (writtenSet t i n) 0) b (ap (λ (x : ℕ). eqb x 0) (get8 r writtenSetCell i n (writtenSetFrom i + n) refl (omega arith) l q)) r
+    (put32 r versionCell 0 n v (versionFrom + n * numberWidth) refl (omega arith) (omega arith) q lv))
 
 -- the values that row i writes, of the addresses below n
 abbrev written : Cells → ℕ → ℕ → ℕ → ℕ
-written C i n = bulk (C 0 0) (within (C 17 i)) (C 2 i) n
+written C i n = bulk (C valueCell 0) (within (C writtenSetCell i)) (C writtenValueCell i) n
 
 values-to : {s₀ s : List ℕ} {C : Cells} → Holds table 0 s₀ s C → (i : ℕ) → i < 8 → (n : ℕ) → n ≤ 256
-    → Holds table 0 s₀ (valuesTo i s n) (rowAs C 0 0 (written C i n))
+    → Holds table 0 s₀ (valuesTo i s n) (rowAs C valueCell 0 (written C i n))
 unfolding valuesTo valueOneB member hasBit
-values-to {s₀} {s} {C} h i l zero q = subst (Holds table 0 s₀ s) (as-none C 0 0 (written C i 0) (bulk-none (C 0 0) (within (C 17 i)) (C 2 i))) h
+values-to {s₀} {s} {C} h i l zero q = subst (Holds table 0 s₀ s) (as-none C valueCell 0 (written C i 0) (bulk-none (C valueCell 0) (within (C writtenSetCell i)) (C writtenValueCell i))) h
 values-to {s₀} {s} {C} h i l (suc n) q =
     let r = values-to h i l n (omega arith) in
     let t = valuesTo i s n in
-    let b = within (C 17 i) n in
-    let D = rowAs C 0 0 (written C i n) in
-    let v : u64At t (18432 + i * 2048 + n * 8) ≡ C 2 i n = get64 r 2 i n (18432 + i * 2048 + n * 8) refl (omega arith) l q in
+    let b = within (C writtenSetCell i) n in
+    let D = rowAs C valueCell 0 (written C i n) in
+    let v : u64At t (writtenValuesFrom i + n * valueWidth) ≡ C writtenValueCell i n = get64 r writtenValueCell i n (writtenValuesFrom i + n * valueWidth) refl (omega arith) l q in
     subst (Holds table 0 s₀ (valueOneB i t n))
-    (ap (λ (E : Cells). cond b E D) (as-more C 0 0 n (C 2 i n) (written C i n)) ∙ bulk-more (rowAs C 0 0) (C 0 0) (within (C 17 i)) (C 2 i) n)
+    (ap (λ (E : Cells). cond b E D) (as-more C valueCell 0 n (C writtenValueCell i n) (written C i n)) ∙ bulk-more (rowAs C valueCell 0) (C valueCell 0) (within (C writtenSetCell i)) (C writtenValueCell i) n)
     (cond-rel (Holds table 0 s₀) (member t (writtenSetFrom i) n) b
-    (test8 r 17 i (n / 8) (n % 8) (36760 + i * 32 + n / 8) (omega arith) l (omega arith) refl)
-    (rw v (put64 r 0 0 n (C 2 i n) (n * 8) refl (omega arith) (omega arith) q (cell-lt h 2 i n)))
+    (test8 r writtenSetCell i (n / 8) (n % 8) (writtenSetFrom i + n / 8) (omega arith) l (omega arith) refl)
+    (rw v (put64 r valueCell 0 n (C writtenValueCell i n) (valueFrom + n * valueWidth) refl (omega arith) (omega arith) q (cell-lt h writtenValueCell i n)))
     r)
 
 -- what the bytes tell is what the work tells
@@ -88,19 +88,19 @@ val-or : (b : Bool) (v d : ℕ) → cond b v d ≡ valOr (valueIf b v) d
 val-or true v d = refl
 val-or false v d = refl
 
-wrote-page : (C : Cells) (i p : ℕ) → C 17 i p < 256 → not (eqb (C 17 i p) 0) ≡ wrotePage (rowWork C i) p
+wrote-page : (C : Cells) (i p : ℕ) → C writtenSetCell i p < 256 → not (eqb (C writtenSetCell i p) 0) ≡ wrotePage (rowWork C i) p
 wrote-page C i p l =
-    sym (page-any (C 17 i) p l)
-    ∙ any-ext 8 (λ o. within (C 17 i) (p * 8 + o)) (λ o. has (rowWork C i .writes (p * 8 + o)))
-    (λ o. sym (has-if (within (C 17 i) (p * 8 + o)) (C 2 i (p * 8 + o))))
+    sym (page-any (C writtenSetCell i) p l)
+    ∙ any-ext 8 (λ o. within (C writtenSetCell i) (p * 8 + o)) (λ o. has (rowWork C i .writes (p * 8 + o)))
+    (λ o. sym (has-if (within (C writtenSetCell i) (p * 8 + o)) (C writtenValueCell i (p * 8 + o))))
 
 module _ {s : List ℕ} {m : Server} (h : Is s m) where
   write-cells : (i : ℕ) → i < 8 → lastOf s + 1 < 2 ^ 32
       → Holds table 0 s (writeB i s)
-      (rowAs (rowAs (upd3 (view table 0 s) 12 0 0 (lastOf s + 1)) 7 0 (versioned (view table 0 s) i (lastOf s + 1) 32)) 0 0 (written (view table 0 s) i 256))
+      (rowAs (rowAs (upd3 (view table 0 s) lastCell 0 0 (lastOf s + 1)) versionCell 0 (versioned (view table 0 s) i (lastOf s + 1) 32)) valueCell 0 (written (view table 0 s) i 256))
   unfolding writeB
   write-cells i l ln =
-      values-to (versions-to (put32 (start h) 12 0 0 (lastOf s + 1) 36208 refl refl (omega arith) (omega arith) ln) i (lastOf s + 1) l ln 32 (omega arith)) i l 256 (omega arith)
+      values-to (versions-to (put32 (start h) lastCell 0 0 (lastOf s + 1) lastFrom refl refl (omega arith) (omega arith) ln) i (lastOf s + 1) l ln 32 (omega arith)) i l 256 (omega arith)
 
   pub write-is : (i : ℕ) → i < 8 → lastOf s + 1 < 2 ^ 32
       → Is (writeB i s)
@@ -108,22 +108,22 @@ module _ {s : List ℕ} {m : Server} (h : Is s m) where
   write-is i l ln =
       let C = view table 0 s in
       let w = workOf s i in
-      let c : lastOf s ≡ C 12 0 0 = get32 (start h) 12 0 0 36208 refl refl (omega arith) (omega arith) in
+      let c : lastOf s ≡ C lastCell 0 0 = get32 (start h) lastCell 0 0 lastFrom refl refl (omega arith) (omega arith) in
       done h
       (λ (n : Server). setVal (setVer (setLast n (n .last + 1)) (λ p. cond (wrotePage w p) (n .last + 1) (n .ver p))) (λ a. valOr (w .writes a) (n .val a)))
       (write-cells i l ln)
       ((λ t. setVal (setVer (setLast (meant s) (lastOf s + 1)) (fun-ext versions t)) (fun-ext values t))
-      ∙ ap (λ (x : ℕ). setVal (setVer (setLast (meant s) (x + 1)) (λ p. cond (wrotePage w p) (x + 1) (C 7 0 p))) (λ a. valOr (w .writes a) (C 0 0 a))) c)
+      ∙ ap (λ (x : ℕ). setVal (setVer (setLast (meant s) (x + 1)) (λ p. cond (wrotePage w p) (x + 1) (C versionCell 0 p))) (λ a. valOr (w .writes a) (C valueCell 0 a))) c)
     where
-      versions : (p : ℕ) → versioned (view table 0 s) i (lastOf s + 1) 32 p ≡ cond (wrotePage (workOf s i) p) (lastOf s + 1) (view table 0 s 7 0 p)
+      versions : (p : ℕ) → versioned (view table 0 s) i (lastOf s + 1) 32 p ≡ cond (wrotePage (workOf s i) p) (lastOf s + 1) (view table 0 s versionCell 0 p)
       versions p =
-          rw (← wrote-page (view table 0 s) i p (cell-lt (start h) 17 i p)) (byB (ltb p 32) (λ e. rw e) (λ e. rw (e, view-col table 0 s 17 i p (ltb-no p 32 e))))
+          rw (← wrote-page (view table 0 s) i p (cell-lt (start h) writtenSetCell i p)) (byB (ltb p 32) (λ e. rw e) (λ e. rw (e, view-col table 0 s writtenSetCell i p (ltb-no p 32 e))))
 
-      values : (a : ℕ) → written (view table 0 s) i 256 a ≡ valOr (workOf s i .writes a) (view table 0 s 0 0 a)
+      values : (a : ℕ) → written (view table 0 s) i 256 a ≡ valOr (workOf s i .writes a) (view table 0 s valueCell 0 a)
       values a =
           byB (ltb a 256)
-          (λ e. rw e (val-or (within (view table 0 s 17 i) a) (view table 0 s 2 i a) (view table 0 s 0 0 a)))
-          (λ e. let b : 256 ≤ a = ltb-no a 256 e in rw (e, view-col table 0 s 17 i (a / 8) (omega arith), tb-zero (a % 8)))
+          (λ e. rw e (val-or (within (view table 0 s writtenSetCell i) a) (view table 0 s writtenValueCell i a) (view table 0 s valueCell 0 a)))
+          (λ e. let b : 256 ≤ a = ltb-no a 256 e in rw (e, view-col table 0 s writtenSetCell i (a / 8) (omega arith), tb-zero (a % 8)))
 
   -- the entries' work is as it was
   pub write-work : (i : ℕ) → i < 8 → lastOf s + 1 < 2 ^ 32 → (j : ℕ) → workOf (writeB i s) j ≡ workOf s j

@@ -1,5 +1,4 @@
-// The pass over the waiting list in order, and rounds of it until nothing changes. Where each field stands is in server_state's
-// specs/Layout.antt and docs/STATE.md.
+// The pass over the waiting list in order, and rounds of it until nothing changes.
 ghost use mathlib.Core.Path.{_≡_};
 ghost use Prim.Native.Nat.{_<_};
 ghost use lib.ListN.{length};
@@ -9,10 +8,13 @@ ghost use Rattle.server_pass.specs.Sane.{Sane};
 ghost use Rattle.server_pass.specs.Seats.{turnB, passTo, seated};
 ghost use Rattle.server_pass.specs.Rounds.{passedB, brokenB, roundB};
 use server_actions::Counts;
+ghost use Rattle.server_state.specs.Layout.{serverLength};
+use server_state::AGE_WIDTH;
+use server_state::ARRIVAL;
 
 // The stations that wait, in order, then 8s.
 fn order(s: &[u8]) -> [u8; 8]
-    requires { ⌜ length (now s) ≡ 37072 ⌝ }
+    requires { ⌜ length (now s) ≡ serverLength ⌝ }
     ensures { λ r. ⌜ (length r ≡ 8) × (seated r ≡ orderB (now (s .entry)) 8 0) ⌝ }
 {
     let mut l = [8u8; 8];
@@ -25,7 +27,7 @@ fn order(s: &[u8]) -> [u8; 8]
             return l;
         }
         l[n] = i as u8;
-        a = le::get_u64(s, 34880 + i * 8);
+        a = le::get_u64(s, ARRIVAL + i * AGE_WIDTH);
         any = false;
         n += 1;
     }
@@ -34,7 +36,7 @@ fn order(s: &[u8]) -> [u8; 8]
 
 // The turn of station i, if there is such a station.
 fn turn(s: &mut [u8], o: &mut [u8], q: &mut [u8], c: Counts, i: u8) -> Counts
-    requires { ⌜ (length (now s) ≡ 37072) × Sane (now s) × Room (now o) (now q) c (turnB i (from (now s))) ⌝ }
+    requires { ⌜ (length (now s) ≡ serverLength) × Sane (now s) × Room (now o) (now q) c (turnB i (from (now s))) ⌝ }
     ensures { λ r. ⌜ posted (now (s .exit)) (now (o .exit)) (now (q .exit)) r ≡ post (now (o .entry)) (now (q .entry)) c (turnB i (from (now (s .entry)))) ⌝ }
 {
     if i < 8 {
@@ -44,7 +46,7 @@ fn turn(s: &mut [u8], o: &mut [u8], q: &mut [u8], c: Counts, i: u8) -> Counts
 }
 
 fn pass_places(s: &mut [u8], o: &mut [u8], q: &mut [u8], c: Counts, l: &[u8; 8]) -> Counts
-    requires { ⌜ (length (now s) ≡ 37072) × Sane (now s) × Room (now o) (now q) c (passTo (now l) (from (now s)) 8) ⌝ }
+    requires { ⌜ (length (now s) ≡ serverLength) × Sane (now s) × Room (now o) (now q) c (passTo (now l) (from (now s)) 8) ⌝ }
     ensures { λ r. ⌜ posted (now (s .exit)) (now (o .exit)) (now (q .exit)) r ≡ post (now (o .entry)) (now (q .entry)) c (passTo (now (l .entry)) (from (now (s .entry))) 8) ⌝ }
 {
     let mut b = c;
@@ -59,7 +61,7 @@ fn pass_places(s: &mut [u8], o: &mut [u8], q: &mut [u8], c: Counts, l: &[u8; 8])
 
 // Every waiter's turn, in the order that the list has at the start.
 fn pass(s: &mut [u8], o: &mut [u8], q: &mut [u8], c: Counts) -> Counts
-    requires { ⌜ (length (now s) ≡ 37072) × Sane (now s) × Room (now o) (now q) c (passedB (from (now s))) ⌝ }
+    requires { ⌜ (length (now s) ≡ serverLength) × Sane (now s) × Room (now o) (now q) c (passedB (from (now s))) ⌝ }
     ensures { λ r. ⌜ posted (now (s .exit)) (now (o .exit)) (now (q .exit)) r ≡ post (now (o .entry)) (now (q .entry)) c (passedB (from (now (s .entry)))) ⌝ }
 {
     let l = order(s);
@@ -68,7 +70,7 @@ fn pass(s: &mut [u8], o: &mut [u8], q: &mut [u8], c: Counts) -> Counts
 
 // The youngest on a cycle of waits-for edges, if there is a cycle, is aborted.
 fn break_cycle(s: &mut [u8], o: &mut [u8], q: &mut [u8], c: Counts) -> Counts
-    requires { ⌜ (length (now s) ≡ 37072) × Room (now o) (now q) c (brokenB (from (now s))) ⌝ }
+    requires { ⌜ (length (now s) ≡ serverLength) × Room (now o) (now q) c (brokenB (from (now s))) ⌝ }
     ensures { λ r. ⌜ posted (now (s .exit)) (now (o .exit)) (now (q .exit)) r ≡ post (now (o .entry)) (now (q .entry)) c (brokenB (from (now (s .entry)))) ⌝ }
 {
     let v = server_order::victim(s);
@@ -80,7 +82,7 @@ fn break_cycle(s: &mut [u8], o: &mut [u8], q: &mut [u8], c: Counts) -> Counts
 
 // A pass; where it rests, the cycle is looked for.
 fn round(s: &mut [u8], o: &mut [u8], q: &mut [u8], c: Counts) -> Counts
-    requires { ⌜ (length (now s) ≡ 37072) × Sane (now s) × Room (now o) (now q) c (roundB (from (now s))) ⌝ }
+    requires { ⌜ (length (now s) ≡ serverLength) × Sane (now s) × Room (now o) (now q) c (roundB (from (now s))) ⌝ }
     ensures { λ r. ⌜ posted (now (s .exit)) (now (o .exit)) (now (q .exit)) r ≡ post (now (o .entry)) (now (q .entry)) c (roundB (from (now (s .entry)))) ⌝ }
 {
     let b = pass(s, o, q, c);
@@ -92,7 +94,7 @@ fn round(s: &mut [u8], o: &mut [u8], q: &mut [u8], c: Counts) -> Counts
 
 // Rounds until one sends nothing. That they end is proved, not counted.
 pub fn settle(s: &mut [u8], o: &mut [u8], q: &mut [u8], c: Counts) -> Counts
-    requires { ⌜ (length (now s) ≡ 37072) × Sane (now s) × Room (now o) (now q) c (settleB 64 (from (now s))) ⌝ }
+    requires { ⌜ (length (now s) ≡ serverLength) × Sane (now s) × Room (now o) (now q) c (settleB 64 (from (now s))) ⌝ }
     ensures { λ r. ⌜ posted (now (s .exit)) (now (o .exit)) (now (q .exit)) r ≡ post (now (o .entry)) (now (q .entry)) c (settleB 64 (from (now (s .entry)))) ⌝ }
 {
     let mut b = c;

@@ -12,9 +12,10 @@ use borrow.Author.Tests.{ne-eqb}
 use Rattle.sets.specs.Laws.{byB, byEq, eqb-no, and-l, and-r, not-yes}
 use Rattle.le.specs.Laws.{u32At-is, setU32-is}
 use Rattle.cells.specs.Num.{AllBytes, num-lt, num-frame, put-other}
+use Rattle.message.specs.Layout.{messageLength}
 use Rattle.station_state.specs.Layout.{hasBit}
 use Rattle.station_state.specs.Changes.{pageOn}
-use Rattle.server_state.specs.Layout.{latestOf, lastOf, askedOf, wholeOf, wantOf, requestOf, calledOf, otherB, wantedOn}
+use Rattle.server_state.specs.Layout.{lastFrom, askedFrom, wholeFrom, calledFrom, pendFrom, latestOf, lastOf, askedOf, wholeOf, wantOf, requestOf, calledOf, otherB, wantedOn}
 use Rattle.server_tests.specs.Tests.{faultB, shutB, concernedSet, unavailableB}
 use Rattle.server_changes.specs.Changes.{leaveB, askedB, calledB, lockPageB, lockObjectB}
 use Rattle.server_actions.specs.declared.Counts.{Counts}
@@ -37,22 +38,22 @@ visitCommitB i x = cond (eqb (faultB (x .state) i) 0) (gatesB 3 i x) (abortB i (
 -- 19 changes no lock
 held-asked : (s : List ℕ) (p : ℕ) → Held s → Held (askedB p s)
 unfolding askedB pageOn
-held-asked s p h r l = rw (setU32-is, put-other 4 s 36212 _ (36472 + r) (inr (omega arith))) (h r l)
+held-asked s p h r l = rw (setU32-is, put-other 4 s askedFrom _ (wholeFrom + r) (inr (omega arith))) (h r l)
 
 -- 20s change no commit number
 last-called : (i d : ℕ) (s : List ℕ) → lastOf (calledB i d s) ≡ lastOf s
 unfolding calledB
 last-called i d s =
-    let t = set s (37040 + i) 1 in
-    rw (u32At-is (set t (37048 + i) d) 36208, u32At-is s 36208)
-    (num-frame 4 (set t (37048 + i) d) s 36208
-    (λ j a b. getD-set-other t (37048 + i) j d 0 (λ e. omega arith) ∙ getD-set-other s (37040 + i) j 1 0 (λ e. omega arith)))
+    let t = set s (calledFrom + i) 1 in
+    rw (u32At-is (set t (pendFrom + i) d) lastFrom, u32At-is s lastFrom)
+    (num-frame 4 (set t (pendFrom + i) d) s lastFrom
+    (λ j a b. getD-set-other t (pendFrom + i) j d 0 (λ e. omega arith) ∙ getD-set-other s (calledFrom + i) j 1 0 (λ e. omega arith)))
 
 -- "number 4,294,967,295 already used, cause 4": where there is no fault, a number is left
 pub fault-last : (s : List ℕ) (i : ℕ) → AllBytes s → faultB s i ≡ 0 → lastOf s < 4294967295
 unfolding faultB
 fault-last s i b e =
-    let l : lastOf s < 4294967296 = rw (u32At-is s 36208) (num-lt 4 s 36208 b) in
+    let l : lastOf s < 4294967296 = rw (u32At-is s lastFrom) (num-lt 4 s lastFrom b) in
     byEq (lastOf s) 4294967295 (λ y. absurd (used (rw y at e))) (λ n. omega (arith, l, eqb-no (lastOf s) 4294967295 n))
   where
     used : _≡_ {A = ℕ} 4 0 → ⊥
@@ -101,12 +102,12 @@ module _ (o q : List ℕ) (c : Counts) where
 
   -- 19
 
-  pub ask-fits : (i p : ℕ) (s : List ℕ) → (shutB s i p && not (hasBit (askedOf s) p)) ≡ true → Room o q c (askB i (from s) p) → c .messages * 112 + 112 ≤ length o
+  pub ask-fits : (i p : ℕ) (s : List ℕ) → (shutB s i p && not (hasBit (askedOf s) p)) ≡ true → Room o q c (askB i (from s) p) → c .messages * messageLength + messageLength ≤ length o
   unfolding askB
   ask-fits i p s e r = one-fits o q c (askedB p s) (deescalateB (wholeOf s p - 1) p s) [] [] (rw e at r)
 
   pub ask-chain : (i p : ℕ) (s : List ℕ) {h t : ℕ} {s₁ o₁ : List ℕ} {r : Counts} → (shutB s i p && not (hasBit (askedOf s) p)) ≡ true
-      → h ≡ wholeOf s p - 1 → t ≡ latestOf s h → o₁ ≡ sets o (c .messages * 112) (plain 19 h p 0 t 0 0) → s₁ ≡ askedB p s → r ≡ counts (c .messages + 1) (c .records)
+      → h ≡ wholeOf s p - 1 → t ≡ latestOf s h → o₁ ≡ sets o (c .messages * messageLength) (plain 19 h p 0 t 0 0) → s₁ ≡ askedB p s → r ≡ counts (c .messages + 1) (c .records)
       → posted s₁ o₁ q r ≡ post o q c (askB i (from s) p)
   unfolding askB
   ask-chain i p s e eh et eo es er = rw e (sent-chain o q c (askedB p s) (deescalateB (wholeOf s p - 1) p s) (eo ∙ rw (et, eh)) es er)
@@ -121,11 +122,11 @@ module _ (o q : List ℕ) (c : Counts) where
 
   -- 20
 
-  pub call-fits : (i d j : ℕ) (s : List ℕ) → hasBit d j ≡ true → Room o q c (callOneB i d s (from s) j) → c .messages * 112 + 112 ≤ length o
+  pub call-fits : (i d j : ℕ) (s : List ℕ) → hasBit d j ≡ true → Room o q c (callOneB i d s (from s) j) → c .messages * messageLength + messageLength ≤ length o
   unfolding callOneB
   call-fits i d j s e r = one-fits o q c s (callbackB j i s) [] [] (rw e at r)
 
-  pub call-chain : (i d j : ℕ) (s : List ℕ) {o₁ : List ℕ} {r : Counts} → hasBit d j ≡ true → o₁ ≡ sets o (c .messages * 112) (callbackB j i s) → r ≡ counts (c .messages + 1) (c .records)
+  pub call-chain : (i d j : ℕ) (s : List ℕ) {o₁ : List ℕ} {r : Counts} → hasBit d j ≡ true → o₁ ≡ sets o (c .messages * messageLength) (callbackB j i s) → r ≡ counts (c .messages + 1) (c .records)
       → posted s o₁ q r ≡ post o q c (callOneB i d s (from s) j)
   unfolding callOneB
   call-chain i d j s e eo er = rw e (sent-chain o q c s (callbackB j i s) eo refl er)

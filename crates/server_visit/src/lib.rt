@@ -1,51 +1,60 @@
 // One waiter's turn in the pass: the gates, 19s, the page that is read, 20s, locks, the installation. Messages and records go where
-// server_actions puts them. Where each field stands is in server_state's specs/Layout.antt and docs/STATE.md.
+// server_actions puts them.
 ghost use mathlib.Core.Path.{_≡_};
 ghost use mathlib.Core.Logic.{_≢_};
 ghost use mathlib.Core.Bool.{not, _&&_};
 ghost use Prim.Native.Nat.{_+_, _-_, _*_, _≤_, _<_};
 ghost use lib.ListN.{length};
 ghost use Rattle.station_state.specs.Layout.{hasBit};
-ghost use Rattle.server_state.specs.Layout.{askedOf, wholeOf, wantOf, requestOf, lastOf};
+ghost use Rattle.server_state.specs.Layout.{serverLength, askedOf, wholeOf, wantOf, requestOf, lastOf};
 ghost use Rattle.server_tests.specs.Tests.{shutB, faultB};
 ghost use Rattle.server_actions.specs.Posting.{from, posted, post, Room};
 ghost use Rattle.server_actions.specs.Pass.{askB, askTo, serveReadB, callOneB, callTo, callB, callOnceB, grantPageB, grantObjectB, grantB, afterCallsB, proceedB, gatesB, visitB};
 ghost use Rattle.server_visit.specs.Visits.{Held, visitCommitB};
+use message::LENGTH as MESSAGE;
 use server_actions::Counts;
+use server_state::ASKED;
+use server_state::CALLED;
+use server_state::LATEST;
+use server_state::PEND;
+use server_state::REQUEST;
+use server_state::WANT;
+use server_state::WHOLE;
+use station_state::NUMBER_WIDTH;
 
 // The address that i's entry requests.
 fn request(s: &[u8], i: usize) -> usize
-    requires { ⌜ (length (now s) ≡ 37072) × (i < 8) ⌝ }
+    requires { ⌜ (length (now s) ≡ serverLength) × (i < 8) ⌝ }
     ensures { λ r. ⌜ (r ≡ requestOf (now (s .entry)) i) × (r < 256) ⌝ }
 {
-    s[37032 + i] as usize
+    s[REQUEST + i] as usize
 }
 
 // Whether page p is locked whole by another than i and its 19 is not out.
 fn ask_due(s: &[u8], i: usize, p: usize) -> bool
-    requires { ⌜ (length (now s) ≡ 37072) × (i < 8) × (p < 32) ⌝ }
+    requires { ⌜ (length (now s) ≡ serverLength) × (i < 8) × (p < 32) ⌝ }
     ensures { λ r. ⌜ r ≡ (shutB (now (s .entry)) i p && not (hasBit (askedOf (now (s .entry))) p)) ⌝ }
 {
-    server_tests::shut(s, i, p) & !station_state::has_bit32(le::get_u32(s, 36212), p)
+    server_tests::shut(s, i, p) & !station_state::has_bit32(le::get_u32(s, ASKED), p)
 }
 
 // The station that has locked page p whole.
 fn whole_holder(s: &[u8], p: usize) -> usize
-    requires { ⌜ (length (now s) ≡ 37072) × (p < 32) × (1 ≤ wholeOf (now s) p) × (wholeOf (now s) p ≤ 8) ⌝ }
+    requires { ⌜ (length (now s) ≡ serverLength) × (p < 32) × (1 ≤ wholeOf (now s) p) × (wholeOf (now s) p ≤ 8) ⌝ }
     ensures { λ r. ⌜ (r ≡ wholeOf (now (s .entry)) p - 1) × (r < 8) ⌝ }
 {
-    s[36472 + p] as usize - 1
+    s[WHOLE + p] as usize - 1
 }
 
 // 19 to the station that has locked page p whole, once.
 fn ask(s: &mut [u8], o: &mut [u8], q: &mut [u8], c: Counts, i: usize, p: usize) -> Counts
-    requires { ⌜ (length (now s) ≡ 37072) × (i < 8) × (p < 32) × (wholeOf (now s) p ≤ 8) × Room (now o) (now q) c (askB i (from (now s)) p) ⌝ }
+    requires { ⌜ (length (now s) ≡ serverLength) × (i < 8) × (p < 32) × (wholeOf (now s) p ≤ 8) × Room (now o) (now q) c (askB i (from (now s)) p) ⌝ }
     ensures { λ r. ⌜ posted (now (s .exit)) (now (o .exit)) (now (q .exit)) r ≡ post (now (o .entry)) (now (q .entry)) c (askB i (from (now (s .entry))) p) ⌝ }
 {
     if ask_due(s, i, p) {
         let h = whole_holder(s, p);
-        let t = le::get_u32(s, 36144 + h * 4);
-        message::put_message(o, c.messages * 112, 19, h as u8, p as u8, 0, t, 0, 0);
+        let t = le::get_u32(s, LATEST + h * NUMBER_WIDTH);
+        message::put_message(o, c.messages * MESSAGE, 19, h as u8, p as u8, 0, t, 0, 0);
         server_changes::asked(s, p);
         return server_actions::one_more(c);
     }
@@ -54,7 +63,7 @@ fn ask(s: &mut [u8], o: &mut [u8], q: &mut [u8], c: Counts, i: usize, p: usize) 
 
 // Pages rising.
 fn ask_all(s: &mut [u8], o: &mut [u8], q: &mut [u8], c: Counts, i: usize) -> Counts
-    requires { ⌜ (length (now s) ≡ 37072) × (i < 8) × Held (now s) × Room (now o) (now q) c (askTo i (from (now s)) 32) ⌝ }
+    requires { ⌜ (length (now s) ≡ serverLength) × (i < 8) × Held (now s) × Room (now o) (now q) c (askTo i (from (now s)) 32) ⌝ }
     ensures { λ r. ⌜ posted (now (s .exit)) (now (o .exit)) (now (q .exit)) r ≡ post (now (o .entry)) (now (q .entry)) c (askTo i (from (now (s .entry))) 32) ⌝ }
 {
     let mut b = c;
@@ -69,7 +78,7 @@ fn ask_all(s: &mut [u8], o: &mut [u8], q: &mut [u8], c: Counts, i: usize) -> Cou
 
 // The page that i reads is sent, and its entry goes.
 fn serve_read(s: &mut [u8], o: &mut [u8], q: &mut [u8], c: Counts, i: usize) -> Counts
-    requires { ⌜ (length (now s) ≡ 37072) × (i < 8) × Room (now o) (now q) c (serveReadB i (from (now s))) ⌝ }
+    requires { ⌜ (length (now s) ≡ serverLength) × (i < 8) × Room (now o) (now q) c (serveReadB i (from (now s))) ⌝ }
     ensures { λ r. ⌜ posted (now (s .exit)) (now (o .exit)) (now (q .exit)) r ≡ post (now (o .entry)) (now (q .entry)) c (serveReadB i (from (now (s .entry)))) ⌝ }
 {
     let a = request(s, i);
@@ -80,11 +89,11 @@ fn serve_read(s: &mut [u8], o: &mut [u8], q: &mut [u8], c: Counts, i: usize) -> 
 
 // 20 to station j, if it is in d.
 fn call_one(s: &[u8], o: &mut [u8], q: &mut [u8], c: Counts, i: usize, d: u8, j: usize) -> Counts
-    requires { ⌜ (length (now s) ≡ 37072) × (i < 8) × (j < 8) × Room (now o) (now q) c (callOneB i d (now s) (from (now s)) j) ⌝ }
+    requires { ⌜ (length (now s) ≡ serverLength) × (i < 8) × (j < 8) × Room (now o) (now q) c (callOneB i d (now s) (from (now s)) j) ⌝ }
     ensures { λ r. ⌜ posted (now (s .entry)) (now (o .exit)) (now (q .exit)) r ≡ post (now (o .entry)) (now (q .entry)) c (callOneB i d (now (s .entry)) (from (now (s .entry))) j) ⌝ }
 {
     if station_state::has_bit8(d, j) {
-        server_actions::put_callback(o, c.messages * 112, s, j, i);
+        server_actions::put_callback(o, c.messages * MESSAGE, s, j, i);
         return server_actions::one_more(c);
     }
     c
@@ -92,7 +101,7 @@ fn call_one(s: &[u8], o: &mut [u8], q: &mut [u8], c: Counts, i: usize, d: u8, j:
 
 // Stations rising.
 fn call_all(s: &[u8], o: &mut [u8], q: &mut [u8], c: Counts, i: usize, d: u8) -> Counts
-    requires { ⌜ (length (now s) ≡ 37072) × (i < 8) × Room (now o) (now q) c (callTo i d (now s) (from (now s)) 8) ⌝ }
+    requires { ⌜ (length (now s) ≡ serverLength) × (i < 8) × Room (now o) (now q) c (callTo i d (now s) (from (now s)) 8) ⌝ }
     ensures { λ r. ⌜ posted (now (s .entry)) (now (o .exit)) (now (q .exit)) r ≡ post (now (o .entry)) (now (q .entry)) c (callTo i d (now (s .entry)) (from (now (s .entry))) 8) ⌝ }
 {
     let mut b = c;
@@ -107,7 +116,7 @@ fn call_all(s: &[u8], o: &mut [u8], q: &mut [u8], c: Counts, i: usize, d: u8) ->
 
 // i's 20s go out, and its entry says to whom.
 fn call(s: &mut [u8], o: &mut [u8], q: &mut [u8], c: Counts, i: usize) -> Counts
-    requires { ⌜ (length (now s) ≡ 37072) × (i < 8) × Room (now o) (now q) c (callB i (from (now s))) ⌝ }
+    requires { ⌜ (length (now s) ≡ serverLength) × (i < 8) × Room (now o) (now q) c (callB i (from (now s))) ⌝ }
     ensures { λ r. ⌜ posted (now (s .exit)) (now (o .exit)) (now (q .exit)) r ≡ post (now (o .entry)) (now (q .entry)) c (callB i (from (now (s .entry)))) ⌝ }
 {
     let d = server_tests::concerned_set(s, i);
@@ -117,17 +126,17 @@ fn call(s: &mut [u8], o: &mut [u8], q: &mut [u8], c: Counts, i: usize) -> Counts
 }
 
 fn call_once(s: &mut [u8], o: &mut [u8], q: &mut [u8], c: Counts, i: usize) -> Counts
-    requires { ⌜ (length (now s) ≡ 37072) × (i < 8) × Room (now o) (now q) c (callOnceB i (from (now s))) ⌝ }
+    requires { ⌜ (length (now s) ≡ serverLength) × (i < 8) × Room (now o) (now q) c (callOnceB i (from (now s))) ⌝ }
     ensures { λ r. ⌜ posted (now (s .exit)) (now (o .exit)) (now (q .exit)) r ≡ post (now (o .entry)) (now (q .entry)) c (callOnceB i (from (now (s .entry)))) ⌝ }
 {
-    if s[37040 + i] == 0 {
+    if s[CALLED + i] == 0 {
         return call(s, o, q, c, i);
     }
     c
 }
 
 fn grant_page(s: &mut [u8], o: &mut [u8], q: &mut [u8], c: Counts, i: usize) -> Counts
-    requires { ⌜ (length (now s) ≡ 37072) × (i < 8) × Room (now o) (now q) c (grantPageB i (from (now s))) ⌝ }
+    requires { ⌜ (length (now s) ≡ serverLength) × (i < 8) × Room (now o) (now q) c (grantPageB i (from (now s))) ⌝ }
     ensures { λ r. ⌜ posted (now (s .exit)) (now (o .exit)) (now (q .exit)) r ≡ post (now (o .entry)) (now (q .entry)) c (grantPageB i (from (now (s .entry)))) ⌝ }
 {
     let a = request(s, i);
@@ -138,7 +147,7 @@ fn grant_page(s: &mut [u8], o: &mut [u8], q: &mut [u8], c: Counts, i: usize) -> 
 }
 
 fn grant_object(s: &mut [u8], o: &mut [u8], q: &mut [u8], c: Counts, i: usize) -> Counts
-    requires { ⌜ (length (now s) ≡ 37072) × (i < 8) × Room (now o) (now q) c (grantObjectB i (from (now s))) ⌝ }
+    requires { ⌜ (length (now s) ≡ serverLength) × (i < 8) × Room (now o) (now q) c (grantObjectB i (from (now s))) ⌝ }
     ensures { λ r. ⌜ posted (now (s .exit)) (now (o .exit)) (now (q .exit)) r ≡ post (now (o .entry)) (now (q .entry)) c (grantObjectB i (from (now (s .entry)))) ⌝ }
 {
     let a = request(s, i);
@@ -150,7 +159,7 @@ fn grant_object(s: &mut [u8], o: &mut [u8], q: &mut [u8], c: Counts, i: usize) -
 
 // The whole page is locked if nobody is in the way there, else the object.
 fn grant(s: &mut [u8], o: &mut [u8], q: &mut [u8], c: Counts, i: usize) -> Counts
-    requires { ⌜ (length (now s) ≡ 37072) × (i < 8) × Room (now o) (now q) c (grantB i (from (now s))) ⌝ }
+    requires { ⌜ (length (now s) ≡ serverLength) × (i < 8) × Room (now o) (now q) c (grantB i (from (now s))) ⌝ }
     ensures { λ r. ⌜ posted (now (s .exit)) (now (o .exit)) (now (q .exit)) r ≡ post (now (o .entry)) (now (q .entry)) c (grantB i (from (now (s .entry)))) ⌝ }
 {
     if server_tests::hindered(s, i, request(s, i) / 8) {
@@ -161,10 +170,10 @@ fn grant(s: &mut [u8], o: &mut [u8], q: &mut [u8], c: Counts, i: usize) -> Count
 
 // When nobody owes i a 7, its write is granted, or its commit installed.
 fn after_calls(s: &mut [u8], o: &mut [u8], q: &mut [u8], c: Counts, i: usize, w: u8) -> Counts
-    requires { ⌜ (length (now s) ≡ 37072) × (i < 8) × (w ≢ 2 → lastOf (now s) < 4294967295) × Room (now o) (now q) c (afterCallsB w i (from (now s))) ⌝ }
+    requires { ⌜ (length (now s) ≡ serverLength) × (i < 8) × (w ≢ 2 → lastOf (now s) < 4294967295) × Room (now o) (now q) c (afterCallsB w i (from (now s))) ⌝ }
     ensures { λ r. ⌜ posted (now (s .exit)) (now (o .exit)) (now (q .exit)) r ≡ post (now (o .entry)) (now (q .entry)) c (afterCallsB w i (from (now (s .entry)))) ⌝ }
 {
-    if s[37048 + i] != 0 {
+    if s[PEND + i] != 0 {
         return c;
     }
     if w == 2 {
@@ -175,7 +184,7 @@ fn after_calls(s: &mut [u8], o: &mut [u8], q: &mut [u8], c: Counts, i: usize, w:
 
 // Nothing is in i's way: w is what it wants (1 a read, 2 a write, 3 a commit).
 fn proceed(s: &mut [u8], o: &mut [u8], q: &mut [u8], c: Counts, i: usize, w: u8) -> Counts
-    requires { ⌜ (length (now s) ≡ 37072) × (i < 8) × (w ≢ 1 → w ≢ 2 → lastOf (now s) < 4294967295) × Room (now o) (now q) c (proceedB w i (from (now s))) ⌝ }
+    requires { ⌜ (length (now s) ≡ serverLength) × (i < 8) × (w ≢ 1 → w ≢ 2 → lastOf (now s) < 4294967295) × Room (now o) (now q) c (proceedB w i (from (now s))) ⌝ }
     ensures { λ r. ⌜ posted (now (s .exit)) (now (o .exit)) (now (q .exit)) r ≡ post (now (o .entry)) (now (q .entry)) c (proceedB w i (from (now (s .entry)))) ⌝ }
 {
     if w == 1 {
@@ -186,7 +195,7 @@ fn proceed(s: &mut [u8], o: &mut [u8], q: &mut [u8], c: Counts, i: usize, w: u8)
 }
 
 fn gates(s: &mut [u8], o: &mut [u8], q: &mut [u8], c: Counts, i: usize, w: u8) -> Counts
-    requires { ⌜ (length (now s) ≡ 37072) × (i < 8) × Held (now s) × (w ≢ 1 → w ≢ 2 → lastOf (now s) < 4294967295) × Room (now o) (now q) c (gatesB w i (from (now s))) ⌝ }
+    requires { ⌜ (length (now s) ≡ serverLength) × (i < 8) × Held (now s) × (w ≢ 1 → w ≢ 2 → lastOf (now s) < 4294967295) × Room (now o) (now q) c (gatesB w i (from (now s))) ⌝ }
     ensures { λ r. ⌜ posted (now (s .exit)) (now (o .exit)) (now (q .exit)) r ≡ post (now (o .entry)) (now (q .entry)) c (gatesB w i (from (now (s .entry)))) ⌝ }
 {
     if server_tests::blocked(s, i) {
@@ -200,7 +209,7 @@ fn gates(s: &mut [u8], o: &mut [u8], q: &mut [u8], c: Counts, i: usize, w: u8) -
 
 // A commit that cannot be installed any more is aborted at once.
 fn visit_commit(s: &mut [u8], o: &mut [u8], q: &mut [u8], c: Counts, i: usize) -> Counts
-    requires { ⌜ (length (now s) ≡ 37072) × (i < 8) × Held (now s) × Room (now o) (now q) c (visitCommitB i (from (now s))) ⌝ }
+    requires { ⌜ (length (now s) ≡ serverLength) × (i < 8) × Held (now s) × Room (now o) (now q) c (visitCommitB i (from (now s))) ⌝ }
     ensures { λ r. ⌜ posted (now (s .exit)) (now (o .exit)) (now (q .exit)) r ≡ post (now (o .entry)) (now (q .entry)) c (visitCommitB i (from (now (s .entry)))) ⌝ }
 {
     let cause = server_tests::fault(s, i);
@@ -212,10 +221,10 @@ fn visit_commit(s: &mut [u8], o: &mut [u8], q: &mut [u8], c: Counts, i: usize) -
 
 // Station i's turn, if it waits.
 pub fn visit(s: &mut [u8], o: &mut [u8], q: &mut [u8], c: Counts, i: usize) -> Counts
-    requires { ⌜ (length (now s) ≡ 37072) × (i < 8) × Held (now s) × (wantOf (now s) i ≤ 3) × Room (now o) (now q) c (visitB i (from (now s))) ⌝ }
+    requires { ⌜ (length (now s) ≡ serverLength) × (i < 8) × Held (now s) × (wantOf (now s) i ≤ 3) × Room (now o) (now q) c (visitB i (from (now s))) ⌝ }
     ensures { λ r. ⌜ posted (now (s .exit)) (now (o .exit)) (now (q .exit)) r ≡ post (now (o .entry)) (now (q .entry)) c (visitB i (from (now (s .entry)))) ⌝ }
 {
-    let w = s[37024 + i];
+    let w = s[WANT + i];
     if w == 0 {
         return c;
     }

@@ -12,7 +12,7 @@ use Rattle.le.specs.Width.{bytes, length-bytes}
 use Rattle.sets.specs.Base.{Val, none, some}
 use Rattle.cells.specs.Le.{setU64-is}
 use Rattle.cells.specs.Loops.{rank}
-use Rattle.layout.specs.Record.{Entry, Record, entries, header, addresses, values, bytesOf}
+use Rattle.layout.specs.Record.{headerLength, valueLength, entryLength, Entry, Record, entries, header, addresses, values, bytesOf}
 use Rattle.entries.specs.Entries.{entryIf, entriesFrom, entriesOf}
 use Rattle.record.specs.Stores.{length-header}
 use Rattle.station_state.specs.Layout.{member}
@@ -54,7 +54,7 @@ length-addresses : (es : List Entry) → length (addresses es) ≡ length es
 length-addresses [] = refl
 length-addresses (e ∷ es) = ap suc (length-addresses es)
 
-length-values : (es : List Entry) → length (values es) ≡ 8 * length es
+length-values : (es : List Entry) → length (values es) ≡ valueLength * length es
 length-values [] = refl
 length-values (e ∷ es) = rw (length-append, length-bytes, length-values es) (omega arith)
 
@@ -92,7 +92,7 @@ module _ (s : List ℕ) (at from : ℕ) where
   length-below zero = rw below-none
   length-below (suc n) = rw (below-more n, length-append, length-below n) (one (member s at n))
     where
-      one : (b : Bool) → rank (member s at) n + length (entryIf n (cond b (some (u64At s (from + n * 8))) none) []) ≡ rank (member s at) n + cond b 1 0
+      one : (b : Bool) → rank (member s at) n + length (entryIf n (cond b (some (u64At s (from + n * valueLength))) none) []) ≡ rank (member s at) n + cond b 1 0
       one true = refl
       one false = refl
 
@@ -103,33 +103,33 @@ module _ (s : List ℕ) (at from : ℕ) where
 
 -- an address behind the addresses and its value behind the values, if so: the addresses end before the values begin
 entry-step : (o : List ℕ) (base k i a v : ℕ) (l : List Entry) (b : Bool) (t : List ℕ) → i + (length l + cond b 1 0) ≤ k
-    → t ≡ sets (sets o (base + 16 + i) (addresses l)) (base + 16 + k + i * 8) (values l)
-    → cond b (setU64 (set t (base + 16 + (i + length l)) a) (base + 16 + k + (i + length l) * 8) v) t
-    ≡ sets (sets o (base + 16 + i) (addresses (l ++ entryIf a (cond b (some v) none) []))) (base + 16 + k + i * 8) (values (l ++ entryIf a (cond b (some v) none) []))
+    → t ≡ sets (sets o (base + headerLength + i) (addresses l)) (base + headerLength + k + i * valueLength) (values l)
+    → cond b (setU64 (set t (base + headerLength + (i + length l)) a) (base + headerLength + k + (i + length l) * valueLength) v) t
+    ≡ sets (sets o (base + headerLength + i) (addresses (l ++ entryIf a (cond b (some v) none) []))) (base + headerLength + k + i * valueLength) (values (l ++ entryIf a (cond b (some v) none) []))
 entry-step o base k i a v l false t h e = rw append-nil e
 entry-step o base k i a v l true t h e =
-    let p = base + 16 + i in
-    let q = base + 16 + k + i * 8 in
-    let next = base + 16 + (i + length l) in
+    let p = base + headerLength + i in
+    let q = base + headerLength + k + i * valueLength in
+    let next = base + headerLength + (i + length l) in
     let one = a ∷ [] in
     let e₁ : set t next a ≡ sets (sets o p (addresses l ++ one)) q (values l) =
     rw e
     (one-first (values l) (sets o p (addresses l)) next q a (omega arith)
     ∙ ap (λ (x : List ℕ). sets x q (values l)) (sets-join (addresses l) one o p next (rw length-addresses (omega arith)))) in
     rw (e₁, setU64-is, addresses-append, values-append, append-nil)
-    (sets-join (values l) (bytes 8 v) (sets o p (addresses l ++ one)) q (base + 16 + k + (i + length l) * 8) (rw length-values (omega arith)))
+    (sets-join (values l) (bytes valueLength v) (sets o p (addresses l ++ one)) q (base + headerLength + k + (i + length l) * valueLength) (rw length-values (omega arith)))
 
 entries-are : (o s : List ℕ) (base at from k i n : ℕ) → i + rank (member s at) n ≤ k
-    → entriesTo o s base at from k i n ≡ sets (sets o (base + 16 + i) (addresses (below s at from n))) (base + 16 + k + i * 8) (values (below s at from n))
+    → entriesTo o s base at from k i n ≡ sets (sets o (base + headerLength + i) (addresses (below s at from n))) (base + headerLength + k + i * valueLength) (values (below s at from n))
 unfolding entriesTo entryOne rank
 entries-are o s base at from k i zero h = rw below-none
 entries-are o s base at from k i (suc n) h =
     rw (below-more s at from n, ← length-below s at from n)
-    (entry-step o base k i n (u64At s (from + n * 8)) (below s at from n) (member s at n) (entriesTo o s base at from k i n) (rw length-below h) (entries-are o s base at from k i n (omega arith)))
+    (entry-step o base k i n (u64At s (from + n * valueLength)) (below s at from n) (member s at n) (entriesTo o s base at from k i n) (rw length-below h) (entries-are o s base at from k i n (omega arith)))
 
 -- reads from place p, then writes: the addresses of both, then the values of both
 both-are : (o : List ℕ) (es fs : List Entry) (n m p q : ℕ) {b d : ℕ} → length es ≡ n → length fs ≡ m
-    → q ≡ p + (n + m) → b ≡ p + n → d ≡ q + n * 8
+    → q ≡ p + (n + m) → b ≡ p + n → d ≡ q + n * valueLength
     → sets (sets (sets (sets o p (addresses es)) q (values es)) b (addresses fs)) d (values fs) ≡ sets o p (addresses (es ++ fs) ++ values (es ++ fs))
 both-are o es fs n m p q {b} {d} hn hm hq hb hd =
     let a₁ = addresses es in
@@ -152,31 +152,31 @@ module _ (s : List ℕ) (ra rv wa wv commit transaction station kind n m : ℕ) 
   unfolding bytesOf
   record-is = rw (length-all s ra rv, length-all s wa wv, ← en, ← em)
 
-  record-length : length (bytesOf whole) ≡ 16 + 9 * (n + m)
+  record-length : length (bytesOf whole) ≡ headerLength + entryLength * (n + m)
   record-length =
       rw record-is
       (simp (length-append, length-header, length-addresses, length-values, length-all s ra rv, length-all s wa wv, ← en, ← em) (omega arith))
 
   entries-stores : (o : List ℕ) (base : ℕ) {o₁ o₂ : List ℕ} → o₁ ≡ entriesTo o s base ra rv (n + m) 0 256 → o₂ ≡ entriesTo o₁ s base wa wv (n + m) n 256
-      → o₂ ≡ sets o (base + 16) (addresses (entries whole) ++ values (entries whole))
+      → o₂ ≡ sets o (base + headerLength) (addresses (entries whole) ++ values (entries whole))
   entries-stores o base {o₁} e₁ e₂ =
-      let first : base + 16 + 0 ≡ base + 16 = omega arith in
+      let first : base + headerLength + 0 ≡ base + headerLength = omega arith in
       let ln : length (whole .reads) ≡ n = length-all s ra rv ∙ sym en in
       let lm : length (whole .writes) ≡ m = length-all s wa wv ∙ sym em in
       e₂ ∙ entries-are o₁ s base wa wv (n + m) n 256 (omega arith)
       ∙ rw (e₁, entries-are o s base ra rv (n + m) 0 256 (omega arith), first, below-all s ra rv, below-all s wa wv)
-      (both-are o (whole .reads) (whole .writes) n m (base + 16) (base + 16 + (n + m) + 0) ln lm (omega arith) (omega arith) (omega arith))
+      (both-are o (whole .reads) (whole .writes) n m (base + headerLength) (base + headerLength + (n + m) + 0) ln lm (omega arith) (omega arith) (omega arith))
 
   -- header, addresses and values, each behind the one before; as `put_record` calls, the header is put into a part
   pub record-filled : (o : List ℕ) (base : ℕ) {x o₁ o₂ : List ℕ}
-      → x ≡ sets (take (base + 16 - base) (drop base o)) 0 (header n m commit transaction station kind)
-      → o₁ ≡ entriesTo (take base o ++ (x ++ drop (base + 16 - base) (drop base o))) s base ra rv (n + m) 0 256
-      → o₂ ≡ entriesTo o₁ s base wa wv (n + m) n 256 → base + 16 ≤ length o
-      → filled o₂ (16 + 9 * (n + m)) ≡ recordFilled o base whole
+      → x ≡ sets (take (base + headerLength - base) (drop base o)) 0 (header n m commit transaction station kind)
+      → o₁ ≡ entriesTo (take base o ++ (x ++ drop (base + headerLength - base) (drop base o))) s base ra rv (n + m) 0 256
+      → o₂ ≡ entriesTo o₁ s base wa wv (n + m) n 256 → base + headerLength ≤ length o
+      → filled o₂ (headerLength + entryLength * (n + m)) ≡ recordFilled o base whole
   record-filled o base {x} ex e₁ e₂ fits =
       let h = header n m commit transaction station kind in
       let l = addresses (entries whole) ++ values (entries whole) in
-      let size : base + 16 - base ≡ length h = rw length-header (omega arith) in
-      let e₀ = part-filled h o x base (base + 16 - base) size (omega arith) ex in
+      let size : base + headerLength - base ≡ length h = rw length-header (omega arith) in
+      let e₀ = part-filled h o x base (base + headerLength - base) size (omega arith) ex in
       rw (entries-stores _ base e₁ e₂, e₀, record-length, record-is)
-      (ap (λ (y : List ℕ). filled y (16 + 9 * (n + m))) (sets-join h l o base (base + 16) (rw length-header)))
+      (ap (λ (y : List ℕ). filled y (headerLength + entryLength * (n + m))) (sets-join h l o base (base + headerLength) (rw length-header)))

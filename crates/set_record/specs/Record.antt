@@ -7,13 +7,13 @@ use lib.ListN.{length}
 use lib.Seq.{sets}
 use Rattle.le.specs.Le.{u64At}
 use Rattle.sets.specs.Base.{Val, none, some}
-use Rattle.layout.specs.Record.{Record, bytesOf}
+use Rattle.layout.specs.Record.{valueLength, Record, bytesOf}
 use Rattle.entries.specs.Entries.{entriesOf}
 use Rattle.station_state.specs.Layout.{member}
 
 -- by address: its value among those from `from`, if the set from `at` has it
 abbrev pub valuesAt : List ℕ → ℕ → ℕ → ℕ → Val
-valuesAt s at from a = cond (member s at a) (some (u64At s (from + a * 8))) none
+valuesAt s at from a = cond (member s at a) (some (u64At s (from + a * valueLength))) none
 
 -- reads: the set from ra with the values from rv; writes: the set from wa with the values from wv
 abbrev pub recordFrom : List ℕ → ℕ → ℕ → ℕ → ℕ → ℕ → ℕ → ℕ → ℕ → Record

@@ -7,11 +7,12 @@ use lib.ListN.{set}
 use Rattle.le.specs.Le.{u64At, setU64}
 use Rattle.cells.specs.Loops.{rank}
 use Rattle.station_state.specs.Layout.{member}
+use Rattle.layout.specs.Record.{headerLength, valueLength}
 
 -- entry i of k: address a, if it is in the set from `at`, with its value from `values`
 unfoldable pub entryOne : List ℕ → List ℕ → ℕ → ℕ → ℕ → ℕ → ℕ → ℕ → List ℕ
 entryOne o s base at values k i a =
-    cond (member s at a) (setU64 (set o (base + 16 + i) a) (base + 16 + k + i * 8) (u64At s (values + a * 8))) o
+    cond (member s at a) (setU64 (set o (base + headerLength + i) a) (base + headerLength + k + i * valueLength) (u64At s (values + a * valueLength))) o
 
 -- the members below n, from entry i on: the one at a comes behind as many as are below it
 unfoldable pub entriesTo : List ℕ → List ℕ → ℕ → ℕ → ℕ → ℕ → ℕ → ℕ → List ℕ

@@ -8,6 +8,7 @@ ghost use Rattle.station_state.specs.Layout.{member as Layout·member};
 ghost use Rattle.set_record.specs.Record.{recordFrom, filled, recordFilled};
 ghost use Rattle.set_record.specs.Stores.{entryOne, entriesTo};
 ghost use Rattle.set_record.specs.Spans.{memberFrom, spanTo};
+ghost use Rattle.layout.specs.Record.{valueLength, mostEntries, longestRecord};
 
 fn one_if(yes: bool) -> usize
     ensures { λ r. ⌜ (r ≡ cond yes 1 0) × (r ≤ 1) ⌝ }
@@ -60,12 +61,16 @@ fn put_entry(
     i: usize,
     a: usize,
 ) -> usize
-    requires { ⌜ (at + 32 ≤ length (now s)) × (values + 2048 ≤ length (now s)) × (base + 4624 ≤ length (now out)) × (k ≤ 512) × (i < 512) × (a < 256) ⌝ }
+    requires { ⌜ (at + 32 ≤ length (now s)) × (values + 256 * valueLength ≤ length (now s)) × (base + longestRecord ≤ length (now out)) × (k ≤ 2 * mostEntries) × (i < 2 * mostEntries) × (a < 256) ⌝ }
     ensures { λ r. ⌜ filled (now (out .exit)) r ≡ filled (entryOne (now (out .entry)) (now (s .entry)) base at values k i a) (i + cond (Layout·member (now (s .entry)) at a) 1 0) ⌝ }
 {
     if station_state::member(s, at, a) {
-        le::put_u8(out, base + 16 + i, a as u8);
-        le::put_u64(out, base + 16 + k + i * 8, le::get_u64(s, values + a * 8));
+        le::put_u8(out, base + record::HEADER + i, a as u8);
+        le::put_u64(
+            out,
+            base + record::HEADER + k + i * record::VALUE,
+            le::get_u64(s, values + a * record::VALUE),
+        );
         return i + 1;
     }
     i
@@ -82,7 +87,7 @@ fn put_page(
     i: usize,
     p: usize,
 ) -> usize
-    requires { ⌜ (at + 32 ≤ length (now s)) × (values + 2048 ≤ length (now s)) × (base + 4624 ≤ length (now out)) × (k ≤ 512) × (i ≤ 504) × (p < 32) ⌝ }
+    requires { ⌜ (at + 32 ≤ length (now s)) × (values + 256 * valueLength ≤ length (now s)) × (base + longestRecord ≤ length (now out)) × (k ≤ 2 * mostEntries) × (i + 8 ≤ 2 * mostEntries) × (p < 32) ⌝ }
     ensures { λ r. ⌜ filled (now (out .exit)) r ≡ filled (spanTo (now (out .entry)) (now (s .entry)) base at values k i (p * 8) 8) (i + rank (memberFrom (now (s .entry)) at (p * 8)) 8) ⌝ }
 {
     if s[at + p] == 0 {
@@ -100,7 +105,7 @@ fn put_page(
 
 // Puts the addresses of the set from `at` with their values, from entry i of k on.
 fn put_entries(out: &mut [u8], s: &[u8], base: usize, at: usize, values: usize, k: usize, i: usize)
-    requires { ⌜ (at + 32 ≤ length (now s)) × (values + 2048 ≤ length (now s)) × (base + 4624 ≤ length (now out)) × (k ≤ 512) × (i ≤ 256) ⌝ }
+    requires { ⌜ (at + 32 ≤ length (now s)) × (values + 256 * valueLength ≤ length (now s)) × (base + longestRecord ≤ length (now out)) × (k ≤ 2 * mostEntries) × (i ≤ mostEntries) ⌝ }
     ensures { λ _. ⌜ now (out .exit) ≡ entriesTo (now (out .entry)) (now (s .entry)) base at values k i 256 ⌝ }
 {
     let mut j = i;
@@ -126,13 +131,13 @@ pub fn put_record(
     station: u32,
     kind: u32,
 ) -> usize
-    requires { ⌜ (reads + 32 ≤ length (now s)) × («read_values» + 2048 ≤ length (now s)) × (writes + 32 ≤ length (now s)) × («written_values» + 2048 ≤ length (now s)) × (base + 4624 ≤ length (now out)) × (station < 256) × (kind < 256) ⌝ }
-    ensures { λ r. ⌜ (filled (now (out .exit)) r ≡ recordFilled (now (out .entry)) base (recordFrom (now (s .entry)) reads «read_values» writes «written_values» commit transaction station kind)) × (r ≤ 4624) ⌝ }
+    requires { ⌜ (reads + 32 ≤ length (now s)) × («read_values» + 256 * valueLength ≤ length (now s)) × (writes + 32 ≤ length (now s)) × («written_values» + 256 * valueLength ≤ length (now s)) × (base + longestRecord ≤ length (now out)) × (station < 256) × (kind < 256) ⌝ }
+    ensures { λ r. ⌜ (filled (now (out .exit)) r ≡ recordFilled (now (out .entry)) base (recordFrom (now (s .entry)) reads «read_values» writes «written_values» commit transaction station kind)) × (r ≤ longestRecord) ⌝ }
 {
     let n = count(s, reads);
     let m = count(s, writes);
     let k = n + m;
-    let e = base + 16;
+    let e = base + record::HEADER;
     record::put_header(
         &mut out[base..e],
         n as u32,
@@ -144,5 +149,5 @@ pub fn put_record(
     );
     put_entries(out, s, base, reads, read_values, k, 0);
     put_entries(out, s, base, writes, written_values, k, n);
-    16 + 9 * k
+    record::HEADER + record::ENTRY * k
 }

@@ -9,11 +9,11 @@ use lib.ListN.{length}
 use lib.Dec.{eqb, ltb}
 use borrow.Author.Tests.{eq-eqb, ne-eqb}
 use Rattle.sets.specs.Laws.{byB, byEq, eqb-yes, eqb-no, ltb-yes, ltb-no}
-use Rattle.message.specs.Layout.{kindOf, stationOf, pageOf}
+use Rattle.message.specs.Layout.{messageLength, kindOf, stationOf, pageOf}
 use Rattle.message.specs.Number.{downNumber}
 use Rattle.message.specs.Accepted.{DownAccepted, down-accepted}
 use Rattle.station_state.specs.Layout.{station}
-use Rattle.station_delivery.specs.Delivery.{Named, fitsB}
+use Rattle.station_delivery.specs.Delivery.{ForStations, Named, fitsB}
 use Rattle.station.specs.Station.{checkStepB}
 
 -- of the kinds from 19 on, without 19 to 22, only 23 is left
@@ -43,12 +43,15 @@ page-of at m a h =
     zero-page m
     ((a .invalidate (last (kindOf m) (a .kind-to) (ltb-no _ _ e) (eqb-no _ _ q₁) h (eqb-no _ _ q₂) (eqb-no _ _ q₃))) .unnamed-2 0 (omega arith))))))
 
+pub for-stations : (at : ℕ) (m : List ℕ) → downNumber at m ≡ 0 → ForStations m
+for-stations at m e = let a = down-accepted at m e in (a .kind-from, omega (arith, a .kind-to))
+
 pub named-of : (at : ℕ) (m : List ℕ) → downNumber at m ≡ 0 → Named m
 named-of at m e =
     let a = down-accepted at m e in
-    (page-of at m a, (λ q. (a .callback q) .requester-is), (λ l. (a .page (omega arith)) .object-is), omega (arith, a .kind-to))
+    (page-of at m a, (λ q. (a .callback q) .requester-is), (λ l. (a .page (omega arith)) .object-is), for-stations at m e)
 
-pub long-enough : (at : ℕ) (m : List ℕ) → downNumber at m ≡ 0 → 112 ≤ length m
+pub long-enough : (at : ℕ) (m : List ℕ) → downNumber at m ≡ 0 → messageLength ≤ length m
 long-enough at m e = omega (arith, (down-accepted at m e) .length-is)
 
 -- the step's number is 0: so is the message's

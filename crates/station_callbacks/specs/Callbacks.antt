@@ -7,7 +7,7 @@ use lib.ListN.{take, drop, length}
 use lib.Seq.{sets}
 use lib.Dec.{eqb}
 use Rattle.sets.specs.Base.{snoc}
-use Rattle.message.specs.Layout.{upMessage}
+use Rattle.message.specs.Layout.{messageLength, upMessage}
 use Rattle.station_state.specs.Layout.{keptOf, kind, namedFrom, writtenSetFrom}
 use Rattle.station_state.specs.Changes.{unkeepB, closedB}
 use Rattle.station_pages.specs.Pages.{droppedB, dropPagesB, markB, writtenPagesB}
@@ -75,7 +75,7 @@ post o d = posted (d .state) (sets o 0 (flat (d .sent))) (length (d .sent))
 
 -- one message more, where n stand
 abbrev pub postedOne : List ℕ → List ℕ → ℕ → List ℕ → Posted
-postedOne s o n m = posted s (sets o (n * 112) m) (n + 1)
+postedOne s o n m = posted s (sets o (n * messageLength) m) (n + 1)
 
 unfoldable pub callbackPosted : ℕ → ℕ → ℕ → List ℕ → List ℕ → List ℕ → ℕ → Posted
 callbackPosted i r t x s o n = let y = droppedB x s in postedOne (dropPagesB y (markB x s)) o n (doneB i r t y)

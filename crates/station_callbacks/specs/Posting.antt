@@ -15,10 +15,11 @@ use Rattle.message.specs.Stores.{length-up}
 use Rattle.station_state.specs.Layout.{keptOf, namedFrom}
 use Rattle.station_state.specs.Changes.{unkeepB, closedB}
 use Rattle.station_callbacks.specs.Callbacks.{Sends, sends, setsAt, doCallbackB, notKeptB, doKeptB, keptTo, closeB, flat, Posted, posted, post, callbackPosted, keptPosted, keptPostedTo, closePosted}
+use Rattle.message.specs.Layout.{messageLength}
 
 -- every message has 112 bytes
 abbrev pub Whole : List (List ℕ) → Type 0
-Whole ms = length (flat ms) ≡ length ms * 112
+Whole ms = length (flat ms) ≡ length ms * messageLength
 
 flat-snoc : (ms : List (List ℕ)) (m : List ℕ) → flat (snoc ms m) ≡ flat ms ++ m
 unfolding flat
@@ -28,12 +29,12 @@ flat-snoc (x ∷ ms) m = rw (flat-snoc ms m) (sym (append-assoc x (flat ms) m))
 length-snoc : (ms : List (List ℕ)) (m : List ℕ) → length (snoc ms m) ≡ length ms + 1
 length-snoc ms m = length-append ms (m ∷ [])
 
-pub whole-snoc : (ms : List (List ℕ)) (m : List ℕ) → Whole ms → length m ≡ 112 → Whole (snoc ms m)
+pub whole-snoc : (ms : List (List ℕ)) (m : List ℕ) → Whole ms → length m ≡ messageLength → Whole (snoc ms m)
 whole-snoc ms m h e = rw (flat-snoc ms m, length-append (flat ms) m, length-snoc ms m, h, e) (omega arith)
 
 -- one message more
-post-more : (o : List ℕ) (ms : List (List ℕ)) (m : List ℕ) → Whole ms → sets (sets o 0 (flat ms)) (length ms * 112) m ≡ sets o 0 (flat (snoc ms m))
-post-more o ms m h = sets-join (flat ms) m o 0 (length ms * 112) (omega (arith, h)) ∙ ap (sets o 0) (sym (flat-snoc ms m))
+post-more : (o : List ℕ) (ms : List (List ℕ)) (m : List ℕ) → Whole ms → sets (sets o 0 (flat ms)) (length ms * messageLength) m ≡ sets o 0 (flat (snoc ms m))
+post-more o ms m h = sets-join (flat ms) m o 0 (length ms * messageLength) (omega (arith, h)) ∙ ap (sets o 0) (sym (flat-snoc ms m))
 
 module _ (i : ℕ) where
   whole-call : (r t : ℕ) (x : List ℕ) (d : Sends) → Whole (d .sent) → Whole ((doCallbackB i r t x d) .sent)

@@ -10,21 +10,21 @@ use Rattle.le.specs.Width.{bytes}
 use Rattle.sets.specs.Base.{Val}
 use Rattle.layout.specs.Record.{Record, bytesOf}
 use Rattle.message.specs.Layout.{upMessage}
-use Rattle.station_state.specs.Layout.{versionOf, number, station, kind, readSetFrom, writtenSetFrom}
+use Rattle.station_state.specs.Layout.{readValueFrom, writtenValueFrom, versionOf, number, station, kind, readSetFrom, writtenSetFrom}
 use Rattle.station_pages.specs.Pages.{usedPageB, usedPagesB}
 use Rattle.set_record.specs.Record.{valuesAt, recordFrom}
 pub use Rattle.set_record.specs.Record.{Filled, filled}
 
 -- the recorded reads and the own last writes, by address
 abbrev pub readsOf : List ℕ → ℕ → Val
-readsOf s = valuesAt s readSetFrom 2048
+readsOf s = valuesAt s readSetFrom readValueFrom
 
 abbrev pub writesOf : List ℕ → ℕ → Val
-writesOf s = valuesAt s writtenSetFrom 4096
+writesOf s = valuesAt s writtenSetFrom writtenValueFrom
 
 -- "commit number (4; 0 on the way up)"
 abbrev pub recordSent : List ℕ → Record
-recordSent s = recordFrom s readSetFrom 2048 writtenSetFrom 4096 0 (number s) (station s) (kind s)
+recordSent s = recordFrom s readSetFrom readValueFrom writtenSetFrom writtenValueFrom 0 (number s) (station s) (kind s)
 
 -- "0 for an unused page; all 0 from a locking station"
 unfoldable pub versionSent : List ℕ → ℕ → ℕ

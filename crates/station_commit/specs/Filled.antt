@@ -12,11 +12,12 @@ use Rattle.le.specs.Laws.{setU32-is}
 use Rattle.layout.specs.Record.{bytesOf}
 use Rattle.message.specs.Layout.{upMessage}
 use Rattle.message.specs.Stores.{length-up}
-use Rattle.station_state.specs.Layout.{number, station, kind, readSetFrom, writtenSetFrom}
+use Rattle.station_state.specs.Layout.{readValueFrom, writtenValueFrom, number, station, kind, readSetFrom, writtenSetFrom}
 use Rattle.station_pages.specs.Pages.{usedPagesB}
 use Rattle.set_record.specs.Record.{recordFrom, Filled, filled, recordFilled}
 use Rattle.station_commit.specs.Commit.{recordSent, versionSent, versionsSent, commitBytes, commitFilled}
 use Rattle.station_commit.specs.Stores.{versionsTo}
+use Rattle.message.specs.Commit.{versionsAt, versionWidth, recordAt}
 
 -- THE VERSIONS
 
@@ -32,32 +33,32 @@ unfolding versionsSent
 length-versions s zero p = refl
 length-versions s (suc n) p = rw (length-append, length-bytes, length-versions s n (suc p)) (omega arith)
 
-versions-are : (c s : List ℕ) (n : ℕ) → versionsTo c s n ≡ sets c 112 (versionsSent s n 0)
+versions-are : (c s : List ℕ) (n : ℕ) → versionsTo c s n ≡ sets c versionsAt (versionsSent s n 0)
 unfolding versionsTo versionsSent
 versions-are c s zero = refl
 versions-are c s (suc n) = one (versions-are c s n) (versions-snoc s n 0)
   where
-    one : {t y : List ℕ} → t ≡ sets c 112 (versionsSent s n 0) → y ≡ versionsSent s n 0 ++ bytes 4 (versionSent s (0 + n))
-        → setU32 t (112 + n * 4) (versionSent s n) ≡ sets c 112 y
+    one : {t y : List ℕ} → t ≡ sets c versionsAt (versionsSent s n 0) → y ≡ versionsSent s n 0 ++ bytes 4 (versionSent s (0 + n))
+        → setU32 t (versionsAt + n * versionWidth) (versionSent s n) ≡ sets c versionsAt y
     one et ey =
         rw (et, ey, setU32-is)
-        (sets-join (versionsSent s n 0) (bytes 4 (versionSent s n)) c 112 (112 + n * 4) (rw length-versions)
-        ∙ ap (λ (q : ℕ). sets c 112 (versionsSent s n 0 ++ bytes 4 (versionSent s q))) (omega arith))
+        (sets-join (versionsSent s n 0) (bytes 4 (versionSent s n)) c versionsAt (versionsAt + n * versionWidth) (rw length-versions)
+        ∙ ap (λ (q : ℕ). sets c versionsAt (versionsSent s n 0 ++ bytes 4 (versionSent s q))) (omega arith))
 
 -- THE COMMIT
 
 -- message, versions and record, each behind the one before
 pub commit-filled : (s c : List ℕ) {t u w y r : ℕ} {c₁ c₂ c₃ : List ℕ} → t ≡ number s → u ≡ usedPagesB s → w ≡ station s → y ≡ kind s
     → c₁ ≡ sets c 0 (upMessage 3 (station s) 0 0 t u 0) → c₂ ≡ versionsTo c₁ s 32
-    → filled c₃ r ≡ recordFilled c₂ 240 (recordFrom s readSetFrom 2048 writtenSetFrom 4096 0 t w y)
-    → filled c₃ (240 + r) ≡ commitFilled s c
+    → filled c₃ r ≡ recordFilled c₂ recordAt (recordFrom s readSetFrom readValueFrom writtenSetFrom writtenValueFrom 0 t w y)
+    → filled c₃ (recordAt + r) ≡ commitFilled s c
 unfolding commitBytes
 commit-filled s c {c₁ = c₁} et eu ew ey e₁ e₂ e₃ =
     let x = upMessage 3 (station s) 0 0 (number s) (usedPagesB s) 0 in
     let v = versionsSent s 32 0 in
     let b = bytesOf (recordSent s) in
     let f = rw (et, ew, ey) at e₃ in
-    let bytes-are : sets (sets (sets c 0 x) 112 v) 240 b ≡ sets c 0 (x ++ (v ++ b)) =
-    sets-join v b (sets c 0 x) 112 240 (rw length-versions) ∙ sets-join x (v ++ b) c 0 112 (rw length-up) in
-    let count-is : 240 + length b ≡ length (x ++ (v ++ b)) = simp (length-append, length-up, length-versions) (omega arith) in
+    let bytes-are : sets (sets (sets c 0 x) versionsAt v) recordAt b ≡ sets c 0 (x ++ (v ++ b)) =
+    sets-join v b (sets c 0 x) versionsAt recordAt (rw length-versions) ∙ sets-join x (v ++ b) c 0 versionsAt (rw length-up) in
+    let count-is : recordAt + length b ≡ length (x ++ (v ++ b)) = simp (length-append, length-up, length-versions) (omega arith) in
     rw (ap (λ (z : Filled). z .out) f, ap (λ (z : Filled). z .count) f, e₂, versions-are c₁ s 32, e₁, et, eu, bytes-are, count-is)

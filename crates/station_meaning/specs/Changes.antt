@@ -18,9 +18,9 @@ use Rattle.cells.specs.Cells.{Cells, reg, off, view, view-col, Holds, put8, put
 use Rattle.cells.specs.Sets.{or8, on8, on32, off32}
 use Rattle.line.specs.Messages.{pageOf}
 use Rattle.line.specs.Station.{Station, Idle, ForRead, ForWrite, ForCommit, Kept, NotKept, KeptCall, setNum, setOpened, setWait, setRd, setWr, setCopy, setOl, setWl, setKept, recordRead, writeLocal, loosen, closed}
-use Rattle.station_state.specs.Layout.{number, copyOf, writtenSet, locksFrom, namedFrom}
+use Rattle.station_state.specs.Layout.{copyCell, waitingValueFrom, numberFrom, wholeFrom, readSetFrom, writtenSetFrom, openFrom, waitFrom, addressFrom, copyFrom, readValueFrom, writtenValueFrom, keptFrom, valueWidth, numberWidth, readValueCell, writtenValueCell, waitingValueCell, keptCell, numberCell, wholeCell, readSetCell, writtenSetCell, locksCell, namedCell, openCell, waitCell, addressCell, table, number, copyOf, writtenSet, locksFrom, namedFrom}
 use Rattle.station_state.specs.Changes.{addTo, pageOn, pageOff, clearTo, copyTo, beginB, recordReadB, writeLocalB, idleB, forReadB, forWriteB, forCommitB, loosenB, keepB, unkeepB, closedB}
-use Rattle.station_meaning.specs.Meant.{table, within, valueIf, keptIf, meant, Is, start, done, done-flags}
+use Rattle.station_meaning.specs.Meant.{within, valueIf, keptIf, meant, Is, start, done, done-flags}
 use Rattle.station_meaning.specs.Named.{named, named-is}
 use Rattle.station_meaning.specs.Tests.{has-if, number-cell, copy-cell, copy-lt}
 
@@ -79,27 +79,27 @@ module _ {s₀ s : List ℕ} {C : Cells} (h : Holds table 0 s₀ s C) where
       subst (Holds table 0 s₀ (set (clearTo s at n) (at + n) 0)) (row-more C k 0 n (λ _. 0))
       (put8 (clear-to k at w pi pj here n (omega arith)) k 0 n 0 (at + n) w (here n) pi (rw pj q) (omega arith))
 
-  copy-to : (r : ℕ) (sets : List ℕ) → r < 8 → AllBytes sets → (n : ℕ) → n ≤ 32 → Holds table 0 s₀ (copyTo s (namedFrom r) sets n) (rowTo C 13 r n (λ j. getD sets j 0))
+  copy-to : (r : ℕ) (sets : List ℕ) → r < 8 → AllBytes sets → (n : ℕ) → n ≤ 32 → Holds table 0 s₀ (copyTo s (namedFrom r) sets n) (rowTo C namedCell r n (λ j. getD sets j 0))
   unfolding copyTo
-  copy-to r sets l b zero q = subst (Holds table 0 s₀ s) (row-none C 13 r (λ j. getD sets j 0)) h
+  copy-to r sets l b zero q = subst (Holds table 0 s₀ s) (row-none C namedCell r (λ j. getD sets j 0)) h
   copy-to r sets l b (suc n) q =
-      subst (Holds table 0 s₀ (set (copyTo s (namedFrom r) sets n) (namedFrom r + n) (getD sets n 0))) (row-more C 13 r n (λ j. getD sets j 0))
-      (put8 (copy-to r sets l b n (omega arith)) 13 r n (getD sets n 0) (namedFrom r + n) refl (omega arith) l q (b n))
+      subst (Holds table 0 s₀ (set (copyTo s (namedFrom r) sets n) (namedFrom r + n) (getD sets n 0))) (row-more C namedCell r n (λ j. getD sets j 0))
+      (put8 (copy-to r sets l b n (omega arith)) namedCell r n (getD sets n 0) (namedFrom r + n) refl (omega arith) l q (b n))
 
 module _ {i : ℕ} {s : List ℕ} {m : Station} (h : Is i s m) where
   pub begin-is : number s + 1 < 2 ^ 32 → Is i (beginB s) (setOpened (setNum m (m .num + 1)) true)
   unfolding beginB
   begin-is l =
       done-flags h (λ (n : Station). setOpened (setNum n (n .num + 1)) true)
-      (put8 (put32 (start h) 6 0 0 (number s + 1) 6312 refl refl (omega arith) (omega arith) l) 16 0 0 1 6710 refl refl (omega arith) (omega arith) (omega arith))
+      (put8 (put32 (start h) numberCell 0 0 (number s + 1) numberFrom refl refl (omega arith) (omega arith) l) openCell 0 0 1 openFrom refl refl (omega arith) (omega arith) (omega arith))
       (ap (λ (x : ℕ). setOpened (setNum (meant s) (x + 1)) true) (number-cell h)) refl (omega arith) (h .wait-flag)
 
   pub recordRead-is : (a : ℕ) → a < 256 → Is i (recordReadB a s) (recordRead a m)
   unfolding recordReadB recordRead addTo
   recordRead-is a l =
       done h (recordRead a)
-      (put64 (on8 (start h) 10 0 (a / 8) (a % 8) (6356 + a / 8) (omega arith) (omega arith) (omega arith) refl (omega arith)) 1 0 a (copyOf s a) (2048 + a * 8) refl (omega arith) (omega arith) l (copy-lt h a l))
-      (ap (setRd (meant s)) (value-on (view table 0 s 10 0) (view table 0 s 1 0) a (copyOf s a) ∙ ap (λ (x : ℕ). upd ((meant s) .rd) a (some x)) (copy-cell h a l)))
+      (put64 (on8 (start h) readSetCell 0 (a / 8) (a % 8) (readSetFrom + a / 8) (omega arith) (omega arith) (omega arith) refl (omega arith)) readValueCell 0 a (copyOf s a) (readValueFrom + a * valueWidth) refl (omega arith) (omega arith) l (copy-lt h a l))
+      (ap (setRd (meant s)) (value-on (view table 0 s readSetCell 0) (view table 0 s readValueCell 0) a (copyOf s a) ∙ ap (λ (x : ℕ). upd ((meant s) .rd) a (some x)) (copy-cell h a l)))
       (refl, refl, refl)
 
   pub writeLocal-is : (a v : ℕ) → a < 256 → v < 2 ^ 64 → Is i (writeLocalB a v s) (writeLocal a v m)
@@ -107,9 +107,9 @@ module _ {i : ℕ} {s : List ℕ} {m : Station} (h : Is i s m) where
   writeLocal-is a v l q =
       done h (writeLocal a v)
       (put64
-      (put64 (on8 (start h) 11 0 (a / 8) (a % 8) (6388 + a / 8) (omega arith) (omega arith) (omega arith) refl (omega arith)) 2 0 a v (4096 + a * 8) refl (omega arith) (omega arith) l q)
-      0 0 a v (a * 8) refl (omega arith) (omega arith) l q)
-      (ap (λ (x : ℕ → Val). setCopy (setWr (meant s) x) (upd ((meant s) .copy) a v)) (value-on (view table 0 s 11 0) (view table 0 s 2 0) a v))
+      (put64 (on8 (start h) writtenSetCell 0 (a / 8) (a % 8) (writtenSetFrom + a / 8) (omega arith) (omega arith) (omega arith) refl (omega arith)) writtenValueCell 0 a v (writtenValueFrom + a * valueWidth) refl (omega arith) (omega arith) l q)
+      copyCell 0 a v (copyFrom + a * valueWidth) refl (omega arith) (omega arith) l q)
+      (ap (λ (x : ℕ → Val). setCopy (setWr (meant s) x) (upd ((meant s) .copy) a v)) (value-on (view table 0 s writtenSetCell 0) (view table 0 s writtenValueCell 0) a v))
       (refl, refl, refl)
 
   -- what is out
@@ -117,13 +117,13 @@ module _ {i : ℕ} {s : List ℕ} {m : Station} (h : Is i s m) where
   pub idle-is : Is i (idleB s) (setWait m Idle)
   unfolding idleB
   idle-is =
-      done-flags h (λ (n : Station). setWait n Idle) (put8 (start h) 17 0 0 0 6711 refl refl (omega arith) (omega arith) (omega arith)) refl refl (h .open-flag) (omega arith)
+      done-flags h (λ (n : Station). setWait n Idle) (put8 (start h) waitCell 0 0 0 waitFrom refl refl (omega arith) (omega arith) (omega arith)) refl refl (h .open-flag) (omega arith)
 
   pub forRead-is : (a : ℕ) → a < 256 → Is i (forReadB a s) (setWait m (ForRead a))
   unfolding forReadB
   forRead-is a l =
       done-flags h (λ (n : Station). setWait n (ForRead a))
-      (put8 (put8 (start h) 17 0 0 1 6711 refl refl (omega arith) (omega arith) (omega arith)) 18 0 0 a 6712 refl refl (omega arith) (omega arith) l) refl refl
+      (put8 (put8 (start h) waitCell 0 0 1 waitFrom refl refl (omega arith) (omega arith) (omega arith)) addressCell 0 0 a addressFrom refl refl (omega arith) (omega arith) l) refl refl
       (h .open-flag) (omega arith)
 
   pub forWrite-is : (a v : ℕ) → a < 256 → v < 2 ^ 64 → Is i (forWriteB a v s) (setWait m (ForWrite a v))
@@ -131,13 +131,13 @@ module _ {i : ℕ} {s : List ℕ} {m : Station} (h : Is i s m) where
   forWrite-is a v l q =
       done-flags h (λ (n : Station). setWait n (ForWrite a v))
       (put64
-      (put8 (put8 (start h) 17 0 0 2 6711 refl refl (omega arith) (omega arith) (omega arith)) 18 0 0 a 6712 refl refl (omega arith) (omega arith) l) 3 0 0 v 6144 refl refl
+      (put8 (put8 (start h) waitCell 0 0 2 waitFrom refl refl (omega arith) (omega arith) (omega arith)) addressCell 0 0 a addressFrom refl refl (omega arith) (omega arith) l) waitingValueCell 0 0 v waitingValueFrom refl refl
       (omega arith) (omega arith) q) refl refl (h .open-flag) (omega arith)
 
   pub forCommit-is : Is i (forCommitB s) (setWait m ForCommit)
   unfolding forCommitB
   forCommit-is =
-      done-flags h (λ (n : Station). setWait n ForCommit) (put8 (start h) 17 0 0 3 6711 refl refl (omega arith) (omega arith) (omega arith)) refl refl (h .open-flag)
+      done-flags h (λ (n : Station). setWait n ForCommit) (put8 (start h) waitCell 0 0 3 waitFrom refl refl (omega arith) (omega arith) (omega arith)) refl refl (h .open-flag)
       (omega arith)
 
   -- locks
@@ -146,24 +146,24 @@ module _ {i : ℕ} {s : List ℕ} {m : Station} (h : Is i s m) where
   unfolding addTo
   lockObject-is a l =
       done h (λ (n : Station). setOl n (upd (n .ol) a true))
-      (on8 (start h) 12 0 (a / 8) (a % 8) (6420 + a / 8) (omega arith) (omega arith) (omega arith) refl (omega arith))
-      (ap (setOl (meant s)) (addr-on (view table 0 s 12 0) a)) (refl, refl, refl)
+      (on8 (start h) locksCell 0 (a / 8) (a % 8) (locksFrom + a / 8) (omega arith) (omega arith) (omega arith) refl (omega arith))
+      (ap (setOl (meant s)) (addr-on (view table 0 s locksCell 0) a)) (refl, refl, refl)
 
-  pub lockWhole-is : (p : ℕ) → p < 32 → Is i (pageOn s 6320 p) (setWl m (upd (m .wl) p true))
+  pub lockWhole-is : (p : ℕ) → p < 32 → Is i (pageOn s wholeFrom p) (setWl m (upd (m .wl) p true))
   unfolding pageOn
   lockWhole-is p l =
-      done h (λ (n : Station). setWl n (upd (n .wl) p true)) (on32 (start h) 8 0 0 p 6320 refl (omega arith) (omega arith) refl l)
-      (ap (setWl (meant s)) (fun-ext (tb-set (view table 0 s 8 0 0) p))) (refl, refl, refl)
+      done h (λ (n : Station). setWl n (upd (n .wl) p true)) (on32 (start h) wholeCell 0 0 p wholeFrom refl (omega arith) (omega arith) refl l)
+      (ap (setWl (meant s)) (fun-ext (tb-set (view table 0 s wholeCell 0 0) p))) (refl, refl, refl)
 
   pub loosen-is : (p : ℕ) → p < 32 → Is i (loosenB p s) (loosen p (λ b. eqb (pageOf b) p && has (m .wr b)) m)
   unfolding loosenB loosen pageOff
   loosen-is p l =
-      let y : writtenSet s p ≡ view table 0 s 11 0 p = get8 (start h) 11 0 p (6388 + p) refl (omega arith) (omega arith) l in
+      let y : writtenSet s p ≡ view table 0 s writtenSetCell 0 p = get8 (start h) writtenSetCell 0 p (writtenSetFrom + p) refl (omega arith) (omega arith) l in
       done h (λ (n : Station). loosen p (λ b. eqb (pageOf b) p && has (n .wr b)) n)
-      (off32 (or8 (start h) 12 0 p (writtenSet s p) (6420 + p) (omega arith) (omega arith) l refl (h .bytes (6388 + p))) 8 0 0 p 6320 refl (omega arith) (omega arith) refl)
+      (off32 (or8 (start h) locksCell 0 p (writtenSet s p) (locksFrom + p) (omega arith) (omega arith) l refl (h .bytes (writtenSetFrom + p))) wholeCell 0 0 p wholeFrom refl (omega arith) (omega arith) refl)
       (λ t.
-      setWl (setOl (meant s) (join-on (view table 0 s 12 0) (view table 0 s 11 0) (view table 0 s 2 0) p (writtenSet s p) y t))
-      (fun-ext (λ q. tb-clear-all 32 (view table 0 s 8 0 0) p q l (cell-lt (start h) 8 0 0)) t))
+      setWl (setOl (meant s) (join-on (view table 0 s locksCell 0) (view table 0 s writtenSetCell 0) (view table 0 s writtenValueCell 0) p (writtenSet s p) y t))
+      (fun-ext (λ q. tb-clear-all 32 (view table 0 s wholeCell 0 0) p q l (cell-lt (start h) wholeCell 0 0)) t))
       (refl, refl, refl)
 
   -- kept callbacks
@@ -172,15 +172,15 @@ module _ {i : ℕ} {s : List ℕ} {m : Station} (h : Is i s m) where
   unfolding keepB
   keep-is r t sets l p q b =
       done h (λ (n : Station). setKept n (upd (n .kept) r (KeptCall t (named sets))))
-      (put32 (copy-to (start h) r sets l b 32 (omega arith)) 4 r 0 t (6152 + r * 4) refl (omega arith) l (omega arith) q)
-      (ap (setKept (meant s)) (kept-on (λ r. view table 0 s 4 r 0) (view table 0 s 13) r t sets p (λ q j. view-col table 0 s 13 q j))) (refl, refl, refl)
+      (put32 (copy-to (start h) r sets l b 32 (omega arith)) keptCell r 0 t (keptFrom + r * numberWidth) refl (omega arith) l (omega arith) q)
+      (ap (setKept (meant s)) (kept-on (λ r. view table 0 s keptCell r 0) (view table 0 s namedCell) r t sets p (λ q j. view-col table 0 s namedCell q j))) (refl, refl, refl)
 
   pub unkeep-is : (r : ℕ) → r < 8 → Is i (unkeepB r s) (setKept m (upd (m .kept) r NotKept))
   unfolding unkeepB
   unkeep-is r l =
       done h (λ (n : Station). setKept n (upd (n .kept) r NotKept))
-      (put32 (start h) 4 r 0 0 (6152 + r * 4) refl (omega arith) l (omega arith) (omega arith))
-      (ap (setKept (meant s)) (kept-off (λ r. view table 0 s 4 r 0) (view table 0 s 13) r)) (refl, refl, refl)
+      (put32 (start h) keptCell r 0 0 (keptFrom + r * numberWidth) refl (omega arith) l (omega arith) (omega arith))
+      (ap (setKept (meant s)) (kept-off (λ r. view table 0 s keptCell r 0) (view table 0 s namedCell) r)) (refl, refl, refl)
 
   -- the end
 
@@ -188,20 +188,20 @@ module _ {i : ℕ} {s : List ℕ} {m : Station} (h : Is i s m) where
   unfolding closedB closed idleB
   closed-is =
       let past : (k : ℕ) → (reg table k) .cols ≡ 32 → (j : ℕ) → 32 ≤ j → view table 0 s k 0 j ≡ 0 = λ k e j q. view-col table 0 s k 0 j (rw e q) in
-      let no-whole = put32 (start h) 8 0 0 0 6320 refl refl (omega arith) (omega arith) (omega arith) in
-      let no-locks = clear-to no-whole 12 6420 refl (omega arith) refl (λ n. omega arith) 32 (omega arith) in
-      let no-writes = clear-to no-locks 11 6388 refl (omega arith) refl (λ n. omega arith) 32 (omega arith) in
-      let no-reads = clear-to no-writes 10 6356 refl (omega arith) refl (λ n. omega arith) 32 (omega arith) in
-      let idle = put8 no-reads 17 0 0 0 6711 refl refl (omega arith) (omega arith) (omega arith) in
-      done-flags h closed (put8 idle 16 0 0 0 6710 refl refl (omega arith) (omega arith) (omega arith))
+      let no-whole = put32 (start h) wholeCell 0 0 0 wholeFrom refl refl (omega arith) (omega arith) (omega arith) in
+      let no-locks = clear-to no-whole locksCell locksFrom refl (omega arith) refl (λ n. omega arith) 32 (omega arith) in
+      let no-writes = clear-to no-locks writtenSetCell writtenSetFrom refl (omega arith) refl (λ n. omega arith) 32 (omega arith) in
+      let no-reads = clear-to no-writes readSetCell readSetFrom refl (omega arith) refl (λ n. omega arith) 32 (omega arith) in
+      let idle = put8 no-reads waitCell 0 0 0 waitFrom refl refl (omega arith) (omega arith) (omega arith) in
+      done-flags h closed (put8 idle openCell 0 0 0 openFrom refl refl (omega arith) (omega arith) (omega arith))
       (λ t.
       setOpened
       (setWait
       (setRd
       (setWr
-      (setOl (setWl (meant s) (fun-ext (λ q. tb-zero q) t)) (set-none (view table 0 s 12 0) (past 12 refl) t))
-      (value-none (view table 0 s 11 0) (view table 0 s 2 0) (past 11 refl) t))
-      (value-none (view table 0 s 10 0) (view table 0 s 1 0) (past 10 refl) t))
+      (setOl (setWl (meant s) (fun-ext (λ q. tb-zero q) t)) (set-none (view table 0 s locksCell 0) (past locksCell refl) t))
+      (value-none (view table 0 s writtenSetCell 0) (view table 0 s writtenValueCell 0) (past writtenSetCell refl) t))
+      (value-none (view table 0 s readSetCell 0) (view table 0 s readValueCell 0) (past readSetCell refl) t))
       Idle)
       false)
       refl (omega arith) (omega arith)

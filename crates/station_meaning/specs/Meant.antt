@@ -1,40 +1,17 @@
--- What the bytes of a station's state mean: docs/STATE.md as a table of regions, and the station of crate line read from its cells.
+-- What the bytes of a station's state mean: docs/STATE.md as the table of regions of crate station_state, and the station of crate line read from its cells.
 use Prim.Native.Nat.{ℕ, _+_, _*_, _/_, _%_, _≤_}
 use mathlib.Core.Path.{_≡_, ap, _∙_}
 use mathlib.Core.Bool.{Bool, not, cond}
-use mathlib.Core.List.{List, [], _∷_}
+use mathlib.Core.List.{List}
 use native.Mathlib.Omega.{arith}
 use lib.Dec.{eqb}
 use lib.ListN.{length}
 use Rattle.sets.specs.Base.{Val, none, some}
 use Rattle.cells.specs.Num.{AllBytes}
 use Rattle.cells.specs.Bits.{tb}
-use Rattle.cells.specs.Cells.{Region, region, Cells, view, Holds, begin}
+use Rattle.cells.specs.Cells.{Cells, view, Holds, begin}
 use Rattle.line.specs.Station.{Station, Wait, Idle, ForRead, ForWrite, ForCommit, Kept, NotKept, KeptCall}
-
--- width, rows, columns; one behind the other
-abbrev pub table : List Region
-table =
-    region 8 1 256  -- 0 copy
-    ∷ region 8 1 256  -- 1 read value
-    ∷ region 8 1 256  -- 2 written value
-    ∷ region 8 1 1  -- 3 waiting value
-    ∷ region 4 8 1  -- 4 kept, by requester
-    ∷ region 4 1 32  -- 5 version
-    ∷ region 4 1 1  -- 6 number
-    ∷ region 4 1 1  -- 7 cached
-    ∷ region 4 1 1  -- 8 whole
-    ∷ region 1 1 32  -- 9 unavailable
-    ∷ region 1 1 32  -- 10 read set
-    ∷ region 1 1 32  -- 11 written set
-    ∷ region 1 1 32  -- 12 locks
-    ∷ region 1 8 32  -- 13 named, by requester
-    ∷ region 1 1 1  -- 14 station
-    ∷ region 1 1 1  -- 15 kind
-    ∷ region 1 1 1  -- 16 open
-    ∷ region 1 1 1  -- 17 wait
-    ∷ region 1 1 1  -- 18 address
-    ∷ []
+use Rattle.station_state.specs.Layout.{stateLength, copyCell, readValueCell, writtenValueCell, waitingValueCell, keptCell, versionCell, numberCell, cachedCell, wholeCell, unavailableCell, readSetCell, writtenSetCell, locksCell, namedCell, stationCell, kindCell, openCell, waitCell, addressCell, table}
 
 -- a set of addresses, kept as a byte for each page
 abbrev pub within : (ℕ → ℕ) → ℕ → Bool
@@ -55,19 +32,19 @@ keptIf t x = cond (eqb t 0) NotKept (KeptCall t x)
 abbrev pub meantC : Cells → Station
 meantC C =
     record {
-      kind = C 15 0 0;
-      num = C 6 0 0;
-      opened = not (eqb (C 16 0 0) 0);
-      cached = tb (C 7 0 0);
-      cver = λ p. C 5 0 p;
-      copy = λ a. C 0 0 a;
-      unav = within (C 9 0);
-      rd = λ a. valueIf (within (C 10 0) a) (C 1 0 a);
-      wr = λ a. valueIf (within (C 11 0) a) (C 2 0 a);
-      wait = waitOf (C 17 0 0) (C 18 0 0) (C 3 0 0);
-      ol = within (C 12 0);
-      wl = tb (C 8 0 0);
-      kept = λ r. keptIf (C 4 r 0) (within (C 13 r));
+      kind = C kindCell 0 0;
+      num = C numberCell 0 0;
+      opened = not (eqb (C openCell 0 0) 0);
+      cached = tb (C cachedCell 0 0);
+      cver = λ p. C versionCell 0 p;
+      copy = λ a. C copyCell 0 a;
+      unav = within (C unavailableCell 0);
+      rd = λ a. valueIf (within (C readSetCell 0) a) (C readValueCell 0 a);
+      wr = λ a. valueIf (within (C writtenSetCell 0) a) (C writtenValueCell 0 a);
+      wait = waitOf (C waitCell 0 0) (C addressCell 0 0) (C waitingValueCell 0 0);
+      ol = within (C locksCell 0);
+      wl = tb (C wholeCell 0 0);
+      kept = λ r. keptIf (C keptCell r 0) (within (C namedCell r));
     }
 
 -- the station that a state means
@@ -76,11 +53,11 @@ meant s = meantC (view table 0 s)
 
 -- state s means station m of number i; what number 1 asks of the flags, which the meaning alone does not tell, stands beside
 pub record Is (i : ℕ) (s : List ℕ) (m : Station) : Type 0 where
-  pub len : length s ≡ 6713
+  pub len : length s ≡ stateLength
   pub bytes : AllBytes s
-  pub own : view table 0 s 14 0 0 ≡ i
-  pub open-flag : view table 0 s 16 0 0 ≤ 1
-  pub wait-flag : view table 0 s 17 0 0 ≤ 3
+  pub own : view table 0 s stationCell 0 0 ≡ i
+  pub open-flag : view table 0 s openCell 0 0 ≤ 1
+  pub wait-flag : view table 0 s waitCell 0 0 ≤ 3
   pub is : meant s ≡ m
 
 pub start : {i : ℕ} {s : List ℕ} {m : Station} → Is i s m → Holds table 0 s s (view table 0 s)
@@ -88,19 +65,19 @@ start {i} {s} h = begin table 0 s (omega (arith, h .len)) (h .bytes)
 
 -- changed cells are the model's change, and the flags are in range
 pub done-flags : {i : ℕ} {s t : List ℕ} {C : Cells} {m : Station} → Is i s m → (op : Station → Station) → Holds table 0 s t C → meantC C ≡ op (meant s)
-    → C 14 0 0 ≡ view table 0 s 14 0 0 → C 16 0 0 ≤ 1 → C 17 0 0 ≤ 3 → Is i t (op m)
+    → C stationCell 0 0 ≡ view table 0 s stationCell 0 0 → C openCell 0 0 ≤ 1 → C waitCell 0 0 ≤ 3 → Is i t (op m)
 done-flags {i} {s} {t} {C} h op k e a b c =
     let cell : (r : ℕ) → view table 0 t r 0 0 ≡ C r 0 0 = λ r. ap (λ (D : Cells). D r 0 0) (k .is) in
     record {
       len = k .len ∙ h .len;
       bytes = k .bytes;
-      own = cell 14 ∙ a ∙ h .own;
-      open-flag = rw (cell 16) b;
-      wait-flag = rw (cell 17) c;
+      own = cell stationCell ∙ a ∙ h .own;
+      open-flag = rw (cell openCell) b;
+      wait-flag = rw (cell waitCell) c;
       is = ap meantC (k .is) ∙ e ∙ ap op (h .is);
     }
 
 -- .. or as they were
 pub done : {i : ℕ} {s t : List ℕ} {C : Cells} {m : Station} → Is i s m → (op : Station → Station) → Holds table 0 s t C → meantC C ≡ op (meant s)
-    → (C 14 0 0 ≡ view table 0 s 14 0 0) × (C 16 0 0 ≡ view table 0 s 16 0 0) × (C 17 0 0 ≡ view table 0 s 17 0 0) → Is i t (op m)
+    → (C stationCell 0 0 ≡ view table 0 s stationCell 0 0) × (C openCell 0 0 ≡ view table 0 s openCell 0 0) × (C waitCell 0 0 ≡ view table 0 s waitCell 0 0) → Is i t (op m)
 done h op k e f = done-flags h op k e (f .0) (rw (f .1) (h .open-flag)) (rw (f .2) (h .wait-flag))

@@ -19,12 +19,14 @@ use Rattle.cells.specs.Cells.{Cells, view, upd3, Holds, put8, put32, put64, get
 use Rattle.cells.specs.Sets.{or8, and32, on32, test8}
 use Rattle.line.specs.Messages.{pageOf}
 use Rattle.line.specs.Station.{Station, setCached, setCver, setCopy, setUnav, wrotePage, dropPages, mark, arrive}
-use Rattle.station_state.specs.Layout.{hasBit}
+use Rattle.station_state.specs.Layout.{cachedFrom, unavailableFrom, writtenSetFrom, copyFrom, writtenValueFrom, versionFrom, valueWidth, numberWidth, copyCell, writtenValueCell, versionCell, cachedCell, unavailableCell, writtenSetCell, table, hasBit}
 use Rattle.station_state.specs.Changes.{pageOn}
 use Rattle.station_pages.specs.Pages.{wrotePageB, blankTo, dropPageB, dropOneB, dropTo, dropPagesB, markOneB, markTo, markB, arrivesB, arriveTo, arriveB, versionOneB, versionsTo, versionsB}
-use Rattle.station_meaning.specs.Meant.{table, within, valueIf, meant, Is, start, done}
+use Rattle.station_meaning.specs.Meant.{within, valueIf, meant, Is, start, done}
 use Rattle.station_meaning.specs.Named.{named}
 use Rattle.station_meaning.specs.Tests.{cached-at, wrotePage-at, cached-high}
+use Rattle.message.specs.Layout.{versionFrom as Message·versionFrom, setsFrom, valuesFrom}
+use Rattle.layout.specs.Record.{valueLength}
 
 -- what the code tests
 has-is : (x k : ℕ) → hasBit x k ≡ tb x k
@@ -35,16 +37,16 @@ has-is x k = tb-test k x
 
 -- the first n of page p are those of g
 abbrev pageTo : Cells → ℕ → ℕ → (ℕ → ℕ) → Cells
-pageTo C p n g k i j = cond (eqb k 0) (cond (eqb i 0) (cond (eqb (j / 8) p && ltb (j % 8) n) (g j) (C k i j)) (C k i j)) (C k i j)
+pageTo C p n g k i j = cond (eqb k copyCell) (cond (eqb i 0) (cond (eqb (j / 8) p && ltb (j % 8) n) (g j) (C k i j)) (C k i j)) (C k i j)
 
 page-none : (C : Cells) (p : ℕ) (g : ℕ → ℕ) → C ≡ pageTo C p 0 g
-page-none C p g = fun-ext (λ k. fun-ext (λ i. fun-ext (λ j. byEq k 0 (λ e. byEq i 0 (λ f. rw (e, f) (none j (C k i j))) (λ f. rw (e, f))) (λ e. rw e))))
+page-none C p g = fun-ext (λ k. fun-ext (λ i. fun-ext (λ j. byEq k copyCell (λ e. byEq i 0 (λ f. rw (e, f) (none j (C k i j))) (λ f. rw (e, f))) (λ e. rw e))))
   where
     none : (j x : ℕ) → x ≡ cond (eqb (j / 8) p && ltb (j % 8) 0) (g j) x
     none j x = rw (le-ltb (j % 8) 0 (omega arith)) (byEq (j / 8) p (λ e. rw e) (λ e. rw e))
 
-page-more : (C : Cells) (p n : ℕ) (g : ℕ → ℕ) → n < 8 → upd3 (pageTo C p n g) 0 0 (p * 8 + n) (g (p * 8 + n)) ≡ pageTo C p (suc n) g
-page-more C p n g l = fun-ext (λ k. fun-ext (λ i. fun-ext (λ j. byEq k 0 (λ e. byEq i 0 (λ f. rw (e, f) (more j (C k i j))) (λ f. rw (e, f))) (λ e. rw e))))
+page-more : (C : Cells) (p n : ℕ) (g : ℕ → ℕ) → n < 8 → upd3 (pageTo C p n g) copyCell 0 (p * 8 + n) (g (p * 8 + n)) ≡ pageTo C p (suc n) g
+page-more C p n g l = fun-ext (λ k. fun-ext (λ i. fun-ext (λ j. byEq k copyCell (λ e. byEq i 0 (λ f. rw (e, f) (more j (C k i j))) (λ f. rw (e, f))) (λ e. rw e))))
   where
     more : (j x : ℕ) → cond (eqb j (p * 8 + n)) (g (p * 8 + n)) (cond (eqb (j / 8) p && ltb (j % 8) n) (g j) x) ≡ cond (eqb (j / 8) p && ltb (j % 8) (suc n)) (g j) x
     more j x =
@@ -59,7 +61,7 @@ page-more C p n g l = fun-ext (λ k. fun-ext (λ i. fun-ext (λ j. byEq k 0 (λ 
 
 -- all eight
 abbrev pageOver : Cells → ℕ → (ℕ → ℕ) → Cells
-pageOver C p g k i j = cond (eqb k 0) (cond (eqb i 0) (cond (eqb (j / 8) p) (g j) (C k i j)) (C k i j)) (C k i j)
+pageOver C p g k i j = cond (eqb k copyCell) (cond (eqb i 0) (cond (eqb (j / 8) p) (g j) (C k i j)) (C k i j)) (C k i j)
 
 page-over : (C : Cells) (p : ℕ) (g : ℕ → ℕ) → pageTo C p 8 g ≡ pageOver C p g
 page-over C p g = fun-ext (λ k. fun-ext (λ i. fun-ext (λ j. rw (lt-ltb (j % 8) 8 (omega arith), and-true (eqb (j / 8) p)))))
@@ -70,8 +72,8 @@ blank-to : {s₀ s : List ℕ} {C : Cells} → Holds table 0 s₀ s C → (p : �
 unfolding blankTo
 blank-to {s₀} {s} {C} h p l zero q = subst (Holds table 0 s₀ s) (page-none C p zeros) h
 blank-to {s₀} {s} {C} h p l (suc n) q =
-    subst (Holds table 0 s₀ (setU64 (blankTo s p n) ((p * 8 + n) * 8) 0)) (page-more C p n zeros q)
-    (put64 (blank-to h p l n (omega arith)) 0 0 (p * 8 + n) 0 ((p * 8 + n) * 8) refl (omega arith) (omega arith) (omega arith) (omega arith))
+    subst (Holds table 0 s₀ (setU64 (blankTo s p n) (copyFrom + (p * 8 + n) * valueWidth) 0)) (page-more C p n zeros q)
+    (put64 (blank-to h p l n (omega arith)) copyCell 0 (p * 8 + n) 0 (copyFrom + (p * 8 + n) * valueWidth) refl (omega arith) (omega arith) (omega arith) (omega arith))
 
 blank-is : {s₀ s : List ℕ} {C : Cells} → Holds table 0 s₀ s C → (p : ℕ) → p < 32 → Holds table 0 s₀ (blankTo s p 8) (pageOver C p zeros)
 blank-is {s₀} {s} {C} h p l = subst (Holds table 0 s₀ (blankTo s p 8)) (page-over C p zeros) (blank-to h p l 8 (omega arith))
@@ -88,7 +90,7 @@ page-drop : {i : ℕ} {s : List ℕ} {m : Station} → Is i s m → (p : ℕ) �
 unfolding dropPageB
 page-drop {i} {s} h p l =
     done h (emptied (λ q. eqb q p))
-    (put8 (put32 (blank-is (start h) p l) 5 0 p 0 (6184 + p * 4) refl (omega arith) (omega arith) l (omega arith)) 9 0 p 0 (6324 + p) refl (omega arith) (omega arith) l (omega arith))
+    (put8 (put32 (blank-is (start h) p l) versionCell 0 p 0 (versionFrom + p * numberWidth) refl (omega arith) (omega arith) l (omega arith)) unavailableCell 0 p 0 (unavailableFrom + p) refl (omega arith) (omega arith) l (omega arith))
     (ap (setUnav (emptied (λ q. eqb q p) (meant s))) (fun-ext (λ a. byEq (a / 8) p (λ e. rw e (tb-zero (a % 8))) (λ e. rw e))))
     (refl, refl, refl)
 
@@ -150,11 +152,11 @@ drop-all {i} {s} {m} h d l = subst (Is i (dropTo s d 32)) (below-all d m l) (dro
 
 -- .. and taken out of the set of cached pages
 drop-cached : {i : ℕ} {s : List ℕ} {m : Station} → Is i s m → (d : ℕ) → d < 2 ^ 32
-    → Is i (setU32 s 6316 (bitAnd (u32At s 6316) (4294967295 - d))) (setCached m (λ p. not (tb d p) && m .cached p))
+    → Is i (setU32 s cachedFrom (bitAnd (u32At s cachedFrom) (4294967295 - d))) (setCached m (λ p. not (tb d p) && m .cached p))
 drop-cached {i} {s} {m} h d l =
     done h (λ m. setCached m (λ p. not (tb d p) && m .cached p))
-    (and32 (start h) 7 0 0 (4294967295 - d) 6316 refl (omega arith) (omega arith) refl)
-    (ap (setCached (meant s)) (fun-ext (λ p. tb-mask 32 (view table 0 s 7 0 0) d p (cell-lt (start h) 7 0 0) l)))
+    (and32 (start h) cachedCell 0 0 (4294967295 - d) cachedFrom refl (omega arith) (omega arith) refl)
+    (ap (setCached (meant s)) (fun-ext (λ p. tb-mask 32 (view table 0 s cachedCell 0 0) d p (cell-lt (start h) cachedCell 0 0) l)))
     (refl, refl, refl)
 
 pub drop-is : {i : ℕ} {s : List ℕ} {m : Station} → Is i s m → (d : ℕ) → d < 2 ^ 32 → Is i (dropPagesB d s) (dropPages (tb d) m)
@@ -169,12 +171,12 @@ drop-as {i} {s} {m} h d l f e = subst (λ g. Is i (dropPagesB d s) (dropPages g 
 
 -- the objects of y on page p
 mark-page : {i : ℕ} {s : List ℕ} {m : Station} → Is i s m → (p y : ℕ) → p < 32 → y < 256
-    → Is i (set s (6324 + p) (bitOr (getD s (6324 + p) 0) y)) (setUnav m (λ a. cond (eqb (a / 8) p) (m .unav a || tb y (a % 8)) (m .unav a)))
+    → Is i (set s (unavailableFrom + p) (bitOr (getD s (unavailableFrom + p) 0) y)) (setUnav m (λ a. cond (eqb (a / 8) p) (m .unav a || tb y (a % 8)) (m .unav a)))
 mark-page {i} {s} {m} h p y l ly =
     done h (λ m. setUnav m (λ a. cond (eqb (a / 8) p) (m .unav a || tb y (a % 8)) (m .unav a)))
-    (or8 (start h) 9 0 p y (6324 + p) (omega arith) (omega arith) l refl ly)
+    (or8 (start h) unavailableCell 0 p y (unavailableFrom + p) (omega arith) (omega arith) l refl ly)
     (ap (setUnav (meant s))
-    (fun-ext (λ a. byEq (a / 8) p (λ e. rw (e, eqb-yes (a / 8) p e) (tb-or (a % 8) (view table 0 s 9 0 p) y)) (λ e. rw e))))
+    (fun-ext (λ a. byEq (a / 8) p (λ e. rw (e, eqb-yes (a / 8) p e) (tb-or (a % 8) (view table 0 s unavailableCell 0 p) y)) (λ e. rw e))))
     (refl, refl, refl)
 
 -- of the pages below n
@@ -217,7 +219,7 @@ mark-to {i} {s} {m} h sets b zero q = subst (Is i s) (marked-none sets m) h
 mark-to {i} {s} {m} h sets b (suc n) q =
     let r = mark-to h sets b n (omega arith) in
     subst (Is i (markOneB sets (markTo sets s n) n)) (marked-more sets m n)
-    (cond-rel (Is i) (hasBit (u32At (markTo sets s n) 6316) n) (m .cached n) (cached-at r n) (mark-page r n (getD sets n 0) q (b n)) r)
+    (cond-rel (Is i) (hasBit (u32At (markTo sets s n) cachedFrom) n) (m .cached n) (cached-at r n) (mark-page r n (getD sets n 0) q (b n)) r)
 
 pub mark-is : {i : ℕ} {s : List ℕ} {m : Station} → Is i s m → (sets : List ℕ) → AllBytes sets → Is i (markB sets s) (mark (named sets) m)
 unfolding markB mark
@@ -233,20 +235,20 @@ u64-lt x b at = rw (u64At-is x at) (num-lt 8 x at b)
 
 -- the eight values of page p that message x brings
 abbrev brought : List ℕ → ℕ → ℕ → ℕ
-brought x p b = cond (eqb (b / 8) p) (u64At x (48 + (b % 8) * 8)) 0
+brought x p b = cond (eqb (b / 8) p) (u64At x (valuesFrom + (b % 8) * valueLength)) 0
 
 -- .. save for the transaction's own
 abbrev arrived : Cells → List ℕ → ℕ → ℕ → ℕ
-arrived C x p b = valOr (valueIf (within (C 11 0) b) (C 2 0 b)) (brought x p b)
+arrived C x p b = valOr (valueIf (within (C writtenSetCell 0) b) (C writtenValueCell 0 b)) (brought x p b)
 
 -- the value that the code stores for object o is that of its address
-arrived-at : (C : Cells) (x : List ℕ) (p o : ℕ) → o < 8 → cond (tb (C 11 0 p) o) (C 2 0 (p * 8 + o)) (u64At x (48 + o * 8)) ≡ arrived C x p (p * 8 + o)
+arrived-at : (C : Cells) (x : List ℕ) (p o : ℕ) → o < 8 → cond (tb (C writtenSetCell 0 p) o) (C writtenValueCell 0 (p * 8 + o)) (u64At x (valuesFrom + o * valueLength)) ≡ arrived C x p (p * 8 + o)
 arrived-at C x p o l =
     let d : (p * 8 + o) / 8 ≡ p = omega arith in
     let m : (p * 8 + o) % 8 ≡ o = omega arith in
-    rw (d, m, eqb-same p) (own (tb (C 11 0 p) o))
+    rw (d, m, eqb-same p) (own (tb (C writtenSetCell 0 p) o))
   where
-    own : (b : Bool) → cond b (C 2 0 (p * 8 + o)) (u64At x (48 + o * 8)) ≡ valOr (valueIf b (C 2 0 (p * 8 + o))) (u64At x (48 + o * 8))
+    own : (b : Bool) → cond b (C writtenValueCell 0 (p * 8 + o)) (u64At x (valuesFrom + o * valueLength)) ≡ valOr (valueIf b (C writtenValueCell 0 (p * 8 + o))) (u64At x (valuesFrom + o * valueLength))
     own true = refl
     own false = refl
 
@@ -261,15 +263,15 @@ arrive-to {s₀} {s} {C} h x b p l zero q = subst (Holds table 0 s₀ s) (page-n
 arrive-to {s₀} {s} {C} h x b p l (suc n) q =
     let r = arrive-to h x b p l n (omega arith) in
     let t = arriveTo x s p n in
-    let v = cond (tb (C 11 0 p) n) (C 2 0 (p * 8 + n)) (u64At x (48 + n * 8)) in
-    let own = test8 r 11 0 p n (6388 + p) (omega arith) (omega arith) l refl in
-    let val = get64 r 2 0 (p * 8 + n) (4096 + (p * 8 + n) * 8) refl (omega arith) (omega arith) (omega arith) in
+    let v = cond (tb (C writtenSetCell 0 p) n) (C writtenValueCell 0 (p * 8 + n)) (u64At x (valuesFrom + n * valueLength)) in
+    let own = test8 r writtenSetCell 0 p n (writtenSetFrom + p) (omega arith) (omega arith) l refl in
+    let val = get64 r writtenValueCell 0 (p * 8 + n) (writtenValueFrom + (p * 8 + n) * valueWidth) refl (omega arith) (omega arith) (omega arith) in
     let e : arrivesB x t p n ≡ v = rw (own, val) in
-    let lt : v < 2 ^ 64 = cond-lt (tb (C 11 0 p) n) (C 2 0 (p * 8 + n)) (u64At x (48 + n * 8)) (2 ^ 64) (cell-lt h 2 0 (p * 8 + n)) (u64-lt x b (48 + n * 8)) in
-    subst (λ y. Holds table 0 s₀ (setU64 t ((p * 8 + n) * 8) y) (pageTo C p (suc n) (arrived C x p))) (sym e)
-    (subst (Holds table 0 s₀ (setU64 t ((p * 8 + n) * 8) v))
-    (ap (upd3 (pageTo C p n (arrived C x p)) 0 0 (p * 8 + n)) (arrived-at C x p n q) ∙ page-more C p n (arrived C x p) q)
-    (put64 r 0 0 (p * 8 + n) v ((p * 8 + n) * 8) refl (omega arith) (omega arith) (omega arith) lt))
+    let lt : v < 2 ^ 64 = cond-lt (tb (C writtenSetCell 0 p) n) (C writtenValueCell 0 (p * 8 + n)) (u64At x (valuesFrom + n * valueLength)) (2 ^ 64) (cell-lt h writtenValueCell 0 (p * 8 + n)) (u64-lt x b (valuesFrom + n * valueLength)) in
+    subst (λ y. Holds table 0 s₀ (setU64 t (copyFrom + (p * 8 + n) * valueWidth) y) (pageTo C p (suc n) (arrived C x p))) (sym e)
+    (subst (Holds table 0 s₀ (setU64 t (copyFrom + (p * 8 + n) * valueWidth) v))
+    (ap (upd3 (pageTo C p n (arrived C x p)) copyCell 0 (p * 8 + n)) (arrived-at C x p n q) ∙ page-more C p n (arrived C x p) q)
+    (put64 r copyCell 0 (p * 8 + n) v (copyFrom + (p * 8 + n) * valueWidth) refl (omega arith) (omega arith) (omega arith) lt))
 
 arrive-values : {s₀ s : List ℕ} {C : Cells} → Holds table 0 s₀ s C → (x : List ℕ) → AllBytes x → (p : ℕ) → p < 32
     → Holds table 0 s₀ (arriveTo x s p 8) (pageOver C p (arrived C x p))
@@ -277,26 +279,26 @@ arrive-values {s₀} {s} {C} h x b p l = subst (Holds table 0 s₀ (arriveTo x s
 
 pub arrive-is : {i : ℕ} {s : List ℕ} {m : Station} → Is i s m → (x : List ℕ) (p : ℕ) → AllBytes x → p < 32
     → Is i (arriveB x p s)
-    (arrive p (u32At x 12) (λ b. eqb (b / 8) p && tb (getD x 16 0) (b % 8)) (λ b. cond (eqb (b / 8) p) (u64At x (48 + (b % 8) * 8)) 0) m)
+    (arrive p (u32At x Message·versionFrom) (λ b. eqb (b / 8) p && tb (getD x setsFrom 0) (b % 8)) (λ b. cond (eqb (b / 8) p) (u64At x (valuesFrom + (b % 8) * valueLength)) 0) m)
 unfolding arriveB pageOn arrive
 arrive-is {i} {s} {m} h x p b l =
-    let op : Station → Station = arrive p (u32At x 12) (λ b. eqb (b / 8) p && tb (getD x 16 0) (b % 8)) (brought x p) in
+    let op : Station → Station = arrive p (u32At x Message·versionFrom) (λ b. eqb (b / 8) p && tb (getD x setsFrom 0) (b % 8)) (brought x p) in
     let values = arrive-values (start h) x b p l in
-    let version = put32 values 5 0 p (u32At x 12) (6184 + p * 4) refl (omega arith) (omega arith) l (u32-lt x b 12) in
-    let unav = put8 version 9 0 p (getD x 16 0) (6324 + p) refl (omega arith) (omega arith) l (b 16) in
+    let version = put32 values versionCell 0 p (u32At x Message·versionFrom) (versionFrom + p * numberWidth) refl (omega arith) (omega arith) l (u32-lt x b Message·versionFrom) in
+    let unav = put8 version unavailableCell 0 p (getD x setsFrom 0) (unavailableFrom + p) refl (omega arith) (omega arith) l (b setsFrom) in
     done h op
-    (on32 unav 7 0 0 p 6316 refl (omega arith) (omega arith) refl l)
+    (on32 unav cachedCell 0 0 p cachedFrom refl (omega arith) (omega arith) refl l)
     (ap₂ (λ u c. setCached (setUnav (op (meant s)) u) c)
     (fun-ext (λ a. byEq (a / 8) p (λ e. rw e) (λ e. rw e)))
-    (fun-ext (tb-set (view table 0 s 7 0 0) p)))
+    (fun-ext (tb-set (view table 0 s cachedCell 0 0) p)))
     (refl, refl, refl)
 
 -- written pages get a version
 
-version-page : {i : ℕ} {s : List ℕ} {m : Station} → Is i s m → (p n : ℕ) → p < 32 → n < 2 ^ 32 → Is i (setU32 s (6184 + p * 4) n) (setCver m (upd (m .cver) p n))
+version-page : {i : ℕ} {s : List ℕ} {m : Station} → Is i s m → (p n : ℕ) → p < 32 → n < 2 ^ 32 → Is i (setU32 s (versionFrom + p * numberWidth) n) (setCver m (upd (m .cver) p n))
 version-page h p n l q =
     done h (λ m. setCver m (upd (m .cver) p n))
-    (put32 (start h) 5 0 p n (6184 + p * 4) refl (omega arith) (omega arith) l q) refl
+    (put32 (start h) versionCell 0 p n (versionFrom + p * numberWidth) refl (omega arith) (omega arith) l q) refl
     (refl, refl, refl)
 
 -- cached and written
@@ -311,7 +313,7 @@ versions-to {i} {s} {m} h n l (suc k) q =
     let r = versions-to h n l k (omega arith) in
     let t = versionsTo n s k in
     subst (Is i (versionOneB n t k)) (bulk-more (setCver m) (m .cver) (renewed m) (λ _. n) k)
-    (cond-rel (Is i) (hasBit (u32At t 6316) k && wrotePageB t k) (renewed m k) (ap₂ _&&_ (cached-at r k) (wrotePage-at r k q)) (version-page r k n q l) r)
+    (cond-rel (Is i) (hasBit (u32At t cachedFrom) k && wrotePageB t k) (renewed m k) (ap₂ _&&_ (cached-at r k) (wrotePage-at r k q)) (version-page r k n q l) r)
 
 pub versions-is : {i : ℕ} {s : List ℕ} {m : Station} → Is i s m → (n : ℕ) → n < 2 ^ 32
     → Is i (versionsB n s) (setCver m (λ p. cond (m .cached p && wrotePage m p) n (m .cver p)))

@@ -17,9 +17,9 @@ use Rattle.cells.specs.Sets.{test8, test32}
 use Rattle.cells.specs.Loops.{anyTo, any-to, any-same, mask-is, mask-lt}
 use Rattle.cells.specs.Pages.{page-any, page-join, page-meet, any-all}
 use Rattle.line.specs.Station.{Station, waiting, forRead, forWrite, forCommit, requested, usedAt, usedPage, wrotePage, drops, inUse, touched}
-use Rattle.station_state.specs.Layout.{copyOf, readValue, writtenValue, waitingValue, keptOf, versionOf, number, cached, whole, readSet, writtenSet, unavailableFrom, readSetFrom, writtenSetFrom, locksFrom, namedFrom, station, kind, opened, wait, address, hasBit, member, requestedB}
+use Rattle.station_state.specs.Layout.{waitingValueFrom, numberFrom, cachedFrom, wholeFrom, stationFrom, kindFrom, openFrom, waitFrom, addressFrom, copyFrom, readValueFrom, writtenValueFrom, keptFrom, versionFrom, valueWidth, numberWidth, copyCell, readValueCell, writtenValueCell, waitingValueCell, keptCell, versionCell, numberCell, cachedCell, wholeCell, unavailableCell, readSetCell, writtenSetCell, locksCell, namedCell, stationCell, kindCell, openCell, waitCell, addressCell, table, copyOf, readValue, writtenValue, waitingValue, keptOf, versionOf, number, cached, whole, readSet, writtenSet, unavailableFrom, readSetFrom, writtenSetFrom, locksFrom, namedFrom, station, kind, opened, wait, address, hasBit, member, requestedB}
 use Rattle.station_pages.specs.Pages.{usedPageB, wrotePageB, usedPagesB, writtenPagesB, usesB, inUseB, touchesB, touchedB, dropsB, droppedB}
-use Rattle.station_meaning.specs.Meant.{table, within, valueIf, waitOf, keptIf, meant, Is, start}
+use Rattle.station_meaning.specs.Meant.{within, valueIf, waitOf, keptIf, meant, Is, start}
 use Rattle.station_meaning.specs.Named.{named, named-at, named-is}
 
 -- whether there is a value
@@ -29,7 +29,7 @@ has-if false v = refl
 
 -- the tests on the byte that says what is out, for the four numbers that a valid state has there
 
-waiting-of : (k a v : ℕ) → k ≤ 3 → not (eqb k 0) ≡ waiting (waitOf k a v)
+waiting-of : (k a v : ℕ) → k ≤ 3 → not (eqb k copyCell) ≡ waiting (waitOf k a v)
 waiting-of zero a v l = refl
 waiting-of (suc zero) a v l = refl
 waiting-of (suc (suc zero)) a v l = refl
@@ -95,63 +95,63 @@ module _ {i : ℕ} {s : List ℕ} {m : Station} (h : Is i s m) where
   -- numbers
 
   pub station-at : station s ≡ i
-  station-at = get8 (start h) 14 0 0 6708 refl refl (omega arith) (omega arith) ∙ h .own
+  station-at = get8 (start h) stationCell 0 0 stationFrom refl refl (omega arith) (omega arith) ∙ h .own
 
   pub kind-at : kind s ≡ m .kind
-  kind-at = get8 (start h) 15 0 0 6709 refl refl (omega arith) (omega arith) ∙ ap (λ (n : Station). n .kind) (h .is)
+  kind-at = get8 (start h) kindCell 0 0 kindFrom refl refl (omega arith) (omega arith) ∙ ap (λ (n : Station). n .kind) (h .is)
 
-  pub number-cell : number s ≡ view table 0 s 6 0 0
-  number-cell = get32 (start h) 6 0 0 6312 refl refl (omega arith) (omega arith)
+  pub number-cell : number s ≡ view table 0 s numberCell 0 0
+  number-cell = get32 (start h) numberCell 0 0 numberFrom refl refl (omega arith) (omega arith)
 
   pub number-at : number s ≡ m .num
   number-at = number-cell ∙ ap (λ (n : Station). n .num) (h .is)
 
   pub number-lt : number s < 2 ^ 32
-  number-lt = rw number-cell (cell-lt (start h) 6 0 0)
+  number-lt = rw number-cell (cell-lt (start h) numberCell 0 0)
 
-  pub copy-cell : (a : ℕ) → a < 256 → copyOf s a ≡ view table 0 s 0 0 a
-  copy-cell a l = get64 (start h) 0 0 a (a * 8) refl (omega arith) (omega arith) l
+  pub copy-cell : (a : ℕ) → a < 256 → copyOf s a ≡ view table 0 s copyCell 0 a
+  copy-cell a l = get64 (start h) copyCell 0 a (copyFrom + a * valueWidth) refl (omega arith) (omega arith) l
 
   pub copy-at : (a : ℕ) → a < 256 → copyOf s a ≡ m .copy a
   copy-at a l = copy-cell a l ∙ ap (λ (n : Station). n .copy a) (h .is)
 
   pub copy-lt : (a : ℕ) → a < 256 → copyOf s a < 2 ^ 64
-  copy-lt a l = rw (copy-cell a l) (cell-lt (start h) 0 0 a)
+  copy-lt a l = rw (copy-cell a l) (cell-lt (start h) copyCell 0 a)
 
-  version-cell : (p : ℕ) → p < 32 → versionOf s p ≡ view table 0 s 5 0 p
-  version-cell p l = get32 (start h) 5 0 p (6184 + p * 4) refl (omega arith) (omega arith) l
+  version-cell : (p : ℕ) → p < 32 → versionOf s p ≡ view table 0 s versionCell 0 p
+  version-cell p l = get32 (start h) versionCell 0 p (versionFrom + p * numberWidth) refl (omega arith) (omega arith) l
 
   pub version-at : (p : ℕ) → p < 32 → versionOf s p ≡ m .cver p
   version-at p l = version-cell p l ∙ ap (λ (n : Station). n .cver p) (h .is)
 
   pub version-lt : (p : ℕ) → p < 32 → versionOf s p < 2 ^ 32
-  version-lt p l = rw (version-cell p l) (cell-lt (start h) 5 0 p)
+  version-lt p l = rw (version-cell p l) (cell-lt (start h) versionCell 0 p)
 
   -- what is open, and what is out
 
   pub open-at : not (eqb (opened s) 0) ≡ m .opened
-  open-at = rw (get8 (start h) 16 0 0 6710 refl refl (omega arith) (omega arith)) (ap (λ (n : Station). n .opened) (h .is))
+  open-at = rw (get8 (start h) openCell 0 0 openFrom refl refl (omega arith) (omega arith)) (ap (λ (n : Station). n .opened) (h .is))
 
-  wait-cell : wait s ≡ view table 0 s 17 0 0
-  wait-cell = get8 (start h) 17 0 0 6711 refl refl (omega arith) (omega arith)
+  wait-cell : wait s ≡ view table 0 s waitCell 0 0
+  wait-cell = get8 (start h) waitCell 0 0 waitFrom refl refl (omega arith) (omega arith)
 
-  address-cell : address s ≡ view table 0 s 18 0 0
-  address-cell = get8 (start h) 18 0 0 6712 refl refl (omega arith) (omega arith)
+  address-cell : address s ≡ view table 0 s addressCell 0 0
+  address-cell = get8 (start h) addressCell 0 0 addressFrom refl refl (omega arith) (omega arith)
 
-  waitingValue-cell : waitingValue s ≡ view table 0 s 3 0 0
-  waitingValue-cell = get64 (start h) 3 0 0 6144 refl refl (omega arith) (omega arith)
+  waitingValue-cell : waitingValue s ≡ view table 0 s waitingValueCell 0 0
+  waitingValue-cell = get64 (start h) waitingValueCell 0 0 waitingValueFrom refl refl (omega arith) (omega arith)
 
   pub open-le : opened s ≤ 1
-  open-le = rw (get8 (start h) 16 0 0 6710 refl refl (omega arith) (omega arith)) (h .open-flag)
+  open-le = rw (get8 (start h) openCell 0 0 openFrom refl refl (omega arith) (omega arith)) (h .open-flag)
 
   pub wait-le : wait s ≤ 3
   wait-le = rw wait-cell (h .wait-flag)
 
   pub address-lt : address s < 256
-  address-lt = rw address-cell (cell-lt (start h) 18 0 0)
+  address-lt = rw address-cell (cell-lt (start h) addressCell 0 0)
 
   pub waitingValue-lt : waitingValue s < 2 ^ 64
-  waitingValue-lt = rw waitingValue-cell (cell-lt (start h) 3 0 0)
+  waitingValue-lt = rw waitingValue-cell (cell-lt (start h) waitingValueCell 0 0)
 
   pub wait-is : m .wait ≡ waitOf (wait s) (address s) (waitingValue s)
   wait-is = sym (rw (wait-cell, address-cell, waitingValue-cell) (ap (λ (n : Station). n .wait) (h .is)))
@@ -176,30 +176,30 @@ module _ {i : ℕ} {s : List ℕ} {m : Station} (h : Is i s m) where
 
   pub cached-at : (p : ℕ) → hasBit (cached s) p ≡ m .cached p
   unfolding hasBit
-  cached-at p = test32 (start h) 7 0 0 p 6316 refl (omega arith) (omega arith) refl ∙ ap (λ (n : Station). n .cached p) (h .is)
+  cached-at p = test32 (start h) cachedCell 0 0 p cachedFrom refl (omega arith) (omega arith) refl ∙ ap (λ (n : Station). n .cached p) (h .is)
 
   pub cached-lt : cached s < 2 ^ 32
-  cached-lt = rw (get32 (start h) 7 0 0 6316 refl refl (omega arith) (omega arith)) (cell-lt (start h) 7 0 0)
+  cached-lt = rw (get32 (start h) cachedCell 0 0 cachedFrom refl refl (omega arith) (omega arith)) (cell-lt (start h) cachedCell 0 0)
 
   pub whole-at : (p : ℕ) → hasBit (whole s) p ≡ m .wl p
   unfolding hasBit
-  whole-at p = test32 (start h) 8 0 0 p 6320 refl (omega arith) (omega arith) refl ∙ ap (λ (n : Station). n .wl p) (h .is)
+  whole-at p = test32 (start h) wholeCell 0 0 p wholeFrom refl (omega arith) (omega arith) refl ∙ ap (λ (n : Station). n .wl p) (h .is)
 
   pub unav-at : (a : ℕ) → a < 256 → member s unavailableFrom a ≡ m .unav a
   unfolding hasBit member
-  unav-at a l = test8 (start h) 9 0 (a / 8) (a % 8) (6324 + a / 8) (omega arith) (omega arith) (omega arith) refl ∙ ap (λ (n : Station). n .unav a) (h .is)
+  unav-at a l = test8 (start h) unavailableCell 0 (a / 8) (a % 8) (unavailableFrom + a / 8) (omega arith) (omega arith) (omega arith) refl ∙ ap (λ (n : Station). n .unav a) (h .is)
 
   pub lock-at : (a : ℕ) → a < 256 → member s locksFrom a ≡ m .ol a
   unfolding hasBit member
-  lock-at a l = test8 (start h) 12 0 (a / 8) (a % 8) (6420 + a / 8) (omega arith) (omega arith) (omega arith) refl ∙ ap (λ (n : Station). n .ol a) (h .is)
+  lock-at a l = test8 (start h) locksCell 0 (a / 8) (a % 8) (locksFrom + a / 8) (omega arith) (omega arith) (omega arith) refl ∙ ap (λ (n : Station). n .ol a) (h .is)
 
   pub read-at : (a : ℕ) → a < 256 → m .rd a ≡ valueIf (member s readSetFrom a) (readValue s a)
   unfolding hasBit member
   read-at a l =
       sym
       (rw (
-        test8 (start h) 10 0 (a / 8) (a % 8) (6356 + a / 8) (omega arith) (omega arith) (omega arith) refl,
-        get64 (start h) 1 0 a (2048 + a * 8) refl (omega arith) (omega arith) l,
+        test8 (start h) readSetCell 0 (a / 8) (a % 8) (readSetFrom + a / 8) (omega arith) (omega arith) (omega arith) refl,
+        get64 (start h) readValueCell 0 a (readValueFrom + a * valueWidth) refl (omega arith) (omega arith) l,
       )
       (ap (λ (n : Station). n .rd a) (h .is)))
 
@@ -208,78 +208,78 @@ module _ {i : ℕ} {s : List ℕ} {m : Station} (h : Is i s m) where
   wrote-at a l =
       sym
       (rw (
-        test8 (start h) 11 0 (a / 8) (a % 8) (6388 + a / 8) (omega arith) (omega arith) (omega arith) refl,
-        get64 (start h) 2 0 a (4096 + a * 8) refl (omega arith) (omega arith) l,
+        test8 (start h) writtenSetCell 0 (a / 8) (a % 8) (writtenSetFrom + a / 8) (omega arith) (omega arith) (omega arith) refl,
+        get64 (start h) writtenValueCell 0 a (writtenValueFrom + a * valueWidth) refl (omega arith) (omega arith) l,
       )
       (ap (λ (n : Station). n .wr a) (h .is)))
 
   pub readValue-lt : (a : ℕ) → a < 256 → readValue s a < 2 ^ 64
-  readValue-lt a l = rw (get64 (start h) 1 0 a (2048 + a * 8) refl (omega arith) (omega arith) l) (cell-lt (start h) 1 0 a)
+  readValue-lt a l = rw (get64 (start h) readValueCell 0 a (readValueFrom + a * valueWidth) refl (omega arith) (omega arith) l) (cell-lt (start h) readValueCell 0 a)
 
   pub writtenValue-lt : (a : ℕ) → a < 256 → writtenValue s a < 2 ^ 64
-  writtenValue-lt a l = rw (get64 (start h) 2 0 a (4096 + a * 8) refl (omega arith) (omega arith) l) (cell-lt (start h) 2 0 a)
+  writtenValue-lt a l = rw (get64 (start h) writtenValueCell 0 a (writtenValueFrom + a * valueWidth) refl (omega arith) (omega arith) l) (cell-lt (start h) writtenValueCell 0 a)
 
   -- kept callbacks
 
-  kept-cell : (r : ℕ) → r < 8 → keptOf s r ≡ view table 0 s 4 r 0
-  kept-cell r l = get32 (start h) 4 r 0 (6152 + r * 4) refl (omega arith) l (omega arith)
+  kept-cell : (r : ℕ) → r < 8 → keptOf s r ≡ view table 0 s keptCell r 0
+  kept-cell r l = get32 (start h) keptCell r 0 (keptFrom + r * numberWidth) refl (omega arith) l (omega arith)
 
   pub kept-lt : (r : ℕ) → r < 8 → keptOf s r < 2 ^ 32
-  kept-lt r l = rw (kept-cell r l) (cell-lt (start h) 4 r 0)
+  kept-lt r l = rw (kept-cell r l) (cell-lt (start h) keptCell r 0)
 
-  named-cells : (r : ℕ) → r < 8 → within (view table 0 s 13 r) ≡ named (take 32 (drop (namedFrom r) s))
+  named-cells : (r : ℕ) → r < 8 → within (view table 0 s namedCell r) ≡ named (take 32 (drop (namedFrom r) s))
   named-cells r l =
-      named-is (view table 0 s 13 r) (take 32 (drop (namedFrom r) s))
+      named-is (view table 0 s namedCell r) (take 32 (drop (namedFrom r) s))
       (λ j q.
-      sym (getD-take 32 (drop (namedFrom r) s) j 0 q ∙ getD-drop (namedFrom r) s j 0 ∙ get8 (start h) 13 r j (namedFrom r + j) refl (omega arith) l q))
-      (λ j q. view-col table 0 s 13 r j q)
+      sym (getD-take 32 (drop (namedFrom r) s) j 0 q ∙ getD-drop (namedFrom r) s j 0 ∙ get8 (start h) namedCell r j (namedFrom r + j) refl (omega arith) l q))
+      (λ j q. view-col table 0 s namedCell r j q)
 
   pub kept-at : (r : ℕ) → r < 8 → m .kept r ≡ keptIf (keptOf s r) (named (take 32 (drop (namedFrom r) s)))
   kept-at r l = sym (rw (kept-cell r l, ← named-cells r l) (ap (λ (n : Station). n .kept r) (h .is)))
 
   -- pages
 
-  readSet-cell : (p : ℕ) → p < 32 → readSet s p ≡ view table 0 s 10 0 p
-  readSet-cell p l = get8 (start h) 10 0 p (6356 + p) refl (omega arith) (omega arith) l
+  readSet-cell : (p : ℕ) → p < 32 → readSet s p ≡ view table 0 s readSetCell 0 p
+  readSet-cell p l = get8 (start h) readSetCell 0 p (readSetFrom + p) refl (omega arith) (omega arith) l
 
-  writtenSet-cell : (p : ℕ) → p < 32 → writtenSet s p ≡ view table 0 s 11 0 p
-  writtenSet-cell p l = get8 (start h) 11 0 p (6388 + p) refl (omega arith) (omega arith) l
+  writtenSet-cell : (p : ℕ) → p < 32 → writtenSet s p ≡ view table 0 s writtenSetCell 0 p
+  writtenSet-cell p l = get8 (start h) writtenSetCell 0 p (writtenSetFrom + p) refl (omega arith) (omega arith) l
 
-  used-cells : (a : ℕ) → (within (view table 0 s 10 0) a || within (view table 0 s 11 0) a) ≡ usedAt (meant s) a
-  used-cells a = rw (has-if (within (view table 0 s 10 0) a) (view table 0 s 1 0 a), has-if (within (view table 0 s 11 0) a) (view table 0 s 2 0 a))
+  used-cells : (a : ℕ) → (within (view table 0 s readSetCell 0) a || within (view table 0 s writtenSetCell 0) a) ≡ usedAt (meant s) a
+  used-cells a = rw (has-if (within (view table 0 s readSetCell 0) a) (view table 0 s readValueCell 0 a), has-if (within (view table 0 s writtenSetCell 0) a) (view table 0 s writtenValueCell 0 a))
 
   pub usedPage-at : (p : ℕ) → p < 32 → usedPageB s p ≡ usedPage m p
   unfolding usedPageB
   usedPage-at p l =
       rw (readSet-cell p l, writtenSet-cell p l)
-      (sym (page-join (view table 0 s 10 0) (view table 0 s 11 0) p (cell-lt (start h) 10 0 p) (cell-lt (start h) 11 0 p))
-      ∙ any-ext 8 (λ o. within (view table 0 s 10 0) (p * 8 + o) || within (view table 0 s 11 0) (p * 8 + o)) (λ o. usedAt (meant s) (p * 8 + o)) (λ o. used-cells (p * 8 + o))
+      (sym (page-join (view table 0 s readSetCell 0) (view table 0 s writtenSetCell 0) p (cell-lt (start h) readSetCell 0 p) (cell-lt (start h) writtenSetCell 0 p))
+      ∙ any-ext 8 (λ o. within (view table 0 s readSetCell 0) (p * 8 + o) || within (view table 0 s writtenSetCell 0) (p * 8 + o)) (λ o. usedAt (meant s) (p * 8 + o)) (λ o. used-cells (p * 8 + o))
       ∙ ap (λ (n : Station). usedPage n p) (h .is))
 
   pub wrotePage-at : (p : ℕ) → p < 32 → wrotePageB s p ≡ wrotePage m p
   unfolding wrotePageB
   wrotePage-at p l =
       rw (writtenSet-cell p l)
-      (sym (page-any (view table 0 s 11 0) p (cell-lt (start h) 11 0 p))
-      ∙ any-ext 8 (λ o. within (view table 0 s 11 0) (p * 8 + o)) (λ o. has ((meant s) .wr (p * 8 + o)))
-      (λ o. sym (has-if (within (view table 0 s 11 0) (p * 8 + o)) (view table 0 s 2 0 (p * 8 + o))))
+      (sym (page-any (view table 0 s writtenSetCell 0) p (cell-lt (start h) writtenSetCell 0 p))
+      ∙ any-ext 8 (λ o. within (view table 0 s writtenSetCell 0) (p * 8 + o)) (λ o. has ((meant s) .wr (p * 8 + o)))
+      (λ o. sym (has-if (within (view table 0 s writtenSetCell 0) (p * 8 + o)) (view table 0 s writtenValueCell 0 (p * 8 + o))))
       ∙ ap (λ (n : Station). wrotePage n p) (h .is))
 
   uses-at : (sets : List ℕ) → AllBytes sets → (p : ℕ) → p < 32 → usesB sets s p ≡ any 8 (λ o. named sets (p * 8 + o) && usedAt m (p * 8 + o))
   unfolding usesB
   uses-at sets b p l =
       rw (readSet-cell p l, writtenSet-cell p l)
-      (sym (page-meet (λ j. getD sets j 0) (λ j. bitOr (view table 0 s 10 0 j) (view table 0 s 11 0 j)) p (b p))
+      (sym (page-meet (λ j. getD sets j 0) (λ j. bitOr (view table 0 s readSetCell 0 j) (view table 0 s writtenSetCell 0 j)) p (b p))
       ∙ any-same
-      (λ o. tb (getD sets ((p * 8 + o) / 8) 0) ((p * 8 + o) % 8) && tb (bitOr (view table 0 s 10 0 ((p * 8 + o) / 8)) (view table 0 s 11 0 ((p * 8 + o) / 8))) ((p * 8 + o) % 8))
+      (λ o. tb (getD sets ((p * 8 + o) / 8) 0) ((p * 8 + o) % 8) && tb (bitOr (view table 0 s readSetCell 0 ((p * 8 + o) / 8)) (view table 0 s writtenSetCell 0 ((p * 8 + o) / 8))) ((p * 8 + o) % 8))
       (λ o. named sets (p * 8 + o) && usedAt (meant s) (p * 8 + o)) 8 at-one
       ∙ ap (λ (n : Station). any 8 (λ o. named sets (p * 8 + o) && usedAt n (p * 8 + o))) (h .is))
     where
       at-one : (o : ℕ) → o < 8
-          → (tb (getD sets ((p * 8 + o) / 8) 0) ((p * 8 + o) % 8) && tb (bitOr (view table 0 s 10 0 ((p * 8 + o) / 8)) (view table 0 s 11 0 ((p * 8 + o) / 8))) ((p * 8 + o) % 8))
+          → (tb (getD sets ((p * 8 + o) / 8) 0) ((p * 8 + o) % 8) && tb (bitOr (view table 0 s readSetCell 0 ((p * 8 + o) / 8)) (view table 0 s writtenSetCell 0 ((p * 8 + o) / 8))) ((p * 8 + o) % 8))
           ≡ (named sets (p * 8 + o) && usedAt (meant s) (p * 8 + o))
       at-one o q =
-          rw (named-at sets (p * 8 + o) (omega arith), tb-or ((p * 8 + o) % 8) (view table 0 s 10 0 ((p * 8 + o) / 8)) (view table 0 s 11 0 ((p * 8 + o) / 8)), ← used-cells (p * 8 + o))
+          rw (named-at sets (p * 8 + o) (omega arith), tb-or ((p * 8 + o) % 8) (view table 0 s readSetCell 0 ((p * 8 + o) / 8)) (view table 0 s writtenSetCell 0 ((p * 8 + o) / 8)), ← used-cells (p * 8 + o))
 
   pub inUse-at : (sets : List ℕ) → AllBytes sets → inUseB sets s ≡ inUse (named sets) m
   unfolding inUseB
@@ -292,15 +292,15 @@ module _ {i : ℕ} {s : List ℕ} {m : Station} (h : Is i s m) where
   -- past the last page and address there is nothing
 
   pub cached-high : (p : ℕ) → 32 ≤ p → m .cached p ≡ false
-  cached-high p l = sym (ap (λ (n : Station). n .cached p) (h .is)) ∙ tb-high 32 p (view table 0 s 7 0 0) l (cell-lt (start h) 7 0 0)
+  cached-high p l = sym (ap (λ (n : Station). n .cached p) (h .is)) ∙ tb-high 32 p (view table 0 s cachedCell 0 0) l (cell-lt (start h) cachedCell 0 0)
 
   pub read-high : (a : ℕ) → 256 ≤ a → m .rd a ≡ none
   read-high a l =
-      sym (ap (λ (n : Station). n .rd a) (h .is)) ∙ rw (view-col table 0 s 10 0 (a / 8) (omega arith), tb-zero (a % 8))
+      sym (ap (λ (n : Station). n .rd a) (h .is)) ∙ rw (view-col table 0 s readSetCell 0 (a / 8) (omega arith), tb-zero (a % 8))
 
   pub wrote-high : (a : ℕ) → 256 ≤ a → m .wr a ≡ none
   wrote-high a l =
-      sym (ap (λ (n : Station). n .wr a) (h .is)) ∙ rw (view-col table 0 s 11 0 (a / 8) (omega arith), tb-zero (a % 8))
+      sym (ap (λ (n : Station). n .wr a) (h .is)) ∙ rw (view-col table 0 s writtenSetCell 0 (a / 8) (omega arith), tb-zero (a % 8))
 
   pub usedPage-high : (p : ℕ) → 32 ≤ p → usedPage m p ≡ false
   usedPage-high p l = no-eight (λ o. usedAt m (p * 8 + o)) (λ o q. rw (read-high (p * 8 + o) (omega arith), wrote-high (p * 8 + o) (omega arith)))

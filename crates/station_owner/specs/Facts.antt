@@ -12,7 +12,7 @@ use borrow.Author.Tests.{eqb-true, leb-true, eq-eqb, ne-eqb}
 use Rattle.sets.specs.Base.{turned}
 use Rattle.sets.specs.Laws.{byB, eqb-no, ltb-yes, not-no}
 use Rattle.lists.specs.Tests.{and-l, and-r}
-use Rattle.station_state.specs.Layout.{number, station, wait, cached, hasBit, requestedB}
+use Rattle.station_state.specs.Layout.{stateLength, number, station, wait, cached, hasBit, requestedB}
 use Rattle.station_state.specs.Valid.{valid}
 use Rattle.station_state.specs.Facts.{valid-ranged}
 use Rattle.station_state.specs.Changes.{forCommitB}
@@ -27,25 +27,26 @@ use Rattle.station_answer.specs.Did.{Did, doesAll, refuses, said, outcome, deli
 use Rattle.station_answer.specs.Handed.{hand-all}
 use Rattle.station_answer.specs.Ask.{lockingB, openB}
 use Rattle.station_owner.specs.Owner.{ready, called, unlessB, checkBeginB, checkOpenB, checkAddressB, checkPurgeB, commitCalled, abortsB}
+use Rattle.message.specs.Commit.{stationRoom, commitRoom}
 
 -- state and output passed
 pub record Ready (s o c : List ℕ) : Type 0 where
-  pub size : length s ≡ 6713
+  pub size : length s ≡ stateLength
   pub own : station s ≤ 7
-  pub messages-fit : 896 ≤ length o
-  pub commit-fits : 4864 ≤ length c
+  pub messages-fit : stationRoom ≤ length o
+  pub commit-fits : commitRoom ≤ length c
 
 pub ready-is : (s o c : List ℕ) → ready s o c ≡ true → Ready s o c
 unfolding ready
 ready-is s o c h =
-    let two = valid s && leb 896 (length o) in
-    let t : two ≡ true = and-l two (leb 4864 (length c)) h in
-    let v = valid-ranged s (and-l (valid s) (leb 896 (length o)) t) in
+    let two = valid s && leb stationRoom (length o) in
+    let t : two ≡ true = and-l two (leb commitRoom (length c)) h in
+    let v = valid-ranged s (and-l (valid s) (leb stationRoom (length o)) t) in
     record {
       size = v .size;
       own = v .station-fits;
-      messages-fit = leb-true _ _ (and-r (valid s) (leb 896 (length o)) t);
-      commit-fits = leb-true _ _ (and-r two (leb 4864 (length c)) h);
+      messages-fit = leb-true _ _ (and-r (valid s) (leb stationRoom (length o)) t);
+      commit-fits = leb-true _ _ (and-r two (leb commitRoom (length c)) h);
     }
 
 -- a number that is 0 was not turned back

@@ -18,10 +18,11 @@ use Rattle.station_answer.specs.declared.Answer.{Answer}
 use Rattle.station_answer.specs.declared.Answer.the-variants.{Begun, Value, Waits, Written, Aborted, Purged}
 use Rattle.station_answer.specs.Did.{Did, does, doesAll, refuses, said, Outcome, outcome, laid}
 use Rattle.station_answer.specs.Ask.{lockingB, openB}
+use Rattle.message.specs.Commit.{stationRoom, commitRoom}
 
 -- number 1: "output is under .. 8 messages and 4,864 commit bytes (station)"
 unfoldable pub ready : List ℕ → List ℕ → List ℕ → Bool
-ready s o c = valid s && leb 896 (length o) && leb 4864 (length c)
+ready s o c = valid s && leb stationRoom (length o) && leb commitRoom (length c)
 
 -- a call on a lent state and lent buffers
 abbrev pub called : List ℕ → List ℕ → List ℕ → Did → Outcome

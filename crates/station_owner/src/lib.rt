@@ -6,14 +6,31 @@ ghost use lib.Seq.{sets};
 ghost use Rattle.station_answer.specs.Did.{said, outcome, delivered, handed};
 ghost use Rattle.station_callbacks.specs.Callbacks.{sends, posted, post};
 ghost use Rattle.station_owner.specs.Owner.{ready as Owner·ready, called, commitCalled, checkBeginB, checkOpenB, checkAddressB, checkPurgeB, requestB, shownB, readHereB, mayWriteB, asksB, abortsB, ownBeginB, readAsB, ownReadB, writeAsB, ownWriteB, ownAbortB, ownPurgeB};
+ghost use Rattle.station_state.specs.Layout.{stateLength};
+ghost use Rattle.message.specs.Commit.{stationRoom};
 use station_answer::Answer;
 use station_answer::Said;
+use station_state::CACHED;
+use station_state::COPY;
+use station_state::KIND;
+use station_state::LOCKS;
+use station_state::NUMBER;
+use station_state::OPEN;
+use station_state::READ_SET;
+use station_state::READ_VALUES;
+use station_state::STATION;
+use station_state::UNAVAILABLE;
+use station_state::VALUE_WIDTH;
+use station_state::WAIT;
+use station_state::WHOLE;
+use station_state::WRITTEN_SET;
+use station_state::WRITTEN_VALUES;
 
 // Whether the state is one, and the output is long enough: number 1 otherwise.
 pub fn ready(s: &[u8], o: &[u8], c: &[u8]) -> bool
     ensures { λ r. ⌜ r ≡ Owner·ready (now (s .entry)) (now (o .entry)) (now (c .entry)) ⌝ }
 {
-    station_state::valid(s) & (896 <= o.len()) & (4864 <= c.len())
+    station_state::valid(s) & (message::STATION_ROOM <= o.len()) & (message::COMMIT_ROOM <= c.len())
 }
 
 // A refusal.
@@ -24,36 +41,36 @@ pub fn refuse(number: u32) -> Said
 }
 
 fn check_begin(s: &[u8]) -> u32
-    requires { ⌜ length (now s) ≡ 6713 ⌝ }
+    requires { ⌜ length (now s) ≡ stateLength ⌝ }
     ensures { λ r. ⌜ r ≡ checkBeginB (now (s .entry)) ⌝ }
 {
-    if s[6711] != 0 {
+    if s[WAIT] != 0 {
         return 7;
     }
-    if s[6710] != 0 {
+    if s[OPEN] != 0 {
         return 9;
     }
-    if le::get_u32(s, 6312) == 4294967295 {
+    if le::get_u32(s, NUMBER) == 4294967295 {
         return 11;
     }
     0
 }
 
 fn check_open(s: &[u8]) -> u32
-    requires { ⌜ length (now s) ≡ 6713 ⌝ }
+    requires { ⌜ length (now s) ≡ stateLength ⌝ }
     ensures { λ r. ⌜ r ≡ checkOpenB (now (s .entry)) ⌝ }
 {
-    if s[6711] != 0 {
+    if s[WAIT] != 0 {
         return 7;
     }
-    if s[6710] == 0 {
+    if s[OPEN] == 0 {
         return 8;
     }
     0
 }
 
 fn check_address(a: u32, s: &[u8]) -> u32
-    requires { ⌜ length (now s) ≡ 6713 ⌝ }
+    requires { ⌜ length (now s) ≡ stateLength ⌝ }
     ensures { λ r. ⌜ r ≡ checkAddressB a (now (s .entry)) ⌝ }
 {
     if a >= 256 {
@@ -63,7 +80,7 @@ fn check_address(a: u32, s: &[u8]) -> u32
 }
 
 fn check_purge(p: u32, s: &[u8]) -> u32
-    requires { ⌜ length (now s) ≡ 6713 ⌝ }
+    requires { ⌜ length (now s) ≡ stateLength ⌝ }
     ensures { λ r. ⌜ r ≡ checkPurgeB p (now (s .entry)) ⌝ }
 {
     if p >= 32 {
@@ -73,7 +90,7 @@ fn check_purge(p: u32, s: &[u8]) -> u32
         return 7;
     }
     if station_pages::used_page(s, p as usize)
-        | !station_state::has_bit32(le::get_u32(s, 6316), p as usize)
+        | !station_state::has_bit32(le::get_u32(s, CACHED), p as usize)
     {
         return 10;
     }
@@ -91,31 +108,32 @@ pub fn begin(s: &mut [u8], o: &mut [u8], c: &mut [u8]) -> Said
     if n != 0 {
         return refuse(n);
     }
-    let t = le::get_u32(s, 6312) + 1;
+    let t = le::get_u32(s, NUMBER) + 1;
     station_state::begin(s);
     station_answer::say(Answer::Begun(t), 0)
 }
 
 fn shown(a: usize, s: &[u8]) -> bool
-    requires { ⌜ (length (now s) ≡ 6713) × (a < 256) ⌝ }
+    requires { ⌜ (length (now s) ≡ stateLength) × (a < 256) ⌝ }
     ensures { λ r. ⌜ r ≡ shownB a (now (s .entry)) ⌝ }
 {
-    station_state::has_bit32(le::get_u32(s, 6316), a / 8) & !station_state::member(s, 6324, a)
+    station_state::has_bit32(le::get_u32(s, CACHED), a / 8)
+        & !station_state::member(s, UNAVAILABLE, a)
 }
 
 // Asks for an address by a message of kind k.
 fn request(k: u8, a: usize, s: &[u8], o: &mut [u8])
-    requires { ⌜ (length (now s) ≡ 6713) × (896 ≤ length (now o)) × (a < 256) ⌝ }
+    requires { ⌜ (length (now s) ≡ stateLength) × (stationRoom ≤ length (now o)) × (a < 256) ⌝ }
     ensures { λ _. ⌜ now (o .exit) ≡ sets (now (o .entry)) 0 (requestB k a (now (s .entry))) ⌝ }
 {
     message::put_up(
         o,
         0,
         k,
-        s[6708],
+        s[STATION],
         (a / 8) as u8,
         (a % 8) as u8,
-        le::get_u32(s, 6312),
+        le::get_u32(s, NUMBER),
         0,
         0,
     );
@@ -123,11 +141,11 @@ fn request(k: u8, a: usize, s: &[u8], o: &mut [u8])
 
 // What is asked for where it is not at hand.
 fn read_here(a: usize, s: &mut [u8], o: &mut [u8]) -> Said
-    requires { ⌜ (length (now s) ≡ 6713) × (896 ≤ length (now o)) × (a < 256) ⌝ }
+    requires { ⌜ (length (now s) ≡ stateLength) × (stationRoom ≤ length (now o)) × (a < 256) ⌝ }
     ensures { λ r. ⌜ delivered (now (s .exit)) (now (o .exit)) r ≡ handed (now (o .entry)) (readHereB a (now (s .entry))) ⌝ }
 {
     if shown(a, s) {
-        let x = le::get_u64(s, a * 8);
+        let x = le::get_u64(s, COPY + a * VALUE_WIDTH);
         station_state::record_read(s, a);
         return station_answer::say(Answer::Value(x), 0);
     }
@@ -138,14 +156,20 @@ fn read_here(a: usize, s: &mut [u8], o: &mut [u8]) -> Said
 
 // The own last write, then the recorded read, come before the copy.
 fn read_as(a: usize, s: &mut [u8], o: &mut [u8]) -> Said
-    requires { ⌜ (length (now s) ≡ 6713) × (896 ≤ length (now o)) × (a < 256) ⌝ }
+    requires { ⌜ (length (now s) ≡ stateLength) × (stationRoom ≤ length (now o)) × (a < 256) ⌝ }
     ensures { λ r. ⌜ delivered (now (s .exit)) (now (o .exit)) r ≡ handed (now (o .entry)) (readAsB a (now (s .entry))) ⌝ }
 {
-    if station_state::member(s, 6388, a) {
-        return station_answer::say(Answer::Value(le::get_u64(s, 4096 + a * 8)), 0);
+    if station_state::member(s, WRITTEN_SET, a) {
+        return station_answer::say(
+            Answer::Value(le::get_u64(s, WRITTEN_VALUES + a * VALUE_WIDTH)),
+            0,
+        );
     }
-    if station_state::member(s, 6356, a) {
-        return station_answer::say(Answer::Value(le::get_u64(s, 2048 + a * 8)), 0);
+    if station_state::member(s, READ_SET, a) {
+        return station_answer::say(
+            Answer::Value(le::get_u64(s, READ_VALUES + a * VALUE_WIDTH)),
+            0,
+        );
     }
     read_here(a, s, o)
 }
@@ -165,29 +189,29 @@ pub fn read(address: u32, s: &mut [u8], o: &mut [u8], c: &mut [u8]) -> Said
 }
 
 fn may_write(a: usize, s: &[u8]) -> bool
-    requires { ⌜ (length (now s) ≡ 6713) × (a < 256) ⌝ }
+    requires { ⌜ (length (now s) ≡ stateLength) × (a < 256) ⌝ }
     ensures { λ r. ⌜ r ≡ mayWriteB a (now (s .entry)) ⌝ }
 {
-    if s[6709] == 0 {
-        return station_state::member(s, 6420, a)
-            | station_state::has_bit32(le::get_u32(s, 6320), a / 8);
+    if s[KIND] == 0 {
+        return station_state::member(s, LOCKS, a)
+            | station_state::has_bit32(le::get_u32(s, WHOLE), a / 8);
     }
-    station_state::has_bit32(le::get_u32(s, 6316), a / 8)
+    station_state::has_bit32(le::get_u32(s, CACHED), a / 8)
 }
 
 // The kind of message that asks for a write: 2 by a locking station, 1 by a validating one.
 fn asks(s: &[u8]) -> u8
-    requires { ⌜ length (now s) ≡ 6713 ⌝ }
+    requires { ⌜ length (now s) ≡ stateLength ⌝ }
     ensures { λ r. ⌜ r ≡ asksB (now (s .entry)) ⌝ }
 {
-    if s[6709] == 0 {
+    if s[KIND] == 0 {
         return 2;
     }
     1
 }
 
 fn write_as(a: usize, v: u64, s: &mut [u8], o: &mut [u8]) -> Said
-    requires { ⌜ (length (now s) ≡ 6713) × (896 ≤ length (now o)) × (a < 256) ⌝ }
+    requires { ⌜ (length (now s) ≡ stateLength) × (stationRoom ≤ length (now o)) × (a < 256) ⌝ }
     ensures { λ r. ⌜ delivered (now (s .exit)) (now (o .exit)) r ≡ handed (now (o .entry)) (writeAsB a v (now (s .entry))) ⌝ }
 {
     if may_write(a, s) {
@@ -235,11 +259,11 @@ pub fn commit(s: &mut [u8], o: &mut [u8], c: &mut [u8]) -> Said
 
 // A locking station tells the server of an abort: how many messages that is.
 fn tell_abort(s: &[u8], o: &mut [u8]) -> usize
-    requires { ⌜ (length (now s) ≡ 6713) × (896 ≤ length (now o)) ⌝ }
+    requires { ⌜ (length (now s) ≡ stateLength) × (stationRoom ≤ length (now o)) ⌝ }
     ensures { λ k. ⌜ posted (now (s .entry)) (now (o .exit)) k ≡ post (now (o .entry)) (sends (now (s .entry)) (abortsB (now (s .entry)))) ⌝ }
 {
-    if s[6709] == 0 {
-        message::put_up(o, 0, 4, s[6708], 0, 0, le::get_u32(s, 6312), 0, 0);
+    if s[KIND] == 0 {
+        message::put_up(o, 0, 4, s[STATION], 0, 0, le::get_u32(s, NUMBER), 0, 0);
         return 1;
     }
     0
@@ -256,7 +280,7 @@ pub fn abort(s: &mut [u8], o: &mut [u8], c: &mut [u8]) -> Said
     if n != 0 {
         return refuse(n);
     }
-    let i = s[6708];
+    let i = s[STATION];
     let k = tell_abort(s, o);
     station_callbacks::undo(s);
     let sent = station_callbacks::close(s, o, k, i);
@@ -274,7 +298,7 @@ pub fn purge(page: u32, s: &mut [u8], o: &mut [u8], c: &mut [u8]) -> Said
     if n != 0 {
         return refuse(n);
     }
-    message::put_up(o, 0, 5, s[6708], page as u8, 0, 0, 0, 0);
+    message::put_up(o, 0, 5, s[STATION], page as u8, 0, 0, 0, 0);
     station_pages::drop_pages(s, station_state::bit32(page as usize));
     station_answer::say(Answer::Purged, 1)
 }

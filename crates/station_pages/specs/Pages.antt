@@ -7,8 +7,10 @@ use lib.Bits.{bitAnd, bitOr}
 use lib.Dec.{eqb}
 use Rattle.le.specs.Le.{u32At, u64At, setU32, setU64}
 use Rattle.cells.specs.Loops.{anyTo, maskTo}
-use Rattle.station_state.specs.Layout.{cached, unavailable, readSet, writtenSet, writtenValue, hasBit, requestedB}
+use Rattle.station_state.specs.Layout.{cachedFrom, unavailableFrom, copyFrom, versionFrom, valueWidth, numberWidth, cached, unavailable, readSet, writtenSet, writtenValue, hasBit, requestedB}
 use Rattle.station_state.specs.Changes.{pageOn}
+use Rattle.message.specs.Layout.{versionFrom as Message·versionFrom, setsFrom, valuesFrom}
+use Rattle.layout.specs.Record.{valueLength}
 
 -- "on which the transaction has read or written": something on the page
 unfoldable pub usedPageB : List ℕ → ℕ → Bool
@@ -48,10 +50,10 @@ droppedB sets s = maskTo (dropsB sets s) 32
 -- a dropped page leaves nothing behind: the first n of its values, then version and unavailable set
 unfoldable pub blankTo : List ℕ → ℕ → ℕ → List ℕ
 blankTo s p zero = s
-blankTo s p (suc o) = setU64 (blankTo s p o) ((p * 8 + o) * 8) 0
+blankTo s p (suc o) = setU64 (blankTo s p o) (copyFrom + (p * 8 + o) * valueWidth) 0
 
 unfoldable pub dropPageB : List ℕ → ℕ → List ℕ
-dropPageB s p = set (setU32 (blankTo s p 8) (6184 + p * 4) 0) (6324 + p) 0
+dropPageB s p = set (setU32 (blankTo s p 8) (versionFrom + p * numberWidth) 0) (unavailableFrom + p) 0
 
 unfoldable pub dropOneB : List ℕ → ℕ → ℕ → List ℕ
 dropOneB s d p = cond (hasBit d p) (dropPageB s p) s
@@ -62,11 +64,11 @@ dropTo s d (suc p) = dropOneB (dropTo s d p) d p
 
 -- the pages of set d are dropped
 unfoldable pub dropPagesB : ℕ → List ℕ → List ℕ
-dropPagesB d s = let t = dropTo s d 32 in setU32 t 6316 (bitAnd (u32At t 6316) (4294967295 - d))
+dropPagesB d s = let t = dropTo s d 32 in setU32 t cachedFrom (bitAnd (u32At t cachedFrom) (4294967295 - d))
 
 -- "mark the named objects unavailable" (on cached pages)
 unfoldable pub markOneB : List ℕ → List ℕ → ℕ → List ℕ
-markOneB sets s p = cond (hasBit (cached s) p) (set s (6324 + p) (bitOr (unavailable s p) (getD sets p 0))) s
+markOneB sets s p = cond (hasBit (cached s) p) (set s (unavailableFrom + p) (bitOr (unavailable s p) (getD sets p 0))) s
 
 unfoldable pub markTo : List ℕ → List ℕ → ℕ → List ℕ
 markTo sets s zero = s
@@ -77,18 +79,18 @@ markB sets s = markTo sets s 32
 
 -- "An arriving page replaces the copy save for the transaction's own values": object o of page p, from message m
 unfoldable pub arrivesB : List ℕ → List ℕ → ℕ → ℕ → ℕ
-arrivesB m s p o = cond (hasBit (writtenSet s p) o) (writtenValue s (p * 8 + o)) (u64At m (48 + o * 8))
+arrivesB m s p o = cond (hasBit (writtenSet s p) o) (writtenValue s (p * 8 + o)) (u64At m (valuesFrom + o * valueLength))
 
 unfoldable pub arriveTo : List ℕ → List ℕ → ℕ → ℕ → List ℕ
 arriveTo m s p zero = s
-arriveTo m s p (suc o) = setU64 (arriveTo m s p o) ((p * 8 + o) * 8) (arrivesB m (arriveTo m s p o) p o)
+arriveTo m s p (suc o) = setU64 (arriveTo m s p o) (copyFrom + (p * 8 + o) * valueWidth) (arrivesB m (arriveTo m s p o) p o)
 
 unfoldable pub arriveB : List ℕ → ℕ → List ℕ → List ℕ
-arriveB m p s = pageOn (set (setU32 (arriveTo m s p 8) (6184 + p * 4) (u32At m 12)) (6324 + p) (getD m 16 0)) 6316 p
+arriveB m p s = pageOn (set (setU32 (arriveTo m s p 8) (versionFrom + p * numberWidth) (u32At m Message·versionFrom)) (unavailableFrom + p) (getD m setsFrom 0)) cachedFrom p
 
 -- "On 21 written pages take the commit number as version"
 unfoldable pub versionOneB : ℕ → List ℕ → ℕ → List ℕ
-versionOneB n s p = cond (hasBit (cached s) p && wrotePageB s p) (setU32 s (6184 + p * 4) n) s
+versionOneB n s p = cond (hasBit (cached s) p && wrotePageB s p) (setU32 s (versionFrom + p * numberWidth) n) s
 
 unfoldable pub versionsTo : ℕ → List ℕ → ℕ → List ℕ
 versionsTo n s zero = s

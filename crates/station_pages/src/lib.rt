@@ -4,6 +4,17 @@ ghost use mathlib.Core.Bool.{cond};
 ghost use Prim.Native.Nat.{_+_, _*_, _≤_, _<_, _^_};
 ghost use lib.ListN.{length};
 ghost use Rattle.station_pages.specs.Pages.{usedPageB, wrotePageB, usedPagesB, writtenPagesB, usesB, inUseB, touchesB, touchedB, dropsB, droppedB, blankTo, dropPageB, dropOneB, dropPagesB, markOneB, markB, arrivesB, arriveTo, arriveB, versionOneB, versionsB};
+ghost use Rattle.station_state.specs.Layout.{stateLength};
+ghost use Rattle.message.specs.Layout.{messageLength};
+use station_state::CACHED;
+use station_state::COPY;
+use station_state::NUMBER_WIDTH;
+use station_state::READ_SET;
+use station_state::UNAVAILABLE;
+use station_state::VALUE_WIDTH;
+use station_state::VERSIONS;
+use station_state::WRITTEN_SET;
+use station_state::WRITTEN_VALUES;
 
 // The bit of page p, if so.
 fn bit_if(yes: bool, p: usize) -> u32
@@ -17,22 +28,22 @@ fn bit_if(yes: bool, p: usize) -> u32
 }
 
 pub fn used_page(s: &[u8], p: usize) -> bool
-    requires { ⌜ (length (now s) ≡ 6713) × (p < 32) ⌝ }
+    requires { ⌜ (length (now s) ≡ stateLength) × (p < 32) ⌝ }
     ensures { λ r. ⌜ r ≡ usedPageB (now (s .entry)) p ⌝ }
 {
-    (s[6356 + p] | s[6388 + p]) != 0
+    (s[READ_SET + p] | s[WRITTEN_SET + p]) != 0
 }
 
 fn wrote_page(s: &[u8], p: usize) -> bool
-    requires { ⌜ (length (now s) ≡ 6713) × (p < 32) ⌝ }
+    requires { ⌜ (length (now s) ≡ stateLength) × (p < 32) ⌝ }
     ensures { λ r. ⌜ r ≡ wrotePageB (now (s .entry)) p ⌝ }
 {
-    s[6388 + p] != 0
+    s[WRITTEN_SET + p] != 0
 }
 
 // The pages on which the transaction has read or written.
 pub fn used_pages(s: &[u8]) -> u32
-    requires { ⌜ length (now s) ≡ 6713 ⌝ }
+    requires { ⌜ length (now s) ≡ stateLength ⌝ }
     ensures { λ r. ⌜ r ≡ usedPagesB (now (s .entry)) ⌝ }
 {
     let mut d: u32 = 0;
@@ -45,7 +56,7 @@ pub fn used_pages(s: &[u8]) -> u32
 }
 
 pub fn written_pages(s: &[u8]) -> u32
-    requires { ⌜ length (now s) ≡ 6713 ⌝ }
+    requires { ⌜ length (now s) ≡ stateLength ⌝ }
     ensures { λ r. ⌜ r ≡ writtenPagesB (now (s .entry)) ⌝ }
 {
     let mut d: u32 = 0;
@@ -58,15 +69,15 @@ pub fn written_pages(s: &[u8]) -> u32
 }
 
 fn uses(sets: &[u8], s: &[u8], p: usize) -> bool
-    requires { ⌜ (length (now s) ≡ 6713) × (32 ≤ length (now sets)) × (p < 32) ⌝ }
+    requires { ⌜ (length (now s) ≡ stateLength) × (32 ≤ length (now sets)) × (p < 32) ⌝ }
     ensures { λ r. ⌜ r ≡ usesB (now (sets .entry)) (now (s .entry)) p ⌝ }
 {
-    sets[p] & (s[6356 + p] | s[6388 + p]) != 0
+    sets[p] & (s[READ_SET + p] | s[WRITTEN_SET + p]) != 0
 }
 
 // Whether the transaction has read or written an object of these sets.
 pub fn in_use(sets: &[u8], s: &[u8]) -> bool
-    requires { ⌜ (length (now s) ≡ 6713) × (32 ≤ length (now sets)) ⌝ }
+    requires { ⌜ (length (now s) ≡ stateLength) × (32 ≤ length (now sets)) ⌝ }
     ensures { λ r. ⌜ r ≡ inUseB (now (sets .entry)) (now (s .entry)) ⌝ }
 {
     let mut r = false;
@@ -79,7 +90,7 @@ pub fn in_use(sets: &[u8], s: &[u8]) -> bool
 }
 
 fn touches(d: u32, s: &[u8], p: usize) -> bool
-    requires { ⌜ (length (now s) ≡ 6713) × (p < 32) ⌝ }
+    requires { ⌜ (length (now s) ≡ stateLength) × (p < 32) ⌝ }
     ensures { λ r. ⌜ r ≡ touchesB d (now (s .entry)) p ⌝ }
 {
     station_state::has_bit32(d, p) & used_page(s, p)
@@ -87,7 +98,7 @@ fn touches(d: u32, s: &[u8], p: usize) -> bool
 
 // Whether the transaction has used one of these pages.
 pub fn touched(d: u32, s: &[u8]) -> bool
-    requires { ⌜ length (now s) ≡ 6713 ⌝ }
+    requires { ⌜ length (now s) ≡ stateLength ⌝ }
     ensures { λ r. ⌜ r ≡ touchedB d (now (s .entry)) ⌝ }
 {
     let mut r = false;
@@ -100,10 +111,10 @@ pub fn touched(d: u32, s: &[u8]) -> bool
 }
 
 fn drops(sets: &[u8], s: &[u8], p: usize) -> bool
-    requires { ⌜ (length (now s) ≡ 6713) × (32 ≤ length (now sets)) × (p < 32) ⌝ }
+    requires { ⌜ (length (now s) ≡ stateLength) × (32 ≤ length (now sets)) × (p < 32) ⌝ }
     ensures { λ r. ⌜ r ≡ dropsB (now (sets .entry)) (now (s .entry)) p ⌝ }
 {
-    station_state::has_bit32(le::get_u32(s, 6316), p)
+    station_state::has_bit32(le::get_u32(s, CACHED), p)
         & (sets[p] != 0)
         & !used_page(s, p)
         & !station_state::requested(s, p)
@@ -111,7 +122,7 @@ fn drops(sets: &[u8], s: &[u8], p: usize) -> bool
 
 // The pages that a callback of these sets drops.
 pub fn dropped(sets: &[u8], s: &[u8]) -> u32
-    requires { ⌜ (length (now s) ≡ 6713) × (32 ≤ length (now sets)) ⌝ }
+    requires { ⌜ (length (now s) ≡ stateLength) × (32 ≤ length (now sets)) ⌝ }
     ensures { λ r. ⌜ r ≡ droppedB (now (sets .entry)) (now (s .entry)) ⌝ }
 {
     let mut d: u32 = 0;
@@ -125,27 +136,27 @@ pub fn dropped(sets: &[u8], s: &[u8]) -> u32
 
 // The eight values of a page become 0.
 fn blank(s: &mut [u8], p: usize)
-    requires { ⌜ (length (now s) ≡ 6713) × (p < 32) ⌝ }
+    requires { ⌜ (length (now s) ≡ stateLength) × (p < 32) ⌝ }
     ensures { λ _. ⌜ now (s .exit) ≡ blankTo (now (s .entry)) p 8 ⌝ }
 {
     let mut o = 0;
     while o < 8 {
-        le::put_u64(s, (p * 8 + o) * 8, 0);
+        le::put_u64(s, COPY + (p * 8 + o) * VALUE_WIDTH, 0);
         o += 1;
     }
 }
 
 fn drop_page(s: &mut [u8], p: usize)
-    requires { ⌜ (length (now s) ≡ 6713) × (p < 32) ⌝ }
+    requires { ⌜ (length (now s) ≡ stateLength) × (p < 32) ⌝ }
     ensures { λ _. ⌜ now (s .exit) ≡ dropPageB (now (s .entry)) p ⌝ }
 {
     blank(s, p);
-    le::put_u32(s, 6184 + p * 4, 0);
-    le::put_u8(s, 6324 + p, 0);
+    le::put_u32(s, VERSIONS + p * NUMBER_WIDTH, 0);
+    le::put_u8(s, UNAVAILABLE + p, 0);
 }
 
 fn drop_one(s: &mut [u8], d: u32, p: usize)
-    requires { ⌜ (length (now s) ≡ 6713) × (p < 32) ⌝ }
+    requires { ⌜ (length (now s) ≡ stateLength) × (p < 32) ⌝ }
     ensures { λ _. ⌜ now (s .exit) ≡ dropOneB (now (s .entry)) d p ⌝ }
 {
     if station_state::has_bit32(d, p) {
@@ -156,7 +167,7 @@ fn drop_one(s: &mut [u8], d: u32, p: usize)
 
 // Drops the pages of a set: nothing of them is left.
 pub fn drop_pages(s: &mut [u8], d: u32)
-    requires { ⌜ length (now s) ≡ 6713 ⌝ }
+    requires { ⌜ length (now s) ≡ stateLength ⌝ }
     ensures { λ _. ⌜ now (s .exit) ≡ dropPagesB d (now (s .entry)) ⌝ }
 {
     let mut p = 0;
@@ -164,24 +175,24 @@ pub fn drop_pages(s: &mut [u8], d: u32)
         drop_one(s, d, p);
         p += 1;
     }
-    let x = le::get_u32(s, 6316);
-    le::put_u32(s, 6316, x & !d);
+    let x = le::get_u32(s, CACHED);
+    le::put_u32(s, CACHED, x & !d);
 }
 
 fn mark_one(s: &mut [u8], sets: &[u8], p: usize)
-    requires { ⌜ (length (now s) ≡ 6713) × (32 ≤ length (now sets)) × (p < 32) ⌝ }
+    requires { ⌜ (length (now s) ≡ stateLength) × (32 ≤ length (now sets)) × (p < 32) ⌝ }
     ensures { λ _. ⌜ now (s .exit) ≡ markOneB (now (sets .entry)) (now (s .entry)) p ⌝ }
 {
-    if station_state::has_bit32(le::get_u32(s, 6316), p) {
-        let x = s[6324 + p] | sets[p];
-        le::put_u8(s, 6324 + p, x);
+    if station_state::has_bit32(le::get_u32(s, CACHED), p) {
+        let x = s[UNAVAILABLE + p] | sets[p];
+        le::put_u8(s, UNAVAILABLE + p, x);
         return;
     }
 }
 
 // Marks the objects of these sets unavailable on the cached pages.
 pub fn mark(s: &mut [u8], sets: &[u8])
-    requires { ⌜ (length (now s) ≡ 6713) × (32 ≤ length (now sets)) ⌝ }
+    requires { ⌜ (length (now s) ≡ stateLength) × (32 ≤ length (now sets)) ⌝ }
     ensures { λ _. ⌜ now (s .exit) ≡ markB (now (sets .entry)) (now (s .entry)) ⌝ }
 {
     let mut p = 0;
@@ -193,51 +204,55 @@ pub fn mark(s: &mut [u8], sets: &[u8])
 
 // The value of object o of page p when message m brings the page: the own one, if the transaction wrote it.
 fn arrives(m: &[u8], s: &[u8], p: usize, o: usize) -> u64
-    requires { ⌜ (length (now s) ≡ 6713) × (112 ≤ length (now m)) × (p < 32) × (o < 8) ⌝ }
+    requires { ⌜ (length (now s) ≡ stateLength) × (messageLength ≤ length (now m)) × (p < 32) × (o < 8) ⌝ }
     ensures { λ r. ⌜ r ≡ arrivesB (now (m .entry)) (now (s .entry)) p o ⌝ }
 {
-    if station_state::has_bit8(s[6388 + p], o) {
-        return le::get_u64(s, 4096 + (p * 8 + o) * 8);
+    if station_state::has_bit8(s[WRITTEN_SET + p], o) {
+        return le::get_u64(s, WRITTEN_VALUES + (p * 8 + o) * VALUE_WIDTH);
     }
-    le::get_u64(m, 48 + o * 8)
+    le::get_u64(m, message::VALUES + o * record::VALUE)
 }
 
 fn arrive_values(s: &mut [u8], m: &[u8], p: usize)
-    requires { ⌜ (length (now s) ≡ 6713) × (112 ≤ length (now m)) × (p < 32) ⌝ }
+    requires { ⌜ (length (now s) ≡ stateLength) × (messageLength ≤ length (now m)) × (p < 32) ⌝ }
     ensures { λ _. ⌜ now (s .exit) ≡ arriveTo (now (m .entry)) (now (s .entry)) p 8 ⌝ }
 {
     let mut o = 0;
     while o < 8 {
         let v = arrives(m, s, p, o);
-        le::put_u64(s, (p * 8 + o) * 8, v);
+        le::put_u64(s, COPY + (p * 8 + o) * VALUE_WIDTH, v);
         o += 1;
     }
 }
 
 // Page p arrives with message m: values, version, unavailable set.
 pub fn arrive(s: &mut [u8], m: &[u8], p: usize)
-    requires { ⌜ (length (now s) ≡ 6713) × (112 ≤ length (now m)) × (p < 32) ⌝ }
+    requires { ⌜ (length (now s) ≡ stateLength) × (messageLength ≤ length (now m)) × (p < 32) ⌝ }
     ensures { λ _. ⌜ now (s .exit) ≡ arriveB (now (m .entry)) p (now (s .entry)) ⌝ }
 {
     arrive_values(s, m, p);
-    le::put_u32(s, 6184 + p * 4, le::get_u32(m, 12));
-    le::put_u8(s, 6324 + p, m[16]);
-    station_state::page_on(s, 6316, p);
+    le::put_u32(
+        s,
+        VERSIONS + p * NUMBER_WIDTH,
+        le::get_u32(m, message::VERSION),
+    );
+    le::put_u8(s, UNAVAILABLE + p, m[message::SETS]);
+    station_state::page_on(s, CACHED, p);
 }
 
 fn version_one(s: &mut [u8], n: u32, p: usize)
-    requires { ⌜ (length (now s) ≡ 6713) × (p < 32) ⌝ }
+    requires { ⌜ (length (now s) ≡ stateLength) × (p < 32) ⌝ }
     ensures { λ _. ⌜ now (s .exit) ≡ versionOneB n (now (s .entry)) p ⌝ }
 {
-    if station_state::has_bit32(le::get_u32(s, 6316), p) & wrote_page(s, p) {
-        le::put_u32(s, 6184 + p * 4, n);
+    if station_state::has_bit32(le::get_u32(s, CACHED), p) & wrote_page(s, p) {
+        le::put_u32(s, VERSIONS + p * NUMBER_WIDTH, n);
         return;
     }
 }
 
 // Written cached pages take version n.
 pub fn versions(s: &mut [u8], n: u32)
-    requires { ⌜ length (now s) ≡ 6713 ⌝ }
+    requires { ⌜ length (now s) ≡ stateLength ⌝ }
     ensures { λ _. ⌜ now (s .exit) ≡ versionsB n (now (s .entry)) ⌝ }
 {
     let mut p = 0;

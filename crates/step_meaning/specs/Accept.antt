@@ -43,7 +43,7 @@ or-more : {G : Type 0} (n k : ℕ) → n ≤ k → (k ≡ n → G) → (suc n �
 or-more n k l f g = byEq k n (λ e. f (eqb-yes k n e)) (λ e. g (omega (arith, eqb-no k n e)))
 
 -- the kinds that the server takes
-by-kind : {G : Type 0} (k : ℕ) → 1 ≤ k → k ≤ 8 → (k ≡ 1 → G) → (k ≡ 2 → G) → (k ≡ 3 → G) → (k ≡ 4 → G) → (k ≡ 5 → G) → (k ≡ 6 → G) → (k ≡ 7 → G) → (k ≡ 8 → G) → G
+pub by-kind : {G : Type 0} (k : ℕ) → 1 ≤ k → k ≤ 8 → (k ≡ 1 → G) → (k ≡ 2 → G) → (k ≡ 3 → G) → (k ≡ 4 → G) → (k ≡ 5 → G) → (k ≡ 6 → G) → (k ≡ 7 → G) → (k ≡ 8 → G) → G
 by-kind k from to f1 f2 f3 f4 f5 f6 f7 f8 =
     or-more 1 k from f1
     (λ l. or-more 2 k l f2

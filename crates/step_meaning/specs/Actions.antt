@@ -20,15 +20,15 @@ use Rattle.recs.specs.Recs.{asRecord}
 use Rattle.line.specs.Messages.{locking, Work, Lock, Invalidate}
 use Rattle.line.specs.Server.{Server, onServer, setListed, wrotePage, sendPage, leave, finish, abort, write, archive, inform, informFrom, install, recordOf}
 use Rattle.line.specs.Server as Model
-use Rattle.station_state.specs.Layout.{hasBit, member}
+use Rattle.station_state.specs.Layout.{numberWidth, valueWidth, hasBit, member}
 use Rattle.set_record.specs.Record.{valuesAt}
-use Rattle.server_state.specs.Layout.{readValuesFrom, writtenValuesFrom, workNumber, lastOf, readSetFrom, writtenSetFrom, writtenSet}
+use Rattle.server_state.specs.Layout.{readValueCell, writtenValueCell, workCell, readSetCell, writtenSetCell, table, workFrom, readValuesFrom, writtenValuesFrom, workNumber, lastOf, readSetFrom, writtenSetFrom, writtenSet}
 use Rattle.server_tests.specs.Tests.{informedB}
 use Rattle.server_changes.specs.Changes.{finishB, leaveB, writeB}
 use Rattle.server_actions.specs.Actions.{Serving, recordB, sendPageB, abortB, writtenPageB, writtenPagesB, informB, informTo, installB}
 use Rattle.station_meaning.specs.Meant.{within, valueIf}
 use Rattle.station_meaning.specs.Tests.{has-if}
-use Rattle.server_meaning.specs.Meant.{table, Is, start, workOf}
+use Rattle.server_meaning.specs.Meant.{Is, start, workOf}
 use Rattle.server_meaning.specs.Tests.{latest-at, latest-lt, last-at, kind-at, informed-at}
 use Rattle.server_meaning.specs.Changes.{list-is, unlist-is}
 use Rattle.server_meaning.specs.Waiting.{leave-is}
@@ -90,22 +90,22 @@ module _ {s : List ℕ} {m : Server} (h : Is s m) (i : ℕ) (l : i < 8) where
   -- the work of i's row, as the bytes tell it
 
   number-is : workNumber s i ≡ workOf s i .transaction
-  number-is = get32 (start h) 9 i 0 (36112 + i * 4) refl (omega arith) l (omega arith)
+  number-is = get32 (start h) workCell i 0 (workFrom + i * numberWidth) refl (omega arith) l (omega arith)
 
   number-lt : workNumber s i < 2 ^ 32
-  number-lt = rw number-is (cell-lt (start h) 9 i 0)
+  number-lt = rw number-is (cell-lt (start h) workCell i 0)
 
   reads-are : (a : ℕ) → a < 256 → valuesAt s (readSetFrom i) (readValuesFrom i) a ≡ workOf s i .reads a
   unfolding member hasBit
   reads-are a la =
-      ap₂ valueIf (test8 (start h) 16 i (a / 8) (a % 8) (36504 + i * 32 + a / 8) (omega arith) l (omega arith) refl)
-      (get64 (start h) 1 i a (2048 + i * 2048 + a * 8) refl (omega arith) l la)
+      ap₂ valueIf (test8 (start h) readSetCell i (a / 8) (a % 8) (readSetFrom i + a / 8) (omega arith) l (omega arith) refl)
+      (get64 (start h) readValueCell i a (readValuesFrom i + a * valueWidth) refl (omega arith) l la)
 
   writes-are : (a : ℕ) → a < 256 → valuesAt s (writtenSetFrom i) (writtenValuesFrom i) a ≡ workOf s i .writes a
   unfolding member hasBit
   writes-are a la =
-      ap₂ valueIf (test8 (start h) 17 i (a / 8) (a % 8) (36760 + i * 32 + a / 8) (omega arith) l (omega arith) refl)
-      (get64 (start h) 2 i a (18432 + i * 2048 + a * 8) refl (omega arith) l la)
+      ap₂ valueIf (test8 (start h) writtenSetCell i (a / 8) (a % 8) (writtenSetFrom i + a / 8) (omega arith) l (omega arith) refl)
+      (get64 (start h) writtenValueCell i a (writtenValuesFrom i + a * valueWidth) refl (omega arith) l la)
 
   -- "archive the record"
   pub record-is : recordB i s ≡ bytesOf (asRecord (recordOf m i (workOf s i)))
@@ -119,14 +119,14 @@ module _ {s : List ℕ} {m : Server} (h : Is s m) (i : ℕ) (l : i < 8) where
       )
 
   -- the pages that it writes
-  written-cell : (p : ℕ) → p < 32 → writtenSet s i p ≡ view table 0 s 17 i p
-  written-cell p lp = get8 (start h) 17 i p (36760 + i * 32 + p) refl (omega arith) l lp
+  written-cell : (p : ℕ) → p < 32 → writtenSet s i p ≡ view table 0 s writtenSetCell i p
+  written-cell p lp = get8 (start h) writtenSetCell i p (writtenSetFrom i + p) refl (omega arith) l lp
 
-  wrote-cell : (p : ℕ) → not (eqb (view table 0 s 17 i p) 0) ≡ wrotePage (workOf s i) p
+  wrote-cell : (p : ℕ) → not (eqb (view table 0 s writtenSetCell i p) 0) ≡ wrotePage (workOf s i) p
   wrote-cell p =
-      sym (page-any (view table 0 s 17 i) p (cell-lt (start h) 17 i p))
-      ∙ any-ext 8 (λ o. within (view table 0 s 17 i) (p * 8 + o)) (λ o. has (workOf s i .writes (p * 8 + o)))
-      (λ o. sym (has-if (within (view table 0 s 17 i) (p * 8 + o)) (view table 0 s 2 i (p * 8 + o))))
+      sym (page-any (view table 0 s writtenSetCell i) p (cell-lt (start h) writtenSetCell i p))
+      ∙ any-ext 8 (λ o. within (view table 0 s writtenSetCell i) (p * 8 + o)) (λ o. has (workOf s i .writes (p * 8 + o)))
+      (λ o. sym (has-if (within (view table 0 s writtenSetCell i) (p * 8 + o)) (view table 0 s writtenValueCell i (p * 8 + o))))
 
   pub writtenPages-is : _≡_ {A = ℕ → Bool} (tb (writtenPagesB s i)) (wrotePage (workOf s i))
   unfolding writtenPagesB writtenPageB
@@ -136,7 +136,7 @@ module _ {s : List ℕ} {m : Server} (h : Is s m) (i : ℕ) (l : i < 8) where
       mask-is (writtenPageB s i) 32 p
       ∙ byB (ltb p 32)
       (λ e. rw (e, written-cell p (ltb-yes p 32 e)) (wrote-cell p))
-      (λ e. rw (e, ← wrote-cell p, view-col table 0 s 17 i p (ltb-no p 32 e))))
+      (λ e. rw (e, ← wrote-cell p, view-col table 0 s writtenSetCell i p (ltb-no p 32 e))))
 
 pub writtenPages-lt : (s : List ℕ) (i : ℕ) → writtenPagesB s i < 2 ^ 32
 unfolding writtenPagesB

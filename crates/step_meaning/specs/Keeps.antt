@@ -15,22 +15,24 @@ use Rattle.le.specs.Laws.{setU32-is}
 use Rattle.cells.specs.Num.{AllBytes, put-other}
 use Rattle.line.specs.Server.{Server, Waiter, NoWant, WantCommit, isWant, noWaiter, setWl, setLatest, setQueue}
 use Rattle.message.specs.Layout.{transactionOf}
-use Rattle.station_state.specs.Layout.{hasBit, member}
+use Rattle.message.specs.Commit.{recordAt, addressesAt}
+use Rattle.record.specs.Check.{writeCountFrom, readCountFrom}
+use Rattle.station_state.specs.Layout.{pageSetWidth, numberWidth, valueWidth, hasBit, member}
 use Rattle.station_state.specs.Changes.{addTo, pageOn, pageOff, clearTo}
-use Rattle.server_state.specs.Layout.{agesOf, latestOf, lockOf, wholeOf, writtenSet, writtenSetFrom, writtenValuesFrom}
+use Rattle.server_state.specs.Layout.{ageWidth, valueFrom, valueRow, setRow, ageFrom, arrivalFrom, nextAgeFrom, nextArrivalFrom, versionFrom, workFrom, latestFrom, listedFrom, lastFrom, askedFrom, lockFrom, wholeFrom, wantFrom, requestFrom, calledFrom, pendFrom, busyFrom, unfinishedFrom, readValuesFrom, sentVersionsFrom, readSetFrom, agesOf, latestOf, lockOf, wholeOf, writtenSet, writtenSetFrom, writtenValuesFrom}
 use Rattle.server_changes.specs.Changes.{noticeB, freePageB, freePagesTo, freeOneB, freeTo, finishB, leaveB, joinB, joinReadB, joinWriteB, unpackOne, unpackTo, versionsIn, unpackB, joinCommitB, listB, unlistB, markBusyB, answeredB, lockOneB, lockTo, loosenB, askedB, calledB, lockPageB, lockObjectB, versionOneB, versionsTo, valueOneB, valuesTo, writeB}
 use Rattle.server_meaning.specs.Tests.{Wanting}
 use Rattle.step_meaning.specs.Relation.{Sound}
 
--- THE WANT BYTES, 37,024 TO 37,031
+-- THE WANT BYTES
 
 -- as a record, so that the state is told by the type
 record Ok (s : List ℕ) : Type 0 where
   wants : Wanting s
 
 -- a store elsewhere
-want-set : {s : List ℕ} → Ok s → (at v : ℕ) → ((j : ℕ) → j < 8 → 37024 + j ≢ at) → Ok (set s at v)
-want-set {s} k at v n = record { wants = λ j l. rw (getD-set-other s at (37024 + j) v 0 (n j l)) (k .wants j l) }
+want-set : {s : List ℕ} → Ok s → (at v : ℕ) → ((j : ℕ) → j < 8 → wantFrom + j ≢ at) → Ok (set s at v)
+want-set {s} k at v n = record { wants = λ j l. rw (getD-set-other s at (wantFrom + j) v 0 (n j l)) (k .wants j l) }
 
 -- .. or of a number that may stand there
 set-le : (s : List ℕ) (at v : ℕ) → v ≤ 3 → (j : ℕ) → getD s j 0 ≤ 3 → getD (set s at v) j 0 ≤ 3
@@ -41,12 +43,12 @@ set-le (x ∷ s) (suc at) v l zero h = h
 set-le (x ∷ s) (suc at) v l (suc j) h = set-le s at v l j h
 
 want-small : {s : List ℕ} → Ok s → (at v : ℕ) → v ≤ 3 → Ok (set s at v)
-want-small {s} k at v n = record { wants = λ j l. set-le s at v n (37024 + j) (k .wants j l) }
+want-small {s} k at v n = record { wants = λ j l. set-le s at v n (wantFrom + j) (k .wants j l) }
 
-want-u32 : {s : List ℕ} → Ok s → (at v : ℕ) → at + 4 ≤ 37024 → Ok (setU32 s at v)
-want-u32 {s} k at v n = record { wants = λ j l. rw (setU32-is s at v, put-other 4 s at v (37024 + j) (inr (omega arith))) (k .wants j l) }
+want-u32 : {s : List ℕ} → Ok s → (at v : ℕ) → at + 4 ≤ wantFrom → Ok (setU32 s at v)
+want-u32 {s} k at v n = record { wants = λ j l. rw (setU32-is s at v, put-other 4 s at v (wantFrom + j) (inr (omega arith))) (k .wants j l) }
 
-want-u64 : {s : List ℕ} → Ok s → (at v : ℕ) → at + 8 ≤ 37024 → Ok (setU64 s at v)
+want-u64 : {s : List ℕ} → Ok s → (at v : ℕ) → at + 8 ≤ wantFrom → Ok (setU64 s at v)
 unfolding setU64
 want-u64 k at v n = want-u32 (want-u32 k at (v % 4294967296) (omega arith)) (at + 4) (v / 4294967296) (omega arith)
 
@@ -54,23 +56,23 @@ want-cond : {s t : List ℕ} (b : Bool) → Ok s → Ok t → Ok (cond b s t)
 want-cond true h k = h
 want-cond false h k = k
 
--- a page joins the set at 36,212, or leaves it
-want-on : {s : List ℕ} → Ok s → (p : ℕ) → Ok (pageOn s 36212 p)
+-- a page joins the pages asked for, or leaves them
+want-on : {s : List ℕ} → Ok s → (p : ℕ) → Ok (pageOn s askedFrom p)
 unfolding pageOn
-want-on k p = want-u32 k 36212 _ (omega arith)
+want-on k p = want-u32 k askedFrom _ (omega arith)
 
-want-off : {s : List ℕ} → Ok s → (p : ℕ) → Ok (pageOff s 36212 p)
+want-off : {s : List ℕ} → Ok s → (p : ℕ) → Ok (pageOff s askedFrom p)
 unfolding pageOff
-want-off k p = want-u32 k 36212 _ (omega arith)
+want-off k p = want-u32 k askedFrom _ (omega arith)
 
 -- loops
 
-want-clear : {s : List ℕ} → Ok s → (at n : ℕ) → at + n ≤ 37024 → Ok (clearTo s at n)
+want-clear : {s : List ℕ} → Ok s → (at n : ℕ) → at + n ≤ wantFrom → Ok (clearTo s at n)
 unfolding clearTo
 want-clear k at zero h = k
 want-clear k at (suc n) h = want-set (want-clear k at n (omega arith)) (at + n) 0 (λ j l e. omega arith)
 
-want-add : {s : List ℕ} → Ok s → (at a : ℕ) → at + 32 ≤ 37024 → a < 256 → Ok (addTo s at a)
+want-add : {s : List ℕ} → Ok s → (at a : ℕ) → at + setRow ≤ wantFrom → a < 256 → Ok (addTo s at a)
 unfolding addTo
 want-add k at a h l = want-set k (at + a / 8) _ (λ j q e. omega arith)
 
@@ -80,21 +82,21 @@ want-pages k i zero h = k
 want-pages {s} k i (suc n) h =
     let r = want-pages k i n (omega arith) in
     let t = freePagesTo i s n in
-    want-cond (eqb (wholeOf t n) (i + 1)) (want-off (want-set r (36472 + n) 0 (λ j l e. omega arith)) n) r
+    want-cond (eqb (wholeOf t n) (i + 1)) (want-off (want-set r (wholeFrom + n) 0 (λ j l e. omega arith)) n) r
 
 want-locks : {s : List ℕ} → Ok s → (i n : ℕ) → n ≤ 256 → Ok (freeTo i s n)
 unfolding freeTo freeOneB
 want-locks k i zero h = k
 want-locks {s} k i (suc n) h =
     let r = want-locks k i n (omega arith) in
-    want-cond (eqb (lockOf (freeTo i s n) n) (i + 1)) (want-set r (36216 + n) 0 (λ j l e. omega arith)) r
+    want-cond (eqb (lockOf (freeTo i s n) n) (i + 1)) (want-set r (lockFrom + n) 0 (λ j l e. omega arith)) r
 
 want-versions : {s : List ℕ} → Ok s → (i v n : ℕ) → n ≤ 32 → Ok (versionsTo i v s n)
 unfolding versionsTo versionOneB
 want-versions k i v zero h = k
 want-versions {s} k i v (suc n) h =
     let r = want-versions k i v n (omega arith) in
-    want-cond (eqb (writtenSet (versionsTo i v s n) i n) 0) r (want-u32 r (34960 + n * 4) v (omega arith))
+    want-cond (eqb (writtenSet (versionsTo i v s n) i n) 0) r (want-u32 r (versionFrom + n * numberWidth) v (omega arith))
 
 want-values : {s : List ℕ} → Ok s → (i n : ℕ) → n ≤ 256 → Ok (valuesTo i s n)
 unfolding valuesTo valueOneB
@@ -102,51 +104,51 @@ want-values k i zero h = k
 want-values {s} k i (suc n) h =
     let r = want-values k i n (omega arith) in
     let t = valuesTo i s n in
-    want-cond (member t (writtenSetFrom i) n) (want-u64 r (n * 8) (u64At t (writtenValuesFrom i + n * 8)) (omega arith)) r
+    want-cond (member t (writtenSetFrom i) n) (want-u64 r (valueFrom + n * valueWidth) (u64At t (writtenValuesFrom i + n * valueWidth)) (omega arith)) r
 
 want-objects : {s : List ℕ} → Ok s → (i p x n : ℕ) → p < 32 → n ≤ 8 → Ok (lockTo i p x s n)
 unfolding lockTo lockOneB
 want-objects k i p x zero lp h = k
 want-objects k i p x (suc n) lp h =
     let r = want-objects k i p x n lp (omega arith) in
-    want-cond (hasBit x n) (want-set r (36216 + (p * 8 + n)) (i + 1) (λ j l e. omega arith)) r
+    want-cond (hasBit x n) (want-set r (lockFrom + (p * 8 + n)) (i + 1) (λ j l e. omega arith)) r
 
 want-sent : {s : List ℕ} → Ok s → (x : List ℕ) (i n : ℕ) → i < 8 → n ≤ 32 → Ok (versionsIn x i s n)
 unfolding versionsIn
 want-sent k x i zero l h = k
-want-sent k x i (suc n) l h = want-u32 (want-sent k x i n l (omega arith)) (35088 + i * 128 + n * 4) _ (omega arith)
+want-sent k x i (suc n) l h = want-u32 (want-sent k x i n l (omega arith)) (sentVersionsFrom i + n * numberWidth) _ (omega arith)
 
-want-entries : {s : List ℕ} → Ok s → (x : List ℕ) → AllBytes x → (at from first n : ℕ) → at + 32 ≤ 37024 → from + 2048 ≤ 37024
+want-entries : {s : List ℕ} → Ok s → (x : List ℕ) → AllBytes x → (at from first n : ℕ) → at + setRow ≤ wantFrom → from + valueRow ≤ wantFrom
     → Ok (unpackTo x s at from first n)
 unfolding unpackTo unpackOne
 want-entries k x b at from first zero h g = k
 want-entries k x b at from first (suc n) h g =
-    let l : getD x (256 + (first + n)) 0 < 256 = b (256 + (first + n)) in
-    want-u64 (want-add (want-entries k x b at from first n h g) at _ h l) (from + getD x (256 + (first + n)) 0 * 8) _ (omega arith)
+    let l : getD x (addressesAt + (first + n)) 0 < 256 = b (addressesAt + (first + n)) in
+    want-u64 (want-add (want-entries k x b at from first n h g) at _ h l) (from + getD x (addressesAt + (first + n)) 0 * valueWidth) _ (omega arith)
 
 -- the changes
 
 left : {s : List ℕ} → Ok s → (i : ℕ) → i < 8 → Ok (leaveB i s)
 unfolding leaveB
 left k i l =
-    let arrival = want-u64 (want-small k (37024 + i) 0 (omega arith)) (34880 + i * 8) 0 (omega arith) in
-    let request = want-set arrival (37032 + i) 0 (λ j q e. omega arith) in
-    let sets = want-clear (want-clear request (36504 + i * 32) 32 (omega arith)) (36760 + i * 32) 32 (omega arith) in
-    let called = want-set sets (37040 + i) 0 (λ j q e. omega arith) in
-    want-set (want-set called (37048 + i) 0 (λ j q e. omega arith)) (37056 + i) 0 (λ j q e. omega arith)
+    let arrival = want-u64 (want-small k (wantFrom + i) 0 (omega arith)) (arrivalFrom + i * ageWidth) 0 (omega arith) in
+    let request = want-set arrival (requestFrom + i) 0 (λ j q e. omega arith) in
+    let sets = want-clear (want-clear request (readSetFrom i) 32 (omega arith)) (writtenSetFrom i) 32 (omega arith) in
+    let called = want-set sets (calledFrom + i) 0 (λ j q e. omega arith) in
+    want-set (want-set called (pendFrom + i) 0 (λ j q e. omega arith)) (busyFrom + i) 0 (λ j q e. omega arith)
 
 joined : {s : List ℕ} → Ok s → (i w a : ℕ) → i < 8 → w ≤ 3 → Ok (joinB i w a s)
 unfolding joinB
 joined k i w a l lw =
-    let want = want-small (want-u64 (left k i l) (34880 + i * 8) _ (omega arith)) (37024 + i) w lw in
-    want-u64 (want-set want (37032 + i) a (λ j q e. omega arith)) 34952 _ (omega arith)
+    let want = want-small (want-u64 (left k i l) (arrivalFrom + i * ageWidth) _ (omega arith)) (wantFrom + i) w lw in
+    want-u64 (want-set want (requestFrom + i) a (λ j q e. omega arith)) nextArrivalFrom _ (omega arith)
 
 unpacked : {s : List ℕ} → Ok s → (i : ℕ) (x : List ℕ) → i < 8 → AllBytes x → Ok (unpackB i x s)
 unfolding unpackB
 unpacked k i x l b =
-    let versions = want-sent (want-u32 k (36112 + i * 4) (transactionOf x) (omega arith)) x i 32 l (omega arith) in
-    let reads = want-entries versions x b (36504 + i * 32) (2048 + i * 2048) 0 (u16At x 240) (omega arith) (omega arith) in
-    want-entries reads x b (36760 + i * 32) (18432 + i * 2048) (u16At x 240) (u16At x 242) (omega arith) (omega arith)
+    let versions = want-sent (want-u32 k (workFrom + i * numberWidth) (transactionOf x) (omega arith)) x i 32 l (omega arith) in
+    let reads = want-entries versions x b (readSetFrom i) (readValuesFrom i) 0 (u16At x (recordAt + readCountFrom)) (omega arith) (omega arith) in
+    want-entries reads x b (writtenSetFrom i) (writtenValuesFrom i) (u16At x (recordAt + readCountFrom)) (u16At x (recordAt + writeCountFrom)) (omega arith) (omega arith)
 
 module _ (s : List ℕ) (k : Wanting s) where
   here : Ok s
@@ -154,24 +156,24 @@ module _ (s : List ℕ) (k : Wanting s) where
 
   pub wanting-list : (i p : ℕ) → i < 8 → Wanting (listB i p s)
   unfolding listB pageOn
-  wanting-list i p l = want-u32 here (36176 + i * 4) _ (omega arith) .wants
+  wanting-list i p l = want-u32 here (listedFrom + i * pageSetWidth) _ (omega arith) .wants
 
   pub wanting-unlist : (i d : ℕ) → i < 8 → Wanting (unlistB i d s)
   unfolding unlistB
-  wanting-unlist i d l = want-u32 here (36176 + i * 4) _ (omega arith) .wants
+  wanting-unlist i d l = want-u32 here (listedFrom + i * pageSetWidth) _ (omega arith) .wants
 
   noticed : (i t : ℕ) → i < 8 → Ok (noticeB i t s)
   unfolding noticeB
   noticed i t l =
-      let ages = want-u64 (want-u64 here (34816 + i * 8) (agesOf s) (omega arith)) 34944 (agesOf s + 1) (omega arith) in
-      want-cond (eqb t (latestOf s i)) here (want-u32 (want-set ages (37064 + i) 1 (λ j q e. omega arith)) (36144 + i * 4) t (omega arith))
+      let ages = want-u64 (want-u64 here (ageFrom + i * ageWidth) (agesOf s) (omega arith)) nextAgeFrom (agesOf s + 1) (omega arith) in
+      want-cond (eqb t (latestOf s i)) here (want-u32 (want-set ages (unfinishedFrom + i) 1 (λ j q e. omega arith)) (latestFrom + i * numberWidth) t (omega arith))
 
   pub wanting-notice : (i t : ℕ) → i < 8 → Wanting (noticeB i t s)
   wanting-notice i t l = noticed i t l .wants
 
   finished : (i : ℕ) → Ok (finishB i s)
   unfolding finishB
-  finished i = want-set (want-locks (want-pages here i 32 (omega arith)) i 256 (omega arith)) (37064 + i) 0 (λ j l e. omega arith)
+  finished i = want-set (want-locks (want-pages here i 32 (omega arith)) i 256 (omega arith)) (unfinishedFrom + i) 0 (λ j l e. omega arith)
 
   pub wanting-finish : (i : ℕ) → Wanting (finishB i s)
   wanting-finish i = finished i .wants
@@ -181,25 +183,25 @@ module _ (s : List ℕ) (k : Wanting s) where
 
   written : (i : ℕ) → Ok (writeB i s)
   unfolding writeB
-  written i = want-values (want-versions (want-u32 here 36208 _ (omega arith)) i _ 32 (omega arith)) i 256 (omega arith)
+  written i = want-values (want-versions (want-u32 here lastFrom _ (omega arith)) i _ 32 (omega arith)) i 256 (omega arith)
 
   pub wanting-write : (i : ℕ) → Wanting (writeB i s)
   wanting-write i = written i .wants
 
   pub wanting-busy : (i r : ℕ) → Wanting (markBusyB i r s)
   unfolding markBusyB
-  wanting-busy i r = want-set here (37056 + r) _ (λ j l e. omega arith) .wants
+  wanting-busy i r = want-set here (busyFrom + r) _ (λ j l e. omega arith) .wants
 
   answered : (i r : ℕ) → Ok (answeredB i r s)
   unfolding answeredB
-  answered i r = want-set (want-set here (37056 + r) _ (λ j l e. omega arith)) (37048 + r) _ (λ j l e. omega arith)
+  answered i r = want-set (want-set here (busyFrom + r) _ (λ j l e. omega arith)) (pendFrom + r) _ (λ j l e. omega arith)
 
   pub wanting-answered : (i r : ℕ) → Wanting (answeredB i r s)
   wanting-answered i r = answered i r .wants
 
   loosened : (i p x : ℕ) → p < 32 → Ok (loosenB i p x s)
   unfolding loosenB
-  loosened i p x l = want-objects (want-set (want-off here p) (36472 + p) 0 (λ j q e. omega arith)) i p x 8 l (omega arith)
+  loosened i p x l = want-objects (want-set (want-off here p) (wholeFrom + p) 0 (λ j q e. omega arith)) i p x 8 l (omega arith)
 
   pub wanting-loosen : (i p x : ℕ) → p < 32 → Wanting (loosenB i p x s)
   wanting-loosen i p x l = loosened i p x l .wants
@@ -210,26 +212,26 @@ module _ (s : List ℕ) (k : Wanting s) where
 
   pub wanting-called : (i x : ℕ) → Wanting (calledB i x s)
   unfolding calledB
-  wanting-called i x = want-set (want-set here (37040 + i) 1 (λ j l e. omega arith)) (37048 + i) x (λ j l e. omega arith) .wants
+  wanting-called i x = want-set (want-set here (calledFrom + i) 1 (λ j l e. omega arith)) (pendFrom + i) x (λ j l e. omega arith) .wants
 
   pub wanting-lockPage : (i p : ℕ) → p < 32 → Wanting (lockPageB i p s)
   unfolding lockPageB
-  wanting-lockPage i p l = want-set (want-off here p) (36472 + p) (i + 1) (λ j q e. omega arith) .wants
+  wanting-lockPage i p l = want-set (want-off here p) (wholeFrom + p) (i + 1) (λ j q e. omega arith) .wants
 
   pub wanting-lockObject : (i a : ℕ) → a < 256 → Wanting (lockObjectB i a s)
   unfolding lockObjectB
-  wanting-lockObject i a l = want-set here (36216 + a) (i + 1) (λ j q e. omega arith) .wants
+  wanting-lockObject i a l = want-set here (lockFrom + a) (i + 1) (λ j q e. omega arith) .wants
 
   pub wanting-unpack : (i : ℕ) (x : List ℕ) → i < 8 → AllBytes x → Wanting (unpackB i x s)
   wanting-unpack i x l b = unpacked here i x l b .wants
 
   pub wanting-joinRead : (i a : ℕ) → i < 8 → a < 256 → Wanting (joinReadB i a s)
   unfolding joinReadB
-  wanting-joinRead i a l la = want-add (joined here i 1 a l (omega arith)) (36504 + i * 32) a (omega arith) la .wants
+  wanting-joinRead i a l la = want-add (joined here i 1 a l (omega arith)) (readSetFrom i) a (omega arith) la .wants
 
   pub wanting-joinWrite : (i a : ℕ) → i < 8 → a < 256 → Wanting (joinWriteB i a s)
   unfolding joinWriteB
-  wanting-joinWrite i a l la = want-add (joined here i 2 a l (omega arith)) (36760 + i * 32) a (omega arith) la .wants
+  wanting-joinWrite i a l la = want-add (joined here i 2 a l (omega arith)) (writtenSetFrom i) a (omega arith) la .wants
 
   pub wanting-joinCommit : (i : ℕ) (x : List ℕ) → i < 8 → AllBytes x → Wanting (joinCommitB i x s)
   unfolding joinCommitB

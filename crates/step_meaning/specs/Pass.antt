@@ -16,7 +16,7 @@ use Rattle.line.specs.Server as Model
 use Rattle.line.specs.Pass.{if-keeps, All8, order-8, victim-waits}
 use Rattle.message_meaning.specs.Meant.{upOf}
 use Rattle.station_state.specs.Layout.{hasBit}
-use Rattle.server_state.specs.Layout.{wholeOf, wantOf, calledOf, pendOf}
+use Rattle.server_state.specs.Layout.{requestFrom, wholeOf, wantOf, calledOf, pendOf}
 use Rattle.server_tests.specs.Tests.{faultB, blockedB, shutOutB, concernedSet, hinderedB, unavailableB}
 use Rattle.server_order.specs.Order.{victimB}
 use Rattle.server_changes.specs.Changes.{leaveB, calledB}
@@ -181,7 +181,7 @@ module _ {b : Serving} {x : Model.Serving} (h : Serves b x) (i : ℕ) (l : i < 8
       (λ e. let f : x .server .queue i .called ≡ true = sym c ∙ rw e in rw (e, f) h)
 
   request-lt : x .server .queue i .req < 256
-  request-lt = rw (← request-at (h .state) i l) (h .state .bytes (37032 + i))
+  request-lt = rw (← request-at (h .state) i l) (h .state .bytes (requestFrom + i))
 
   -- "Read: send 16."
   pub serveRead-means : Serves (serveReadB i b) (serveRead i x)

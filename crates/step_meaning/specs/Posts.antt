@@ -1,5 +1,5 @@
 -- The messages that the server sends: each is taken by the station it goes to, and read as meant.
-use Prim.Native.Nat.{ℕ, zero, suc, _+_, _*_, _/_, _%_, _^_, _≤_, _<_}
+use Prim.Native.Nat.{ℕ, zero, suc, _+_, _-_, _*_, _/_, _%_, _^_, _≤_, _<_}
 use mathlib.Core.Path.{_≡_, refl, sym, ap, _∙_, fun-ext}
 use mathlib.Core.Bool.{true, false, _&&_, cond}
 use mathlib.Core.List.{List}
@@ -20,7 +20,7 @@ use Rattle.cells.specs.Num.{bytes-all, num-frame}
 use Rattle.cells.specs.Bits.{tb, tb-zero}
 use Rattle.line.specs.Messages.{Lock, NoLock, ObjectLock, WholeLock, Down, Page, Deescalate, Callback, Committed, Aborted, Invalidate, To}
 use Rattle.line.specs.Server.{Server, valuesOn}
-use Rattle.message.specs.Layout.{kindOf, stationOf, transactionOf, message, single}
+use Rattle.message.specs.Layout.{pageFrom, objectFrom, transactionFrom, pagesFrom, versionFrom, setsFrom, secondSet, valuesFrom, valuesLength, messageLength, kindOf, stationOf, transactionOf, message, single}
 use Rattle.message.specs.Layout as Message
 use Rattle.message.specs.Range.{zeroAt, zeros, transactionOk, pageMessageOk, deescalateOk, callbackOk, committedOk, abortedOk, invalidateOk, downFieldsOk}
 use Rattle.message.specs.Number.{lengthOk, downRange, downNumber}
@@ -28,7 +28,8 @@ use Rattle.message.specs.Stores.{length-message}
 use Rattle.message_meaning.specs.Meant.{objectsOn, pageAt, downOf}
 use Rattle.message_meaning.specs.Kinds.{down-16, down-17, down-18, down-19, down-20, down-21, down-22, down-23}
 use Rattle.message_meaning.specs.Inverse.{ReadBack, written-read, message-are}
-use Rattle.server_state.specs.Layout.{versionOf, latestOf, writtenSet, writtenSetFrom}
+use Rattle.station_state.specs.Layout.{valueWidth}
+use Rattle.server_state.specs.Layout.{pageRow, pageValuesFrom, valueFrom, serverLength, versionOf, latestOf, writtenSet, writtenSetFrom}
 use Rattle.server_actions.specs.Actions.{plain, pageB, deescalateB, callbackB, committedB, abortedB, invalidateB}
 use Rattle.server_meaning.specs.Meant.{Is}
 use Rattle.server_meaning.specs.Tests.{bit-is, value-at, version-at, version-lt, latest-at, latest-lt, writes-at, writes-high}
@@ -37,13 +38,13 @@ use Rattle.step_meaning.specs.Relation.{ReadAs}
 -- WHAT ALL HAVE IN COMMON
 
 -- numbers 2 to 4
-takes : (to k : ℕ) (x : List ℕ) → to < 8 → kindOf x ≡ k → eqb k 3 ≡ false → (leb 16 k && leb k 23) ≡ true → stationOf x ≡ to → length x ≡ 112
+takes : (to k : ℕ) (x : List ℕ) → to < 8 → kindOf x ≡ k → eqb k 3 ≡ false → (leb 16 k && leb k 23) ≡ true → stationOf x ≡ to → length x ≡ messageLength
     → downFieldsOk to x ≡ true → downNumber to x ≡ 0
 unfolding downNumber lengthOk downRange
 takes to k x l is plain range st len fields =
-    rw (is, plain, range, st, eq-eqb (length x) 112 len, le-leb to 7 (omega arith), fields)
+    rw (is, plain, range, st, eq-eqb (length x) messageLength len, le-leb to 7 (omega arith), fields)
 
-sent : (to k : ℕ) (x : List ℕ) {d : Down} → to < 8 → kindOf x ≡ k → eqb k 3 ≡ false → (leb 16 k && leb k 23) ≡ true → stationOf x ≡ to → length x ≡ 112 → Bytes x
+sent : (to k : ℕ) (x : List ℕ) {d : Down} → to < 8 → kindOf x ≡ k → eqb k 3 ≡ false → (leb 16 k && leb k 23) ≡ true → stationOf x ≡ to → length x ≡ messageLength → Bytes x
     → downFieldsOk to x ≡ true → downOf x ≡ d → ReadAs x (To to d)
 sent to k x l is plain range st len all fields meant =
     record {
@@ -66,61 +67,63 @@ named x t e h = rw (e, ne-eqb t 0 h)
 
 -- "Fields that a kind doesn't name are 0"
 
-zeros-3-1 : (k i p t pages version : ℕ) (x y : List ℕ) → zeros (message k i p 0 t pages version x y) 3 1 ≡ true
+no-object : (k i p t pages version : ℕ) (x y : List ℕ) → zeros (message k i p 0 t pages version x y) objectFrom 1 ≡ true
 unfolding message zeros zeroAt allTo
-zeros-3-1 k i p t pages version x y = refl
+no-object k i p t pages version x y = refl
 
-zeros-8-4 : (k i p o t version : ℕ) (x y : List ℕ) → zeros (message k i p o t 0 version x y) 8 4 ≡ true
+no-pages : (k i p o t version : ℕ) (x y : List ℕ) → zeros (message k i p o t 0 version x y) pagesFrom (versionFrom - pagesFrom) ≡ true
 unfolding message bytes zeros zeroAt allTo
-zeros-8-4 k i p o t version x y = refl
+no-pages k i p o t version x y = refl
 
-zeros-8-8 : (k i p o t : ℕ) (x y : List ℕ) → zeros (message k i p o t 0 0 x y) 8 8 ≡ true
+no-pages-version : (k i p o t : ℕ) (x y : List ℕ) → zeros (message k i p o t 0 0 x y) pagesFrom (setsFrom - pagesFrom) ≡ true
 unfolding message bytes zeros zeroAt allTo
-zeros-8-8 k i p o t x y = refl
+no-pages-version k i p o t x y = refl
 
-zeros-17-31 : (k i p o t pages version set : ℕ) (y : List ℕ) → zeros (message k i p o t pages version (single set) y) 17 31 ≡ true
+one-set : (k i p o t pages version set : ℕ) (y : List ℕ) → zeros (message k i p o t pages version (single set) y) secondSet (valuesFrom - secondSet) ≡ true
 unfolding message bytes zeros zeroAt allTo
-zeros-17-31 k i p o t pages version set y = refl
+one-set k i p o t pages version set y = refl
 
 module _ (k i p o t pages version : ℕ) where
-  zeros-2-1 : zeros (plain k i 0 o t pages version) 2 1 ≡ true
+  no-page : zeros (plain k i 0 o t pages version) pageFrom 1 ≡ true
   unfolding message zeros zeroAt allTo
-  zeros-2-1 = refl
+  no-page = refl
 
-  zeros-2-2 : zeros (plain k i 0 0 t pages version) 2 2 ≡ true
+  no-page-object : zeros (plain k i 0 0 t pages version) pageFrom (transactionFrom - pageFrom) ≡ true
   unfolding message zeros zeroAt allTo
-  zeros-2-2 = refl
+  no-page-object = refl
 
-  zeros-2-6 : zeros (plain k i 0 0 0 pages version) 2 6 ≡ true
+  no-page-transaction : zeros (plain k i 0 0 0 pages version) pageFrom (pagesFrom - pageFrom) ≡ true
   unfolding message bytes zeros zeroAt allTo
-  zeros-2-6 = refl
+  no-page-transaction = refl
 
-  zeros-8-104 : zeros (plain k i p o t 0 0) 8 104 ≡ true
+  none-from-pages : zeros (plain k i p o t 0 0) pagesFrom (messageLength - pagesFrom) ≡ true
   unfolding message bytes zeros zeroAt allTo
-  zeros-8-104 = refl
+  none-from-pages = refl
 
-  zeros-12-100 : zeros (plain k i p o t pages 0) 12 100 ≡ true
+  none-from-version : zeros (plain k i p o t pages 0) versionFrom (messageLength - versionFrom) ≡ true
   unfolding message bytes zeros zeroAt allTo
-  zeros-12-100 = refl
+  none-from-version = refl
 
-  zeros-16-96 : zeros (plain k i p o t pages version) 16 96 ≡ true
+  none-from-sets : zeros (plain k i p o t pages version) setsFrom (messageLength - setsFrom) ≡ true
   unfolding message bytes zeros zeroAt allTo
-  zeros-16-96 = refl
+  none-from-sets = refl
 
   plain-are : k < 256 → i < 256 → p < 256 → o < 256 → Bytes (plain k i p o t pages version)
-  plain-are hk hi hp ho = message-are k i p o t pages version (replicate 32 0) (replicate 64 0) hk hi hp ho (zeros-bytes 32) (zeros-bytes 64)
+  plain-are hk hi hp ho = message-are k i p o t pages version (replicate 32 0) (replicate valuesLength 0) hk hi hp ho (zeros-bytes 32) (zeros-bytes valuesLength)
 
-  plain-length : length (plain k i p o t pages version) ≡ 112
-  plain-length = length-message k i p o t pages version (replicate 32 0) (replicate 64 0)
+  plain-length : length (plain k i p o t pages version) ≡ messageLength
+  plain-length = length-message k i p o t pages version (replicate 32 0) (replicate valuesLength 0)
 
   plain-back : t < 2 ^ 32 → pages < 2 ^ 32 → version < 2 ^ 32
-      → ReadBack k i p o t pages version (replicate 32 0) (replicate 64 0) (plain k i p o t pages version)
-  plain-back ht hp hv = written-read k i p o t pages version (replicate 32 0) (replicate 64 0) ht hp hv refl
+      → ReadBack k i p o t pages version (replicate 32 0) (replicate valuesLength 0) (plain k i p o t pages version)
+  plain-back ht hp hv = written-read k i p o t pages version (replicate 32 0) (replicate valuesLength 0) ht hp hv refl
 
--- no values: 48 to 111
-no-values : (x : List ℕ) → drop 48 x ≡ replicate 64 0 → zeros x 48 64 ≡ true
+-- no values
+no-values : (x : List ℕ) → drop valuesFrom x ≡ replicate valuesLength 0 → zeros x valuesFrom (messageLength - valuesFrom) ≡ true
 unfolding zeros zeroAt
-no-values x e = allTo-of (zeroAt x 48) 64 (λ j l. eq-eqb (getD x (48 + j) 0) 0 (sym (getD-drop 48 x j 0) ∙ rw e (getD-replicate 64 j 0 0 l)))
+no-values x e =
+    allTo-of (zeroAt x valuesFrom) valuesLength
+    (λ j l. eq-eqb (getD x (valuesFrom + j) 0) 0 (sym (getD-drop valuesFrom x j 0) ∙ rw e (getD-replicate valuesLength j 0 0 l)))
 
 -- WHAT NEEDS NO STATE
 
@@ -129,12 +132,12 @@ unfolding committedOk
 committed-ok i t n h0 ht n0 hn =
     let r = plain-back 21 i 0 0 t 0 n ht (omega arith) hn in
     rw (
-      zeros-2-2 21 i 0 0 t 0 n,
+      no-page-object 21 i 0 0 t 0 n,
       named (committedB i t n) t (r .transaction-is) h0,
-      zeros-8-4 21 i 0 0 t n (replicate 32 0) (replicate 64 0),
+      no-pages 21 i 0 0 t n (replicate 32 0) (replicate valuesLength 0),
       r .version-is,
       ne-eqb n 0 n0,
-      zeros-16-96 21 i 0 0 t 0 n,
+      none-from-sets 21 i 0 0 t 0 n,
     )
 
 -- "21 committed (transaction, commit number)"
@@ -152,12 +155,12 @@ unfolding abortedOk
 aborted-ok i t c h0 ht c1 c4 =
     let r = plain-back 22 i 0 c t 0 0 ht (omega arith) (omega arith) in
     rw (
-      zeros-2-1 22 i 0 c t 0 0,
+      no-page 22 i 0 c t 0 0,
       r .object-is,
       le-leb 1 c c1,
       le-leb c 4 c4,
       named (abortedB i t c) t (r .transaction-is) h0,
-      zeros-8-104 22 i 0 c t 0 0,
+      none-from-pages 22 i 0 c t 0 0,
     )
 
 -- "22 aborted (transaction, cause)"
@@ -172,7 +175,7 @@ aborted-post i t c l h0 ht c1 c4 =
 
 invalidate-ok : (i d : ℕ) → invalidateOk (invalidateB i d) ≡ true
 unfolding invalidateOk
-invalidate-ok i d = rw (zeros-2-6 23 i 0 0 0 d 0, zeros-12-100 23 i 0 0 0 d 0)
+invalidate-ok i d = rw (no-page-transaction 23 i 0 0 0 d 0, none-from-version 23 i 0 0 0 d 0)
 
 -- "23 invalidate (page set)"
 pub invalidate-post : (i d : ℕ) → i < 8 → d < 2 ^ 32 → ReadAs (invalidateB i d) (To i (Invalidate (tb d)))
@@ -193,49 +196,49 @@ kindFor ObjectLock = 17
 kindFor WholeLock = 18
 
 -- the eight values of a page, and a value among them
-page-value : (s : List ℕ) (at o : ℕ) → o < 8 → u64At (take 64 (drop at s)) (o * 8) ≡ u64At s (at + o * 8)
+page-value : (s : List ℕ) (at o : ℕ) → o < 8 → u64At (take pageRow (drop at s)) (o * 8) ≡ u64At s (at + o * 8)
 page-value s at o l =
-    rw (u64At-is (take 64 (drop at s)) (o * 8), u64At-is s (at + o * 8), ← numAt-drop 8 at s (o * 8))
-    (num-frame 8 (take 64 (drop at s)) (drop at s) (o * 8) (λ j a b. getD-take 64 (drop at s) j 0 (omega arith)))
+    rw (u64At-is (take pageRow (drop at s)) (o * 8), u64At-is s (at + o * 8), ← numAt-drop 8 at s (o * 8))
+    (num-frame 8 (take pageRow (drop at s)) (drop at s) (o * 8) (λ j a b. getD-take pageRow (drop at s) j 0 (omega arith)))
 
 module _ {s : List ℕ} {m : Server} (h : Is s m) where
   part-are : (at n : ℕ) → Bytes (take n (drop at s))
   part-are at n = bytes-take n (drop at s) (bytes-drop at s (bytes-all s (h .bytes)))
 
-  part-length : (at n : ℕ) → at + n ≤ 37072 → length (take n (drop at s)) ≡ n
+  part-length : (at n : ℕ) → at + n ≤ serverLength → length (take n (drop at s)) ≡ n
   part-length at n l = length-take-le n (drop at s) (rw length-drop (omega (arith, h .len)))
 
   -- PAGES
 
   module _ (k i a u : ℕ) (l : i < 8) (la : a < 256) where
-    page-back : ReadBack k i (a / 8) (a % 8) (latestOf s i) 0 (versionOf s (a / 8)) (single u) (take 64 (drop (a / 8 * 64) s)) (pageB k i a u s)
+    page-back : ReadBack k i (a / 8) (a % 8) (latestOf s i) 0 (versionOf s (a / 8)) (single u) (take pageRow (drop (pageValuesFrom (a / 8)) s)) (pageB k i a u s)
     page-back =
-        written-read k i (a / 8) (a % 8) (latestOf s i) 0 (versionOf s (a / 8)) (single u) (take 64 (drop (a / 8 * 64) s)) (latest-lt h i l) (omega arith)
+        written-read k i (a / 8) (a % 8) (latestOf s i) 0 (versionOf s (a / 8)) (single u) (take pageRow (drop (pageValuesFrom (a / 8)) s)) (latest-lt h i l) (omega arith)
         (version-lt h (a / 8) (omega arith)) refl
 
-    page-length : length (pageB k i a u s) ≡ 112
+    page-length : length (pageB k i a u s) ≡ messageLength
     page-length =
-        length-message k i (a / 8) (a % 8) (latestOf s i) 0 (versionOf s (a / 8)) (single u) (take 64 (drop (a / 8 * 64) s))
-        ∙ rw (part-length (a / 8 * 64) 64 (omega arith))
+        length-message k i (a / 8) (a % 8) (latestOf s i) 0 (versionOf s (a / 8)) (single u) (take pageRow (drop (pageValuesFrom (a / 8)) s))
+        ∙ rw (part-length (pageValuesFrom (a / 8)) pageRow (omega arith))
 
     page-are : k < 256 → u < 256 → Bytes (pageB k i a u s)
     page-are hk hu =
-        message-are k i (a / 8) (a % 8) (latestOf s i) 0 (versionOf s (a / 8)) (single u) (take 64 (drop (a / 8 * 64) s)) hk (omega arith) (omega arith) (omega arith)
-        (hu, zeros-bytes 31) (part-are (a / 8 * 64) 64)
+        message-are k i (a / 8) (a % 8) (latestOf s i) 0 (versionOf s (a / 8)) (single u) (take pageRow (drop (pageValuesFrom (a / 8)) s)) hk (omega arith) (omega arith) (omega arith)
+        (hu, zeros-bytes 31) (part-are (pageValuesFrom (a / 8)) pageRow)
 
     page-ok : m .latest i ≢ 0 → pageMessageOk (pageB k i a u s) ≡ true
     unfolding pageMessageOk
     page-ok h0 =
         let r = page-back in
-        let y = take 64 (drop (a / 8 * 64) s) in
+        let y = take pageRow (drop (pageValuesFrom (a / 8)) s) in
         rw (
           r .page-is,
           r .object-is,
           le-leb (a / 8) 31 (omega arith),
           le-leb (a % 8) 7 (omega arith),
           named (pageB k i a u s) (m .latest i) (r .transaction-is ∙ latest-at h i l) h0,
-          zeros-8-4 k i (a / 8) (a % 8) (latestOf s i) (versionOf s (a / 8)) (single u) y,
-          zeros-17-31 k i (a / 8) (a % 8) (latestOf s i) 0 (versionOf s (a / 8)) u y,
+          no-pages k i (a / 8) (a % 8) (latestOf s i) (versionOf s (a / 8)) (single u) y,
+          one-set k i (a / 8) (a % 8) (latestOf s i) 0 (versionOf s (a / 8)) u y,
         )
 
     values-are : (b : ℕ) → cond (eqb (b / 8) (a / 8)) (Message.valueOf (pageB k i a u s) (b % 8)) 0 ≡ valuesOn (a / 8) (m .val) b
@@ -243,8 +246,8 @@ module _ {s : List ℕ} {m : Server} (h : Is s m) where
         byEq (b / 8) (a / 8)
         (λ e.
         let q = eqb-yes (b / 8) (a / 8) e in
-        let here : a / 8 * 64 + b % 8 * 8 ≡ b * 8 = omega arith in
-        rw (e, page-back .value-is (b % 8), page-value s (a / 8 * 64) (b % 8) (omega arith), here) (value-at h b (omega arith)))
+        let here : pageValuesFrom (a / 8) + b % 8 * valueWidth ≡ valueFrom + b * valueWidth = omega arith in
+        rw (e, page-back .value-is (b % 8), page-value s (pageValuesFrom (a / 8)) (b % 8) (omega arith), here) (value-at h b (omega arith)))
         (λ e. rw e)
 
     page-meant : (lock : Lock) → pageAt lock (pageB k i a u s) ≡ Page lock a (m .latest i) (m .ver (a / 8)) (objectsOn (a / 8) u) (valuesOn (a / 8) (m .val))
@@ -285,9 +288,9 @@ module _ {s : List ℕ} {m : Server} (h : Is s m) where
       rw (
         r .page-is,
         le-leb p 31 (omega arith),
-        zeros-3-1 19 i p t 0 0 (replicate 32 0) (replicate 64 0),
+        no-object 19 i p t 0 0 (replicate 32 0) (replicate valuesLength 0),
         named (deescalateB i p s) (m .latest i) (r .transaction-is ∙ latest-at h i l) h0,
-        zeros-8-104 19 i p 0 t 0 0,
+        none-from-pages 19 i p 0 t 0 0,
       )
 
   -- "19 de-escalate (page, transaction)"
@@ -320,9 +323,9 @@ module _ {s : List ℕ} {m : Server} (h : Is s m) where
           rw (List·getD-eq-default (take 32 (drop (writtenSetFrom i) s)) 0 {n = a / 8} (rw length-take (omega arith)), writes-high h i a (omega arith)) (tb-zero (a % 8))
 
   module _ (j i : ℕ) (lj : j < 8) (l : i < 8) where
-    callback-back : ReadBack 20 j i 0 (latestOf s i) 0 0 (take 32 (drop (writtenSetFrom i) s)) (replicate 64 0) (callbackB j i s)
+    callback-back : ReadBack 20 j i 0 (latestOf s i) 0 0 (take 32 (drop (writtenSetFrom i) s)) (replicate valuesLength 0) (callbackB j i s)
     callback-back =
-        written-read 20 j i 0 (latestOf s i) 0 0 (take 32 (drop (writtenSetFrom i) s)) (replicate 64 0) (latest-lt h i l) (omega arith) (omega arith)
+        written-read 20 j i 0 (latestOf s i) 0 0 (take 32 (drop (writtenSetFrom i) s)) (replicate valuesLength 0) (latest-lt h i l) (omega arith) (omega arith)
         (part-length (writtenSetFrom i) 32 (omega arith))
 
     callback-ok : i ≢ j → m .latest i ≢ 0 → callbackOk j (callbackB j i s) ≡ true
@@ -334,9 +337,9 @@ module _ {s : List ℕ} {m : Server} (h : Is s m) where
           r .page-is,
           le-leb i 7 (omega arith),
           ne-eqb i j n,
-          zeros-3-1 20 j i (latestOf s i) 0 0 x (replicate 64 0),
+          no-object 20 j i (latestOf s i) 0 0 x (replicate valuesLength 0),
           named (callbackB j i s) (m .latest i) (r .transaction-is ∙ latest-at h i l) h0,
-          zeros-8-8 20 j i 0 (latestOf s i) x (replicate 64 0),
+          no-pages-version 20 j i 0 (latestOf s i) x (replicate valuesLength 0),
           no-values (callbackB j i s) (r .values-are),
         )
 
@@ -349,7 +352,7 @@ module _ {s : List ℕ} {m : Server} (h : Is s m) where
         let x = take 32 (drop (writtenSetFrom i) s) in
         let number = r .transaction-is ∙ latest-at h i l in
         sent j 20 (callbackB j i s) lj (r .kind-is) refl refl (r .station-is)
-        (length-message 20 j i 0 t 0 0 x (replicate 64 0) ∙ rw (part-length (writtenSetFrom i) 32 (omega arith)))
-        (message-are 20 j i 0 t 0 0 x (replicate 64 0) (omega arith) (omega arith) (omega arith) (omega arith) (part-are (writtenSetFrom i) 32) (zeros-bytes 64))
+        (length-message 20 j i 0 t 0 0 x (replicate valuesLength 0) ∙ rw (part-length (writtenSetFrom i) 32 (omega arith)))
+        (message-are 20 j i 0 t 0 0 x (replicate valuesLength 0) (omega arith) (omega arith) (omega arith) (omega arith) (part-are (writtenSetFrom i) 32) (zeros-bytes valuesLength))
         (rw (r .kind-is) (callback-ok n h0))
         (down-20 _ (r .kind-is) ∙ rw (r .page-is, number, r .sets-are) (ap (Callback i (m .latest i)) (fun-ext (λ a. written-sets i a l))))

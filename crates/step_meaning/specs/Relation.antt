@@ -12,7 +12,7 @@ use Rattle.layout.specs.Record.{bytesOf}
 use Rattle.line.specs.Messages.{Sent, To, Rec}
 use Rattle.line.specs.Server.{Server, WantCommit, waits}
 use Rattle.line.specs.Server as Model
-use Rattle.message.specs.Layout.{stationOf}
+use Rattle.message.specs.Layout.{messageLength, stationOf}
 use Rattle.message.specs.Number.{downNumber}
 use Rattle.message_meaning.specs.Meant.{downOf}
 use Rattle.recs.specs.Recs.{asRecord}
@@ -34,7 +34,7 @@ pub record ReadAs (m : List ℕ) (x : Sent) : Type 0 where
   pub to : ℕ
   pub to-is : to < 8
   pub sent-is : x ≡ To to (downOf m)
-  pub length-is : length m ≡ 112
+  pub length-is : length m ≡ messageLength
   pub bytes-are : Bytes m
   pub station-is : stationOf m ≡ to
   pub accepted : downNumber to m ≡ 0

@@ -2,7 +2,8 @@
 
 use super::{notes, words};
 use crate::line::call::Call;
-use crate::line::message::{Down, Up};
+use crate::line::message::{Down, Field, Up};
+use crate::line::places::Place;
 use crate::line::sets::STATIONS;
 use crate::line::world::{Outcome, Reply, World};
 use crate::line::{Answer, Kind};
@@ -272,7 +273,7 @@ impl Runner {
     fn send(&mut self, bytes: &[u8], up: bool, kinds: &[Kind; STATIONS], here: usize) -> usize {
         let number = self.message(bytes, up, kinds, Some(here));
         let lines = if up { &mut self.up } else { &mut self.down };
-        lines[bytes[1] as usize].push_back(Some(number));
+        lines[Field::Station.byte(bytes) as usize].push_back(Some(number));
         number
     }
 
@@ -284,7 +285,7 @@ impl Runner {
         sent: Option<usize>,
     ) -> usize {
         self.messages.push(Message {
-            station: bytes[1],
+            station: Field::Station.byte(bytes),
             up,
             words: words::bytes(bytes, kinds),
             sent,

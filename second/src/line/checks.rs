@@ -2,8 +2,8 @@
 
 use super::call::Call;
 use super::counts::Counts;
-use super::little::word;
-use super::message::{Down, Up};
+use super::message::{Down, Field, Up};
+use super::places::Place;
 use super::server::{Server, Step, Victim, WaitsFor};
 use super::sets::{page_of, rising, StationSet, STATIONS};
 use super::station::Station;
@@ -64,9 +64,9 @@ struct FirstMessages {
 
 impl FirstMessages {
     fn note(&mut self, message: &[u8]) {
-        if (1..=4).contains(&message[0]) {
-            let station = message[1] as usize;
-            let transaction = word(message, 4);
+        if (1..=4).contains(&Field::Kind.byte(message)) {
+            let station = Field::Station.byte(message) as usize;
+            let transaction = Field::Transaction.word(message, 0);
             if self.by_station[station].0 != transaction {
                 self.seen += 1;
                 self.by_station[station] = (transaction, self.seen);
@@ -170,12 +170,13 @@ impl<'a> Watched<'a> {
             return failed("a step sends no more than its buffers hold", detail);
         }
         for message in &outcome.sent {
+            let named = Field::Station.byte(message);
             let decoded = if by_server {
-                Down::decode(message, message[1]).map(|(station, _)| station)
+                Down::decode(message, named).map(|(station, _)| station)
             } else {
                 Up::decode(message, &self.world.kinds).map(|(station, _)| station)
             };
-            if decoded != Ok(message[1]) {
+            if decoded != Ok(named) {
                 let detail = format!("{decoded:?}: {message:02x?}");
                 return failed("every message sent decodes at the other end", detail);
             }

@@ -1,6 +1,8 @@
 //! What the runs reached: kinds, causes, numbers, victims, lengths.
 
 use super::call::Call;
+use super::message::Field;
+use super::places::Place;
 use super::world::{Outcome, Reply, World};
 use super::Answer;
 use std::fmt::{self, Display, Formatter};
@@ -95,14 +97,14 @@ impl Counts {
     }
 
     fn sent(&mut self, message: &[u8], world: &World) {
-        let kind = message[0];
-        let station = message[1];
+        let kind = Field::Kind.byte(message);
+        let station = Field::Station.byte(message);
         self.kinds[kind as usize] += 1;
         match kind {
-            22 => self.causes[message[3] as usize] += 1,
-            8 => self.empty_8 += u64::from(message[16] == 0),
-            7 => self.dropping_nothing += u64::from(message[8..12] == [0; 4]),
-            16..=18 => self.with_unavailable += u64::from(message[16] != 0),
+            22 => self.causes[Field::ObjectOrCause.byte(message) as usize] += 1,
+            8 => self.empty_8 += u64::from(Field::Sets.byte(message) == 0),
+            7 => self.dropping_nothing += u64::from(Field::Pages.word(message, 0) == 0),
+            16..=18 => self.with_unavailable += u64::from(Field::Sets.byte(message) != 0),
             _ => (),
         }
         let length = world.up_length(station).max(world.down_length(station));

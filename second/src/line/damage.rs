@@ -1,12 +1,13 @@
 //! Raw messages that no rule-keeping end would send, or not now: stale, changed, of a wrong length, or invented.
 
 use super::call::Call;
-use super::message::{Commit, Down, Grant, PageMessage, Up, BEFORE_RECORD, LENGTH};
+use super::message::{self, Commit, Down, Grant, PageMessage, Up, BEFORE_RECORD, LENGTH};
+use super::places::Place;
 use super::sets::{page_bit, page_of, Addresses, STATIONS};
 use super::world::World;
 use super::{Cause, Kind};
 use crate::random::Random;
-use crate::record::Record;
+use crate::record::{Record, ENTRY, HEADER};
 
 /// Messages seen on the lines, the last ones only.
 #[derive(Default)]
@@ -56,7 +57,10 @@ pub fn call(random: &mut Random, history: &History, field: &Field, world: &World
     if goes_up != random.one_in(12) {
         return Call::ServerRaw(bytes);
     }
-    let named = bytes.get(1).copied().filter(|station| *station < 8);
+    let named = bytes
+        .get(message::Field::Station.start())
+        .copied()
+        .filter(|station| *station < 8);
     match named {
         Some(station) if !random.one_in(8) => Call::StationRaw(station, bytes),
         _ => Call::StationRaw(random.pick(field.stations), bytes),
@@ -68,7 +72,7 @@ pub fn changed(random: &mut Random, mut bytes: Vec<u8>) -> Vec<u8> {
     if bytes.is_empty() {
         return bytes;
     }
-    let head = bytes.len().min(16);
+    let head = bytes.len().min(message::Field::Sets.start());
     match random.below(6) {
         0 => {
             let at = random.below(bytes.len());
@@ -83,7 +87,7 @@ pub fn changed(random: &mut Random, mut bytes: Vec<u8>) -> Vec<u8> {
             bytes[at] = bytes[at].wrapping_add(random.pick(&[1, 255]));
         }
         3 => {
-            bytes[0] = random.pick(&[
+            bytes[message::Field::Kind.start()] = random.pick(&[
                 0, 1, 2, 4, 5, 6, 7, 8, 9, 15, 16, 17, 18, 19, 20, 21, 22, 23, 24,
             ])
         }
@@ -120,7 +124,19 @@ fn wrong_length(random: &mut Random, mut bytes: Vec<u8>) -> Vec<u8> {
 }
 
 fn noise(random: &mut Random) -> Vec<u8> {
-    let length = random.pick(&[0, 1, 111, LENGTH, LENGTH, 113, 240, 255, 256, 265, 400]);
+    let length = random.pick(&[
+        0,
+        1,
+        LENGTH - 1,
+        LENGTH,
+        LENGTH,
+        LENGTH + 1,
+        BEFORE_RECORD,
+        BEFORE_RECORD + HEADER - 1,
+        BEFORE_RECORD + HEADER,
+        BEFORE_RECORD + HEADER + ENTRY,
+        400,
+    ]);
     let mut bytes = random.bytes(length);
     if let Some(kind) = bytes.first_mut() {
         *kind = random.pick(&[0, 1, 3, 3, 5, 8, 9, 16, 20, 23, 24, 255]);

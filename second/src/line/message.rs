@@ -1,15 +1,16 @@
 //! Messages up and down: their bytes, and numbers 2 to 5.
 
-use super::little::{long, word};
+use super::little::{word, WORD};
+use super::places::Place;
 use super::sets::{address, object_of, page_bit, page_of, Addresses, PageSet};
 use super::sets::{ObjectSet, OBJECTS, PAGES, STATIONS};
 use super::{Cause, Kind, Number};
 use crate::record::{self, Record};
 
-/// "Messages, 112 bytes"
-pub const LENGTH: usize = 112;
+pub use super::places::message::{Field, LENGTH};
+
 /// "A commit is followed by 32 versions of 4 bytes": 240 bytes before its record.
-pub const BEFORE_RECORD: usize = LENGTH + 4 * PAGES;
+pub const BEFORE_RECORD: usize = LENGTH + WORD * PAGES;
 
 const COMMIT: u8 = 3;
 
@@ -101,8 +102,7 @@ pub enum Grant {
     Whole = 18,
 }
 
-/// "Byte 0 kind, 1 station on the line, 2 page or requester, 3 object or cause, 4–7 transaction, 8–11 page set,
-/// 12–15 version or commit number, 16–47 object sets by page, 48–111 eight values."
+/// The fields of a message, as `Field` has their places.
 #[derive(Clone, Debug, Default, PartialEq, Eq)]
 struct Fields {
     kind: u8,
@@ -274,15 +274,15 @@ impl Names {
 impl Fields {
     fn read(bytes: &[u8; LENGTH]) -> Fields {
         Fields {
-            kind: bytes[0],
-            station: bytes[1],
-            byte_2: bytes[2],
-            byte_3: bytes[3],
-            transaction: word(bytes, 4),
-            pages: word(bytes, 8),
-            number: word(bytes, 12),
-            sets: bytes[16..48].try_into().unwrap(),
-            values: std::array::from_fn(|i| long(bytes, 48 + 8 * i)),
+            kind: Field::Kind.byte(bytes),
+            station: Field::Station.byte(bytes),
+            byte_2: Field::PageOrRequester.byte(bytes),
+            byte_3: Field::ObjectOrCause.byte(bytes),
+            transaction: Field::Transaction.word(bytes, 0),
+            pages: Field::Pages.word(bytes, 0),
+            number: Field::VersionOrCommit.word(bytes, 0),
+            sets: Field::Sets.sets(bytes, 0).0,
+            values: std::array::from_fn(|i| Field::Values.long(bytes, i)),
         }
     }
 
@@ -349,7 +349,7 @@ fn fields_of(bytes: &[u8], taken: std::ops::RangeInclusive<u8>) -> Result<Fields
     if !length_fits(bytes) {
         return Err(Number::Length);
     }
-    let fields = Fields::read(bytes.first_chunk().expect("112 bytes or more"));
+    let fields = Fields::read(bytes.first_chunk().expect("a whole message"));
     let names = names(fields.kind).filter(|_| taken.contains(&fields.kind));
     if !names.ok_or(Number::Kind)?.fit(&fields) {
         return Err(Number::Range);
@@ -534,7 +534,7 @@ impl Commit {
 }
 
 fn versions_of(bytes: &[u8]) -> [u32; PAGES] {
-    std::array::from_fn(|page| word(bytes, 4 * page))
+    std::array::from_fn(|page| word(bytes, WORD * page))
 }
 
 impl Down {

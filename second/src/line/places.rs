@@ -1,14 +1,25 @@
-//! Fields of a state by their places: what docs/STATE.md's tables are read and written by.
+//! The tables of all layouts, and fields by their places: a record's header and a message from document 01, the states from
+//! docs/STATE.md. Nothing else has a place or a length of its own.
 
-use super::little::{long, put_long, put_word, word};
-use super::sets::{Addresses, PAGES};
+use super::little::{long, put_long, put_word, word, LONG, WORD};
+use super::sets::{Addresses, ADDRESSES, OBJECTS, PAGES, STATIONS};
 use std::array;
 use std::fmt::Debug;
 use std::ops::Range;
 
-/// The enum `Field` of a table, each field by its first byte, in the table's order.
+/// The enum `Field` of a table: a row is a field and its bytes, one behind the other. So a place is said nowhere, only how
+/// many bytes stand before it.
 macro_rules! fields {
-    ($length:ident: $($name:ident = $start:literal,)*) => {
+    ($($name:ident: $bytes:expr,)*) => {
+        fields!(@lay 0;; $($name: $bytes,)*);
+    };
+    (@lay $at:expr; $($done:ident = $start:expr,)*; $name:ident: $bytes:expr, $($rest:tt)*) => {
+        fields!(@lay $at + $bytes; $($done = $start,)* $name = $at,; $($rest)*);
+    };
+    (@lay $at:expr; $($name:ident = $start:expr,)*;) => {
+        /// All of its bytes.
+        pub const LENGTH: usize = $at;
+
         /// The fields, each by its first byte.
         #[derive(Clone, Copy, Debug, PartialEq, Eq)]
         #[repr(usize)]
@@ -17,7 +28,7 @@ macro_rules! fields {
         }
 
         impl $crate::line::places::Place for Field {
-            const LENGTH: usize = $length;
+            const LENGTH: usize = LENGTH;
 
             fn all() -> &'static [Field] {
                 &[$(Field::$name,)*]
@@ -29,11 +40,104 @@ macro_rules! fields {
         }
     };
 }
-pub(crate) use fields;
+
+/// A record's header: "sizes first: reads n (2 bytes), writes m (2), commit number (4; 0 on the way up), transaction (4),
+/// station (1), its kind (1), two zero bytes".
+pub mod header {
+    use super::WORD;
+
+    fields! {
+        Reads: 2,
+        Writes: 2,
+        Commit: WORD,
+        Transaction: WORD,
+        Station: 1,
+        Kind: 1,
+        Spare: 2,
+    }
+}
+
+/// "Messages, 112 bytes: Byte 0 kind, 1 station on the line, 2 page or requester, 3 object or cause, 4–7 transaction, 8–11
+/// page set, 12–15 version or commit number, 16–47 object sets by page, 48–111 eight values."
+pub mod message {
+    use super::{LONG, OBJECTS, PAGES, WORD};
+
+    fields! {
+        Kind: 1,
+        Station: 1,
+        PageOrRequester: 1,
+        ObjectOrCause: 1,
+        Transaction: WORD,
+        Pages: WORD,
+        VersionOrCommit: WORD,
+        Sets: PAGES,
+        Values: OBJECTS * LONG,
+    }
+}
+
+/// "A station's state, 6,713 bytes"
+pub mod station {
+    use super::{ADDRESSES, LONG, PAGES, STATIONS, WORD};
+
+    fields! {
+        Copy: ADDRESSES * LONG,
+        ReadValue: ADDRESSES * LONG,
+        WrittenValue: ADDRESSES * LONG,
+        WaitingValue: LONG,
+        Kept: STATIONS * WORD,
+        Version: PAGES * WORD,
+        Number: WORD,
+        Cached: WORD,
+        Whole: WORD,
+        Unavailable: PAGES,
+        ReadSet: PAGES,
+        WrittenSet: PAGES,
+        Locks: PAGES,
+        Named: STATIONS * PAGES,
+        Station: 1,
+        Kind: 1,
+        Open: 1,
+        Wait: 1,
+        Address: 1,
+    }
+}
+
+/// "The server's state, 37,072 bytes"
+pub mod server {
+    use super::{ADDRESSES, LONG, PAGES, STATIONS, WORD};
+
+    fields! {
+        Value: ADDRESSES * LONG,
+        ReadValue: STATIONS * ADDRESSES * LONG,
+        WrittenValue: STATIONS * ADDRESSES * LONG,
+        Age: STATIONS * LONG,
+        Arrival: STATIONS * LONG,
+        NextAge: LONG,
+        NextArrival: LONG,
+        Version: PAGES * WORD,
+        SentVersion: STATIONS * PAGES * WORD,
+        Work: STATIONS * WORD,
+        Latest: STATIONS * WORD,
+        Listed: STATIONS * WORD,
+        Last: WORD,
+        Asked: WORD,
+        Lock: ADDRESSES,
+        Whole: PAGES,
+        ReadSet: STATIONS * PAGES,
+        WrittenSet: STATIONS * PAGES,
+        Kind: STATIONS,
+        Want: STATIONS,
+        Request: STATIONS,
+        Called: STATIONS,
+        Pend: STATIONS,
+        Busy: STATIONS,
+        Unfinished: STATIONS,
+    }
+}
 
 /// A field of a table; "Entry i of a field stands at its first byte and i times its width".
 pub trait Place: Copy + Debug + 'static {
-    /// Bytes of the whole state.
+    /// Bytes of the whole.
     const LENGTH: usize;
 
     /// In the table's order; "nothing lies between the fields".
@@ -63,11 +167,11 @@ pub trait Place: Copy + Debug + 'static {
     }
 
     fn word(self, bytes: &[u8], i: usize) -> u32 {
-        word(bytes, self.start() + 4 * i)
+        word(bytes, self.start() + WORD * i)
     }
 
     fn long(self, bytes: &[u8], i: usize) -> u64 {
-        long(bytes, self.start() + 8 * i)
+        long(bytes, self.start() + LONG * i)
     }
 
     /// Object sets by page; of a field by station or requester those of number `i`.
@@ -85,11 +189,11 @@ pub trait Place: Copy + Debug + 'static {
     }
 
     fn put_word(self, bytes: &mut [u8], i: usize, word: u32) {
-        put_word(bytes, self.start() + 4 * i, word);
+        put_word(bytes, self.start() + WORD * i, word);
     }
 
     fn put_long(self, bytes: &mut [u8], i: usize, long: u64) {
-        put_long(bytes, self.start() + 8 * i, long);
+        put_long(bytes, self.start() + LONG * i, long);
     }
 
     fn put_sets(self, bytes: &mut [u8], i: usize, sets: &Addresses) {

@@ -1,7 +1,8 @@
 //! Damage for either end: states changed or of a wrong length, messages of any length, commits with faults.
 
-use super::message::{Commit, Up, BEFORE_RECORD, LENGTH};
-use super::places::Place;
+use super::little::WORD;
+use super::message::{Commit, Field, Up, BEFORE_RECORD, LENGTH};
+use super::places::{header, Place};
 use super::sets::{rising, STATIONS};
 use super::Kind;
 use crate::generate::{self, Size};
@@ -55,8 +56,8 @@ pub fn of_any_length(random: &mut Random, like: &[u8]) -> Vec<u8> {
             LENGTH,
             LENGTH + 1,
             BEFORE_RECORD,
-            255,
-            256,
+            ADDRESSES - 1,
+            ADDRESSES,
         ]),
         1 => random.below(300),
         _ => random.below(5_001),
@@ -90,11 +91,11 @@ pub fn commit(random: &mut Random, kinds: &[Kind; STATIONS]) -> Vec<u8> {
 }
 
 /// Where a commit's record has what.
-const COMMIT_NUMBER: usize = BEFORE_RECORD + 4;
-const TRANSACTION: usize = BEFORE_RECORD + 8;
-const STATION: usize = BEFORE_RECORD + 12;
-const KIND: usize = BEFORE_RECORD + 13;
-const SPARE: usize = BEFORE_RECORD + 14;
+const COMMIT_NUMBER: usize = BEFORE_RECORD + header::Field::Commit as usize;
+const TRANSACTION: usize = BEFORE_RECORD + header::Field::Transaction as usize;
+const STATION: usize = BEFORE_RECORD + header::Field::Station as usize;
+const KIND: usize = BEFORE_RECORD + header::Field::Kind as usize;
+const SPARE: usize = BEFORE_RECORD + header::Field::Spare as usize;
 const ADDRESSES: usize = BEFORE_RECORD + HEADER;
 
 fn fault(random: &mut Random, bytes: &mut Vec<u8>) {
@@ -103,11 +104,11 @@ fn fault(random: &mut Random, bytes: &mut Vec<u8>) {
     }
     let at = match random.below(12) {
         // the page set
-        0 => 8 + random.below(4),
+        0 => Field::Pages.start() + random.below(WORD),
         1 => LENGTH + random.below(BEFORE_RECORD - LENGTH),
-        2 => COMMIT_NUMBER + random.below(4),
-        3 => TRANSACTION + random.below(4),
-        4 => random.pick(&[1, STATION]),
+        2 => COMMIT_NUMBER + random.below(WORD),
+        3 => TRANSACTION + random.below(WORD),
+        4 => random.pick(&[Field::Station.start(), STATION]),
         5 => KIND,
         6 => SPARE + random.below(2),
         7 => return break_order(random, bytes),
@@ -115,7 +116,16 @@ fn fault(random: &mut Random, bytes: &mut Vec<u8>) {
         9 => BEFORE_RECORD + random.below(4),
         10 => return bytes.truncate(random.below(bytes.len())),
         // a field of the message that it does not name
-        _ => random.pick(&[2, 3, 12, 16, 17, 47, 48, 111]),
+        _ => random.pick(&[
+            Field::PageOrRequester.start(),
+            Field::ObjectOrCause.start(),
+            Field::VersionOrCommit.start(),
+            Field::Sets.start(),
+            Field::Sets.start() + 1,
+            Field::Values.start() - 1,
+            Field::Values.start(),
+            LENGTH - 1,
+        ]),
     };
     bytes[at] = match random.below(3) {
         0 => random.byte(),
@@ -140,7 +150,10 @@ fn break_order(random: &mut Random, bytes: &mut [u8]) {
 
 /// "n = 257: number 5", the length fitting.
 fn one_too_many(random: &mut Random, bytes: &mut Vec<u8>) {
-    let size = BEFORE_RECORD + random.pick(&[0, 2]);
+    let size = BEFORE_RECORD
+        + random
+            .pick(&[header::Field::Reads, header::Field::Writes])
+            .start();
     bytes[size..size + 2].copy_from_slice(&257u16.to_le_bytes());
     let claimed = record::claimed_length(&bytes[BEFORE_RECORD..]);
     bytes.resize(BEFORE_RECORD + claimed.unwrap_or(HEADER), 0);

@@ -2,7 +2,9 @@
 
 use super::call::Call;
 use super::lent::Operation;
+use super::message::Field;
 use super::owner::{Asked, Owner};
+use super::places::Place;
 use super::server::{Server, Step, Victim};
 use super::sets::STATIONS;
 use super::station::{Done, Station};
@@ -157,7 +159,7 @@ impl<S: ServerEnd, T: StationEnd> World<S, T> {
                 // "records the end of the archive"
                 self.archive.extend(step.records.iter().cloned());
                 for message in &step.sent {
-                    self.down[message[1] as usize].push_back(message.clone());
+                    self.down[Field::Station.byte(message) as usize].push_back(message.clone());
                 }
                 Reply::Accepted(Outcome {
                     answer: Answer::Nothing,

@@ -8,6 +8,7 @@ use borrow.Author.Tests.{not-true, not-false}
 use borrow.Author.Needs.{needs}
 use Rattle.archive.proofs.address_part.Statement.{statement}
 use Rattle.archive.proofs.address_part.Tie as tie
+use Rattle.layout.specs.Record.{headerLength}
 
 holds-requires : tie.Need-holds-requires
 holds-requires c κs = search needs
@@ -39,7 +40,7 @@ part-result-end c = omega (arith, holds _ _ _ (sym (c .before .before .holds .en
 
 returns-2 : tie.Need-returns-2
 unfolding addressPart
-returns-2 c = let g = c .before .before .before .before .before .args in let e : g .at + 16 + g .entries - (g .at + 16) ≡ g .entries = omega arith in simp (c .before .index .ensures, e, sym (c .before .before .before .holds .ensures), not-false (c .before .before .before .holds .result) (c .before .before .if1 .left))
+returns-2 c = let g = c .before .before .before .before .before .args in let e : g .at + headerLength + g .entries - (g .at + headerLength) ≡ g .entries = omega arith in simp (c .before .index .ensures, e, sym (c .before .before .before .holds .ensures), not-false (c .before .before .before .holds .result) (c .before .before .if1 .left))
 
 pub address-part-spec : {M : Type 1} → statement M
 address-part-spec =

@@ -1,5 +1,5 @@
 -- `message::commit_number` meets its contract.
-use Rattle.message.specs.Commit.{commitNumber}
+use Rattle.message.specs.Commit.{recordAt, commitNumber}
 use Rattle.lists.specs.Stores.{to-the-end}
 use borrow.Author.Tests.{eq-eqb, ne-eqb}
 use mathlib.Core.Path.{sym}
@@ -21,18 +21,18 @@ wax-record-check-requires c κs = search needs
 
 returns : tie.Need-returns
 unfolding commitNumber
-returns c = let p = to-the-end (c .before .before .before .before .args .m .now) 240 in simp (sym (rw p at (c .before .wax-record-check .ensures)), ne-eqb _ _ (c .if1 .taken))
+returns c = let p = to-the-end (c .before .before .before .before .args .m .now) recordAt in simp (sym (rw p at (c .before .wax-record-check .ensures)), ne-eqb _ _ (c .if1 .taken))
 
 record-agrees-requires : tie.Need-record-agrees-requires
 record-agrees-requires c κs = search needs
 
 returns-2 : tie.Need-returns-2
 unfolding commitNumber
-returns-2 c = let p = to-the-end (c .before .before .before .before .before .before .args .m .now) 240 in simp (sym (rw p at (c .before .before .before .wax-record-check .ensures)), eq-eqb _ _ (c .before .before .if1 .left), sym (c .before .record-agrees .ensures), c .if2 .taken)
+returns-2 c = let p = to-the-end (c .before .before .before .before .before .before .args .m .now) recordAt in simp (sym (rw p at (c .before .before .before .wax-record-check .ensures)), eq-eqb _ _ (c .before .before .if1 .left), sym (c .before .record-agrees .ensures), c .if2 .taken)
 
 returns-3 : tie.Need-returns-3
 unfolding commitNumber
-returns-3 c = let p = to-the-end (c .before .before .before .before .before .before .args .m .now) 240 in simp (sym (rw p at (c .before .before .before .wax-record-check .ensures)), eq-eqb _ _ (c .before .before .if1 .left), sym (c .before .record-agrees .ensures), c .if2 .left)
+returns-3 c = let p = to-the-end (c .before .before .before .before .before .before .args .m .now) recordAt in simp (sym (rw p at (c .before .before .before .wax-record-check .ensures)), eq-eqb _ _ (c .before .before .if1 .left), sym (c .before .record-agrees .ensures), c .if2 .left)
 
 pub commit-number-spec : {M : Type 1} → statement M
 commit-number-spec =

@@ -1,6 +1,7 @@
 -- `record::put_record` meets its contract. Header, addresses and values are each a run of stores, and `record-stores` joins them.
 use lib.ListN.{length}
 use Prim.Native.Nat.{_+_, _-_}
+use Rattle.layout.specs.Record.{headerLength}
 use Rattle.record.specs.Stores.{record-stores}
 use Rattle.lists.specs.Stores.{put-part}
 use native.Mathlib.Omega.{arith}
@@ -45,7 +46,7 @@ same-length : tie.Need-same-length
 same-length c = search needs
 
 returns : tie.Need-returns
-returns c = let g = c .before .before .before .before .before .before .before .before .before .before .before .before .before .before .before .args in let ads = g .addresses .now in let vs = g .values .now in let a = 16 + length ads in let s1 = c .before .before .before .before .before .before .before .before .before .before .put-header .last .0 in record-stores (g .reads) (g .writes) (g .commit) (g .transaction) (g .station) (g .kind) ads vs (g .out .now) (c .before .before .before .before .before .before .before .before .before .before .put-header .ensures) (put-part ads (c .before .before .before .before .before .before .fill .last .0) s1 16 (a - 16) (c .before .before .before .before .before .before .fill .ensures) (omega arith) (omega arith)) (put-part vs (c .before .before .fill2 .last .0) _ a (a + length vs - a) (c .before .before .fill2 .ensures) (omega arith) (omega arith)) (c .before .before .before .before .before .before .before .before .before .before .before .before .before .before .before .pre .0) (c .before .before .before .before .before .before .before .before .before .before .before .before .before .before .before .pre .1) (c .before .before .before .before .before .before .before .before .before .before .before .before .before .before .before .pre .2)
+returns c = let g = c .before .before .before .before .before .before .before .before .before .before .before .before .before .before .before .args in let ads = g .addresses .now in let vs = g .values .now in let a = headerLength + length ads in let s1 = c .before .before .before .before .before .before .before .before .before .before .put-header .last .0 in record-stores (g .reads) (g .writes) (g .commit) (g .transaction) (g .station) (g .kind) ads vs (g .out .now) (c .before .before .before .before .before .before .before .before .before .before .put-header .ensures) (put-part ads (c .before .before .before .before .before .before .fill .last .0) s1 headerLength (a - headerLength) (c .before .before .before .before .before .before .fill .ensures) (omega arith) (omega arith)) (put-part vs (c .before .before .fill2 .last .0) _ a (a + length vs - a) (c .before .before .fill2 .ensures) (omega arith) (omega arith)) (c .before .before .before .before .before .before .before .before .before .before .before .before .before .before .before .pre .0) (c .before .before .before .before .before .before .before .before .before .before .before .before .before .before .before .pre .1) (c .before .before .before .before .before .before .before .before .before .before .before .before .before .before .before .pre .2)
 
 pub put-record-spec : {M : Type 1} → statement M
 put-record-spec =

@@ -1,6 +1,6 @@
 -- `server_accept::accept` meets its contract.
 use native.Mathlib.Omega.{arith}
-use Rattle.server_accept.specs.Facts.{kind-set}
+use Rattle.server_tests.specs.Kinds.{no-other}
 use Rattle.server_accept.specs.Chains.{room-as, post-as, post-still, write-still, abort-still, purge-still, busy-still, done-still, writtenSet-still, accept-read, accept-write, accept-commit, accept-abort, accept-purge, accept-busy, accept-done, accept-set}
 use borrow.Author.Needs.{needs}
 use Rattle.server_accept.proofs.accept.Statement.{statement}
@@ -55,7 +55,7 @@ on-done-requires : tie.Need-on-done-requires
 on-done-requires c κs = let h = c .before .before .before .before .before .before .before .pre .1 .requester (omega (arith, c .before .match .keys7)) (omega (arith, c .before .match .keys7)) in search needs
 
 on-written-set-requires : tie.Need-on-written-set-requires
-on-written-set-requires c κs = let r = c .before .match .rest in let k = kind-set _ _ (c .before .before .before .before .before .before .before .pre .1) (r .0 .0 .0 .0 .0 .0 .1) (r .0 .0 .0 .0 .0 .1) (r .0 .0 .0 .0 .1) (r .0 .0 .0 .1) (r .0 .0 .1) (r .0 .1) (r .1) in let h = c .before .before .before .before .before .before .before .pre .1 .loosened k in search needs
+on-written-set-requires c κs = let h = c .before .before .before .before .before .before .before .pre .1 .loosened (c .before .match .keys8) in search needs
 
 same-length-7 : tie.Need-same-length-7
 same-length-7 c = search needs
@@ -91,7 +91,10 @@ same-length-12 : tie.Need-same-length-12
 same-length-12 c = search needs
 
 returns-8 : tie.Need-returns-8
-returns-8 c = let r = c .before .before .before .before .match .rest in let k = kind-set _ _ (c .before .before .before .before .before .before .before .before .before .before .pre .1) (r .0 .0 .0 .0 .0 .0 .1) (r .0 .0 .0 .0 .0 .1) (r .0 .0 .0 .0 .1) (r .0 .0 .0 .1) (r .0 .0 .1) (r .0 .1) (r .1) in post-as _ _ _ (accept-set _ _ k) (post-still _ _ _ (writtenSet-still _ _) (c .before .before .on-written-set .ensures))
+returns-8 c = post-as _ _ _ (accept-set _ _ (c .before .before .before .before .match .keys8)) (post-still _ _ _ (writtenSet-still _ _) (c .before .before .on-written-set .ensures))
+
+returns-9 : tie.Need-returns-9
+returns-9 c = let r = c .match .rest in absurd (no-other _ (c .before .before .before .before .before .before .pre .1 .kind) (r .0 .0 .0 .0 .0 .0 .0 .1) (r .0 .0 .0 .0 .0 .0 .1) (r .0 .0 .0 .0 .0 .1) (r .0 .0 .0 .0 .1) (r .0 .0 .0 .1) (r .0 .0 .1) (r .0 .1) (r .1))
 
 pub accept-spec : {M : Type 1} → statement M
 accept-spec =
@@ -125,4 +128,5 @@ accept-spec =
     same-length-11
     returns-7
     same-length-12
-    returns-8)
+    returns-8
+    returns-9)

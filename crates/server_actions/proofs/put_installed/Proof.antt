@@ -4,6 +4,7 @@ use mir.Syntax.{w64}
 use Prim.Native.Nat.{_*_, _<_}
 use mathlib.Core.Path.{ap}
 use native.Mathlib.Omega.{arith}
+use Rattle.message.specs.Layout.{messageLength}
 use Rattle.server_actions.specs.Chains.{installed-fits, installed-chain}
 use borrow.Author.Needs.{needs}
 use Rattle.server_actions.proofs.put_installed.Statement.{statement}
@@ -43,7 +44,7 @@ put-message-requires : tie.Need-put-message-requires
 put-message-requires c κs = let h = installed-fits _ _ _ _ _ (c .before .before .before .before .before .before .before .before .before .before .before .before .before .before .before .before .before .before .before .before .before .before .before .before .before .before .pre .3) .0 in let k = ap (λ p. p .messages) (c .before .before .before .before .before .before .before .before .before .before .before .before .before .before .archive .ensures .1) in omega (arith, h, k)
 
 one-more-requires : tie.Need-one-more-requires
-one-more-requires c κs = let b : Fits w64 (c .before .before .before .before .before .before .before .before .before .before .before .before .before .before .before .before .before .archive .result .messages * 112) = mul-put-message (c .before .before .before) in let g : c .before .before .before .before .before .before .before .before .before .before .before .before .before .before .before .before .before .archive .result .messages < 9223372036854775808 = omega (arith, b) in g
+one-more-requires c κs = let b : Fits w64 (c .before .before .before .before .before .before .before .before .before .before .before .before .before .before .before .before .before .archive .result .messages * messageLength) = mul-put-message (c .before .before .before) in let g : c .before .before .before .before .before .before .before .before .before .before .before .before .before .before .before .before .before .archive .result .messages < 9223372036854775808 = omega (arith, b) in g
 
 same-length : tie.Need-same-length
 same-length c = search needs

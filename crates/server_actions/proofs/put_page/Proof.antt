@@ -46,6 +46,9 @@ add-copy-in c = search needs
 mul-copy-in : tie.Need-mul-copy-in
 mul-copy-in c = search needs
 
+add-copy-in-2 : tie.Need-add-copy-in-2
+add-copy-in-2 c = search needs
+
 copy-in-requires : tie.Need-copy-in-requires
 copy-in-requires c κs = search needs
 
@@ -73,6 +76,7 @@ put-page-spec =
     put-u8-requires
     add-copy-in
     mul-copy-in
+    add-copy-in-2
     copy-in-requires
     same-length
     returns)

@@ -32,6 +32,9 @@ get-u64-requires c κs = search needs
 mul-put-u64 : tie.Need-mul-put-u64
 mul-put-u64 c = search needs
 
+add-put-u64 : tie.Need-add-put-u64
+add-put-u64 c = search needs
+
 put-u64-requires : tie.Need-put-u64-requires
 put-u64-requires c κs = search needs
 
@@ -62,6 +65,7 @@ value-one-spec =
     add-get-u64-2
     get-u64-requires
     mul-put-u64
+    add-put-u64
     put-u64-requires
     same-length
     returns

@@ -2,7 +2,7 @@
 use native.Mathlib.Omega.{arith}
 use mathlib.Core.Path.{sym, _∙_}
 use borrow.Author.Tests.{not-true, not-false}
-use Rattle.station.specs.Facts.{long-enough, step-number, step-elsewhere, step-unfit, step-fits}
+use Rattle.station.specs.Facts.{for-stations, long-enough, step-number, step-elsewhere, step-unfit, step-fits}
 use borrow.Author.Needs.{needs}
 use Rattle.station.proofs.check_step.Statement.{statement}
 use Rattle.station.proofs.check_step.Tie as tie
@@ -29,7 +29,7 @@ returns-2 : tie.Need-returns-2
 returns-2 c = step-elsewhere (c .before .before .before .before .before .before .before .before .before .args .m .now) (c .before .before .before .before .before .before .before .before .before .args .s .now) (c .before .before .before .before .before .wide .ensures .0) (c .before .before .before .before .down-check .ensures) (c .before .before .before .if1 .left) (c .if2 .taken)
 
 fits-requires : tie.Need-fits-requires
-fits-requires c κs = (search needs, long-enough _ _ (sym (c .before .before .before .before .down-check .ensures) ∙ c .before .before .before .if1 .left))
+fits-requires c κs = let e = sym (c .before .before .before .before .down-check .ensures) ∙ c .before .before .before .if1 .left in (search needs, long-enough _ _ e, for-stations _ _ e)
 
 returns-3 : tie.Need-returns-3
 returns-3 c = step-unfit (c .before .before .before .before .before .before .before .before .before .before .before .args .m .now) (c .before .before .before .before .before .before .before .before .before .before .before .args .s .now) (c .before .before .before .before .before .before .before .wide .ensures .0) (c .before .before .before .before .before .before .down-check .ensures) (c .before .before .before .before .before .if1 .left) (c .before .before .if2 .left) (c .before .fits2 .ensures) (not-true (c .before .fits2 .result) (c .if3 .taken))

@@ -15,6 +15,9 @@ shown-requires c κs = search needs
 mul-get-u64 : tie.Need-mul-get-u64
 mul-get-u64 c = search needs
 
+add-get-u64 : tie.Need-add-get-u64
+add-get-u64 c = search needs
+
 get-u64-requires : tie.Need-get-u64-requires
 get-u64-requires c κs = search needs
 
@@ -59,6 +62,7 @@ read-here-spec =
     (tie.spec
     shown-requires
     mul-get-u64
+    add-get-u64
     get-u64-requires
     record-read-requires
     say-requires

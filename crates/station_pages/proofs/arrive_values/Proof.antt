@@ -31,6 +31,9 @@ add-put-u64 c = search needs
 mul-put-u64-2 : tie.Need-mul-put-u64-2 Inv-loop μ-loop
 mul-put-u64-2 c = search needs
 
+add-put-u64-2 : tie.Need-add-put-u64-2 Inv-loop μ-loop
+add-put-u64-2 c = search needs
+
 put-u64-requires : tie.Need-put-u64-requires Inv-loop μ-loop
 put-u64-requires c κs = search needs
 
@@ -61,6 +64,7 @@ arrive-values-spec =
     mul-put-u64
     add-put-u64
     mul-put-u64-2
+    add-put-u64-2
     put-u64-requires
     add-o
     loop-less

@@ -28,6 +28,9 @@ add-put-u64 c = search needs
 mul-put-u64-2 : tie.Need-mul-put-u64-2 Inv-loop μ-loop
 mul-put-u64-2 c = search needs
 
+add-put-u64-2 : tie.Need-add-put-u64-2 Inv-loop μ-loop
+add-put-u64-2 c = search needs
+
 put-u64-requires : tie.Need-put-u64-requires Inv-loop μ-loop
 put-u64-requires c κs = search needs
 
@@ -57,6 +60,7 @@ blank-spec =
     mul-put-u64
     add-put-u64
     mul-put-u64-2
+    add-put-u64-2
     put-u64-requires
     add-o
     loop-less

@@ -6,6 +6,8 @@ use crate::works::Work;
 use second::ffi::server as proved;
 use second::line::call::Call;
 use second::line::crossing::Crossing;
+use second::line::message;
+use second::line::places::Place;
 use second::line::served::Results;
 use second::line::server::state;
 use second::line::server::Server;
@@ -57,8 +59,8 @@ impl Bench {
         assert!(same, "{}: results differ", work.name);
         let sent: Vec<u8> = given
             .messages
-            .chunks(112)
-            .map(|message| message[0])
+            .chunks(message::LENGTH)
+            .map(|message| message::Field::Kind.byte(message))
             .collect();
         let sent = &sent[..given.served[0] as usize];
         assert_eq!(sent, &work.sends[..], "{}: what is sent", work.name);

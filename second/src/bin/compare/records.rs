@@ -2,6 +2,7 @@
 
 use crate::judge::{Judge, MOST_ROOM};
 use second::generate::{self, tame, Size};
+use second::line::places::{header, Place};
 use second::random::Random;
 use second::record::{Header, Record, ENTRY, HEADER};
 
@@ -108,7 +109,7 @@ pub fn check_cut(judge: &mut Judge, random: &mut Random) {
     for size in [Size::Tiny, Size::Small, Size::Mixed] {
         let mut bytes = generate::record(random, size).encode();
         every_cut(&bytes, |cut| judge.record_check(cut));
-        bytes[12 + random.below(4)] |= 0x40;
+        bytes[header::Field::Station.start() + random.below(4)] |= 0x40;
         every_cut(&bytes, |cut| judge.record_check(cut));
     }
 }

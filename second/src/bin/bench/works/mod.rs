@@ -4,6 +4,8 @@ pub mod server;
 pub mod stations;
 
 use second::line::call::Call;
+use second::line::message::Field;
+use second::line::places::Place;
 use second::line::scripts;
 use second::line::world::World;
 use second::line::Kind;
@@ -33,7 +35,9 @@ impl Work {
         let (Some(call), None) = (calls.next(), calls.next()) else {
             panic!("{}: one call is timed", self.name)
         };
-        let kind = world.message_of(&call).map(|message| message[0]);
+        let kind = world
+            .message_of(&call)
+            .map(|message| Field::Kind.byte(message));
         assert_eq!(kind, self.takes, "{}", self.name);
         (world, call)
     }
