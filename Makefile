@@ -1,4 +1,4 @@
-# The C package: library, header, pkg-config file, documents and examples. `make help` says what there is; GNU make.
+# The C package: library, header, pkg-config file, documents and examples; and the playback command. `make help` says what there is; GNU make.
 
 VERSION = 1.0.0
 
@@ -6,6 +6,9 @@ PREFIX = /usr/local
 INCLUDEDIR = $(PREFIX)/include
 LIBDIR = $(PREFIX)/lib
 DOCDIR = $(PREFIX)/share/doc/waxwingrack
+BINDIR = $(PREFIX)/bin
+LIBEXECDIR = $(PREFIX)/libexec/waxwingrack
+MANDIR = $(PREFIX)/share/man
 
 CC = gcc
 CFLAGS = -std=c99 -O2 -g -Wall -Wextra -Wpedantic -Wshadow -Wconversion
@@ -13,9 +16,11 @@ INSTALL = install
 
 LIBRARY = target/lib/libwaxwingrack.a
 HEADER = include/waxwingrack.h
+PLAYBACK = target/bin/playback
 EXAMPLES := $(sort $(wildcard examples/*.c))
 # what C-INTERFACE.md, STATE.md and PROTOCOL.md link to is here too
 DOCUMENTS = $(addprefix docs/,C-INTERFACE.md STATE.md PROTOCOL.md DECISIONS.md PROVED.md)
+PLAY_DOCUMENT = docs/PLAYBACK.md
 CHARTS := $(sort $(wildcard docs/protocol/*.svg))
 
 # edits that the prover must refuse do not come into the library
@@ -23,16 +28,20 @@ SOURCES := $(shell find crates -type f ! -name '*.edit')
 
 # beneath DOCDIR the documents keep the places that they have beneath docs/
 INSTALLED = $(INCLUDEDIR)/waxwingrack.h $(LIBDIR)/libwaxwingrack.a $(LIBDIR)/pkgconfig/waxwingrack.pc \
-            $(DOCUMENTS:docs/%=$(DOCDIR)/%) $(CHARTS:docs/%=$(DOCDIR)/%) $(EXAMPLES:%=$(DOCDIR)/%)
+            $(DOCUMENTS:docs/%=$(DOCDIR)/%) $(CHARTS:docs/%=$(DOCDIR)/%) $(EXAMPLES:%=$(DOCDIR)/%) $(INSTALLED_PLAY)
+INSTALLED_PLAY = $(BINDIR)/waxwingrack-play $(LIBEXECDIR)/playback $(MANDIR)/man1/waxwingrack-play.1 $(PLAY_DOCUMENT:docs/%=$(DOCDIR)/%)
 below_prefix = $(patsubst $(PREFIX)/%,$${prefix}/%,$(1))
 
-.PHONY: all examples install uninstall absolute built help
+.PHONY: all examples install install-play uninstall absolute built built-play help
 .DELETE_ON_ERROR:
 
-all: $(LIBRARY)
+all: $(LIBRARY) $(PLAYBACK)
 
 $(LIBRARY): $(SOURCES)
 	tools/library
+
+$(PLAYBACK): $(SOURCES) play/waxwingrack-play.in
+	tools/player
 
 examples: $(EXAMPLES:%.c=target/%)
 
@@ -40,7 +49,7 @@ target/examples/%: examples/%.c $(HEADER) $(LIBRARY)
 	mkdir -p $(@D)
 	$(CC) $(CFLAGS) -Iinclude $< $(LIBRARY) -o $@
 
-install: absolute built
+install: absolute built install-play
 	$(INSTALL) -d '$(DESTDIR)$(INCLUDEDIR)' '$(DESTDIR)$(LIBDIR)/pkgconfig' \
 	    '$(DESTDIR)$(DOCDIR)/protocol' '$(DESTDIR)$(DOCDIR)/examples'
 	$(INSTALL) -m 644 $(HEADER) '$(DESTDIR)$(INCLUDEDIR)'
@@ -53,32 +62,49 @@ install: absolute built
 	$(INSTALL) -m 644 $(CHARTS) '$(DESTDIR)$(DOCDIR)/protocol'
 	$(INSTALL) -m 644 $(EXAMPLES) '$(DESTDIR)$(DOCDIR)/examples'
 
+# the playback command alone, for a machine that reads archives: it needs neither toolchain nor compiler
+install-play: absolute built-play
+	$(INSTALL) -d '$(DESTDIR)$(BINDIR)' '$(DESTDIR)$(LIBEXECDIR)' '$(DESTDIR)$(MANDIR)/man1' '$(DESTDIR)$(DOCDIR)'
+	$(INSTALL) -m 755 $(PLAYBACK) '$(DESTDIR)$(LIBEXECDIR)'
+	sed 's|@PROGRAM@|$(LIBEXECDIR)/playback|' play/waxwingrack-play.in >'$(DESTDIR)$(BINDIR)/waxwingrack-play'
+	chmod 755 '$(DESTDIR)$(BINDIR)/waxwingrack-play'
+	sed -e 's|@VERSION@|$(VERSION)|' -e 's|@DOCDIR@|$(DOCDIR)|' play/waxwingrack-play.1.in \
+	    >'$(DESTDIR)$(MANDIR)/man1/waxwingrack-play.1'
+	chmod 644 '$(DESTDIR)$(MANDIR)/man1/waxwingrack-play.1'
+	$(INSTALL) -m 644 $(PLAY_DOCUMENT) '$(DESTDIR)$(DOCDIR)'
+
 # directories that others use too stay
 uninstall: absolute
 	@rm -f $(INSTALLED:%='$(DESTDIR)%')
-	@for directory in '$(DESTDIR)$(DOCDIR)/protocol' '$(DESTDIR)$(DOCDIR)/examples' '$(DESTDIR)$(DOCDIR)'; do \
+	@for directory in '$(DESTDIR)$(DOCDIR)/protocol' '$(DESTDIR)$(DOCDIR)/examples' '$(DESTDIR)$(DOCDIR)' '$(DESTDIR)$(LIBEXECDIR)'; do \
 	    [ ! -d "$$directory" ] || rmdir "$$directory"; \
 	done
 	@echo 'removed from $(DESTDIR)$(PREFIX)'
 
 # the file for pkg-config holds these, so they may be neither relative nor in need of quotes
 absolute:
-	@for path in '$(PREFIX)' '$(INCLUDEDIR)' '$(LIBDIR)' '$(DOCDIR)'; do case $$path in \
+	@for path in '$(PREFIX)' '$(INCLUDEDIR)' '$(LIBDIR)' '$(DOCDIR)' '$(BINDIR)' '$(LIBEXECDIR)' '$(MANDIR)'; do case $$path in \
 	    *[!-A-Za-z0-9_.+~/]*|[!/]*|'') \
 	        echo "make: '$$path' is not an absolute path of letters, digits and -_.+~/" >&2; exit 2 ;; \
 	esac; done
 
 # An install proves nothing anew if a library is there: what `make` has built is what root installs.
 built:
-	@[ -e $(LIBRARY) ] || $(MAKE) --no-print-directory all
-	@$(MAKE) --no-print-directory --question all || \
+	@[ -e $(LIBRARY) ] || $(MAKE) --no-print-directory $(LIBRARY)
+	@$(MAKE) --no-print-directory --question $(LIBRARY) || \
 	    echo "make: $(LIBRARY) is older than crates/ and is installed as it is; 'make' builds it anew" >&2
 
+built-play:
+	@[ -e $(PLAYBACK) ] || $(MAKE) --no-print-directory $(PLAYBACK)
+	@$(MAKE) --no-print-directory --question $(PLAYBACK) || \
+	    echo "make: $(PLAYBACK) is older than crates/ and is installed as it is; 'make' builds it anew" >&2
+
 help:
-	@echo 'make                 proves and builds $(LIBRARY), if it is not there or older than crates/'
+	@echo 'make                 proves and builds $(LIBRARY) and $(PLAYBACK), if not there or older than crates/'
 	@echo 'make examples        builds the C examples into target/examples'
 	@echo 'make install         installs version $(VERSION) below PREFIX ($(PREFIX)); no proof if the library is there'
+	@echo 'make install-play    installs the playback command and its manual page alone'
 	@echo 'make uninstall       removes what an install with the same variables has put there'
 	@echo
-	@echo 'Variables: PREFIX, INCLUDEDIR, LIBDIR, DOCDIR (absolute paths), DESTDIR (put before all of them, for packagers),'
+	@echo 'Variables: PREFIX, BINDIR, LIBEXECDIR, MANDIR, INCLUDEDIR, LIBDIR, DOCDIR (absolute paths), DESTDIR (put before all of them, for packagers),'
 	@echo 'CC, CFLAGS, INSTALL. A build of the library needs the Rattle toolchain (rt); an install of a built one does not.'

@@ -15,6 +15,8 @@ pub struct Said {
     pub output: Vec<u8>,
     /// Standard error.
     pub errors: Vec<u8>,
+    /// Its exit status; the program itself has none, its front end has.
+    pub status: i32,
 }
 
 /// What the program prints to standard output for the archive, which it gets in pieces.
@@ -37,6 +39,27 @@ pub fn piped(path: &str, arguments: &[&str], archive: &[u8], piece: usize) -> io
 /// What it says to a file, from where this handle stands on; the handle then stands where the program stopped reading.
 pub fn read(path: &str, arguments: &[&str], file: &File) -> io::Result<Said> {
     said(spawn(path, arguments, file.try_clone()?.into())?)
+}
+
+/// What it says to standard error where its output goes to this file.
+pub fn into(path: &str, arguments: &[&str], input: &File, output: File) -> io::Result<Said> {
+    let child = Command::new(path)
+        .args(arguments)
+        .stdin(input.try_clone()?)
+        .stdout(output)
+        .stderr(Stdio::piped())
+        .spawn()?;
+    said(child)
+}
+
+/// The exit status where whoever reads the output goes away at once.
+pub fn unread(path: &str, input: &File) -> io::Result<Option<i32>> {
+    let mut child = Command::new(path)
+        .stdin(input.try_clone()?)
+        .stdout(Stdio::piped())
+        .spawn()?;
+    drop(child.stdout.take());
+    child.wait().map(|status| status.code())
 }
 
 /// What it says to these bytes while the pipe stays open behind them; none if it has not ended in time.
@@ -85,9 +108,10 @@ fn said(child: Child) -> io::Result<Said> {
         stderr,
     } = child.wait_with_output()?;
     match status.code() {
-        Some(_) => Ok(Said {
+        Some(status) => Ok(Said {
             output: stdout,
             errors: stderr,
+            status,
         }),
         None => Err(io::Error::other("ended by a signal")),
     }

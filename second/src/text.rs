@@ -5,6 +5,8 @@ use crate::record::Header;
 use crate::Refusal;
 
 pub const HEADING: &str = "commit station transaction reads writes\n";
+/// Its words.
+pub const COLUMNS: [&str; 5] = ["commit", "station", "transaction", "reads", "writes"];
 
 /// Heading, a line for each commit, then how it ended.
 pub fn playback(archive: &[u8]) -> String {

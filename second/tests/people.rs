@@ -3,6 +3,7 @@
 use second::generate::{self, Size};
 use second::people;
 use second::random::Random;
+use second::samples;
 
 /// C12, and station 1 reads what it wrote, as document 01 has them.
 const TWO: [u8; 59] = [
@@ -45,6 +46,11 @@ fn table(eight: &str, closing: &str) -> String {
     table + closing
 }
 
+/// The line that closes a play which stopped at a commit.
+fn reached(commit: &str) -> String {
+    format!("at {commit}: what follows was not looked at\n")
+}
+
 /// The second record is refused: with this number, at this byte, in these words, whatever the argument.
 fn refused(archive: &[u8], number: u32, byte: usize, words: &str) {
     let line = format!("playback: byte {byte}, in the record at byte 34: {words}\n");
@@ -54,12 +60,13 @@ fn refused(archive: &[u8], number: u32, byte: usize, words: &str) {
         (&["--totals"], table("1 1", &closing)),
         (&["--at", "2"], closing.clone()),
         (&["--at", "4294967295"], closing.clone()),
+        (&["--record", "2"], closing.clone()),
     ];
     for (arguments, output) in outputs {
         assert_eq!(said(arguments, archive), (output, line.clone()));
     }
     // in front of the fault there is none
-    let at_1 = (table("1 1", "at 1\n"), String::new());
+    let at_1 = (table("1 1", &reached("1")), String::new());
     assert_eq!(said(&["--at", "1"], archive), at_1);
 }
 
@@ -98,8 +105,8 @@ fn a_counter_that_is_written_twice() {
     archive[51] = 3;
     let at = |n| said(&["--at", n], &archive).0;
     assert_eq!(said(&["--totals"], &archive).0, table("3 2", "end 2\n"));
-    assert_eq!(at("1"), table("1 1", "at 1\n"));
-    assert_eq!(at("2"), table("3 2", "at 2\n"));
+    assert_eq!(at("1"), table("1 1", &reached("1")));
+    assert_eq!(at("2"), table("3 2", &reached("2")));
 }
 
 #[test]
@@ -113,7 +120,7 @@ fn the_largest_value() {
 #[test]
 fn at_a_commit() {
     for (n, eight) in [("0", "0 0"), ("1", "1 1"), ("2", "1 1")] {
-        let output = table(eight, &format!("at {n}\n"));
+        let output = table(eight, &reached(n));
         assert_eq!(said(&["--at", n], &TWO), (output, String::new()));
     }
 }
@@ -121,7 +128,7 @@ fn at_a_commit() {
 #[test]
 fn at_0_of_any_input() {
     for archive in [&[][..], &TWO[..5], &[255; 100]] {
-        let output = table("0 0", "at 0\n");
+        let output = table("0 0", &reached("0"));
         assert_eq!(said(&["--at", "0"], archive), (output, String::new()));
     }
 }
@@ -140,14 +147,14 @@ fn at_a_commit_that_is_not_there() {
 #[test]
 fn what_stands_behind_the_commit_is_not_looked_at() {
     let archive = [&TWO[..], &[255; 40]].concat();
-    let output = table("1 1", "at 2\n");
+    let output = table("1 1", &reached("2"));
     assert_eq!(said(&["--at", "2"], &archive), (output, String::new()));
     let (output, line) = said(&["--at", "3"], &archive);
     assert_eq!(output, "refused 12 after 2\n");
     assert_eq!(
         line,
         "playback: byte 99, in the record at byte 59: \
-         the archive ends here, 40 bytes into a record of 1179646\n"
+         the archive ends here, 40 bytes into a record of 1179646, but no record has such sizes\n"
     );
 }
 
@@ -189,7 +196,7 @@ fn number_12_of_a_claim() {
     for (sizes, length) in claims {
         let short = oversized(sizes, length - 1);
         let words = format!(
-            "the archive ends here, {} bytes into a record of {length}",
+            "the archive ends here, {} bytes into a record of {length}, but no record has such sizes",
             length - 1
         );
         refused(&short, 12, 34 + length - 1, &words);
@@ -329,7 +336,8 @@ fn sizes_come_before_other_fields_and_short_before_all() {
     archive[34..36].fill(1);
     refused(&archive, 5, 34, "257 reads, but a record has at most 256");
     archive.pop();
-    let words = "the archive ends here, 4641 bytes into a record of 4642";
+    let words =
+        "the archive ends here, 4641 bytes into a record of 4642, but no record has such sizes";
     refused(&archive, 12, 4_675, words);
 }
 
@@ -347,9 +355,8 @@ fn order_then_sequence_then_replay() {
     refused(&archive, 14, 52, words);
 }
 
-const UNCLEAR: [&[&str]; 24] = [
+const UNCLEAR: [&[&str]; 33] = [
     &[""],
-    &["2"],
     &["--"],
     &["-h"],
     &["--at"],
@@ -358,7 +365,6 @@ const UNCLEAR: [&[&str]; 24] = [
     &["--total"],
     &["--Totals"],
     &["--totals "],
-    &["totals"],
     &["--at", ""],
     &["--at", "-1"],
     &["--at", "+1"],
@@ -371,14 +377,27 @@ const UNCLEAR: [&[&str]; 24] = [
     &["--at", "1", "--totals"],
     &["--totals", "--totals"],
     &["--totals", "--help"],
-    &["--help", "1"],
+    &["one", "two"],
+    &["-", "-"],
+    &["--csv", "--tab"],
+    &["--counter"],
+    &["--counter", "256"],
+    &["--record", "0"],
+    &["--at", "1", "--from"],
+    &["--totals", "--from"],
+    &["--record", "1", "--to"],
+    &["--to", "1", "--from"],
+    &["--from", "1", "--to", "x"],
+    &["--at", "--csv"],
 ];
 
 #[test]
 fn arguments_that_are_not_understood() {
-    let line = "playback: the arguments are not understood; playback --help says which there are\n";
     for arguments in UNCLEAR {
-        let expected = (String::new(), line.to_string());
+        let word = arguments.last().expect("a word");
+        let line =
+            format!("playback: {word} is not understood here; playback --help says what is\n");
+        let expected = (String::new(), line);
         assert_eq!(said(arguments, &TWO), expected, "{arguments:?}");
         assert_eq!(said(arguments, &[255; 5]), expected, "{arguments:?}");
     }
@@ -386,22 +405,20 @@ fn arguments_that_are_not_understood() {
 
 #[test]
 fn zeros_in_front_of_a_number() {
-    let output = table("1 1", "at 1\n");
+    let output = table("1 1", &reached("1"));
     assert_eq!(said(&["--at", "0001"], &TWO).0, output);
     assert_eq!(said(&["--at", "000000000000000000000001"], &TWO).0, output);
-    assert_eq!(said(&["--at", "00"], &TWO).0, table("0 0", "at 0\n"));
+    assert_eq!(said(&["--at", "00"], &TWO).0, table("0 0", &reached("0")));
 }
 
 #[test]
 fn the_longest_word() {
     let zeros = "0".repeat(4_095);
     let at = |word: String| said(&["--at", &word], &TWO);
-    assert_eq!(at(format!("{zeros}1")).0, table("1 1", "at 1\n"));
+    assert_eq!(at(format!("{zeros}1")).0, table("1 1", &reached("1")));
     let longer = at(format!("0{zeros}1"));
     assert_eq!(longer.0, "");
-    assert!(longer
-        .1
-        .starts_with("playback: the arguments are not understood"));
+    assert!(longer.1.starts_with("playback:  is not understood"));
 }
 
 /// The closing line and the place of a fault are found on two ways: they agree on any bytes.
@@ -419,4 +436,111 @@ fn the_number_is_that_of_a_play_without_arguments() {
         };
         assert_eq!(last(&[]), last(&["--totals"]));
     }
+}
+
+/// The table of flipped bits in docs/PLAYBACK.md.
+#[test]
+fn what_a_flipped_bit_does() {
+    let page = include_str!("../../docs/PLAYBACK.md");
+    for name in ["c12", "longer"] {
+        let archive = samples::named(name).expect("a sample");
+        let row = people::Flips::of(&archive).row(name);
+        assert!(page.lines().any(|line| line == row), "{row}");
+    }
+}
+
+const CHANGES: &str = "commit station before after\n";
+
+#[test]
+fn the_changes_of_a_counter() {
+    let output = format!("{CHANGES}1 0 0 1\nend 2\n");
+    assert_eq!(said(&["--counter", "8"], &TWO), (output, String::new()));
+    let output = format!("{CHANGES}end 2\n");
+    assert_eq!(said(&["--counter", "9"], &TWO), (output, String::new()));
+    // the second record writes 3 where it read 1
+    let mut archive = changed(&[(0, 0), (2, 1)]);
+    archive[51] = 3;
+    let at = |words: &[&str]| said(words, &archive).0;
+    assert_eq!(
+        at(&["--counter", "8"]),
+        format!("{CHANGES}1 0 0 1\n2 1 1 3\nend 2\n")
+    );
+    assert_eq!(
+        at(&["--counter", "8", "--from", "2"]),
+        format!("{CHANGES}2 1 1 3\nend 2\n")
+    );
+    assert_eq!(
+        at(&["--to", "1", "--counter", "8"]),
+        format!("{CHANGES}1 0 0 1\n{}", reached("1"))
+    );
+}
+
+#[test]
+fn a_range_of_commits() {
+    let heading = "commit station transaction reads writes\n";
+    let two = format!("{heading}2 1 1 1 0\nend 2\n");
+    assert_eq!(said(&["--from", "2"], &TWO).0, two);
+    assert_eq!(
+        said(&["--from", "2", "--to", "9"], &TWO),
+        (two, String::new())
+    );
+    assert_eq!(
+        said(&["--to", "1"], &TWO).0,
+        format!("{COMMITS}{}", reached("1"))
+    );
+    assert_eq!(
+        said(&["--to", "0"], &TWO).0,
+        format!("{heading}{}", reached("0"))
+    );
+    assert_eq!(said(&["--from", "3"], &TWO).0, format!("{heading}end 2\n"));
+}
+
+#[test]
+fn a_record_in_full() {
+    let numbers = "commit station kind transaction reads writes byte length\n";
+    let entries = "entry counter page object value\n";
+    let first = format!(
+        "{numbers}1 0 0 1 1 1 0 34\n{entries}read 8 1 0 0\nwrite 8 1 0 1\n{}",
+        reached("1")
+    );
+    assert_eq!(said(&["--record", "1"], &TWO), (first, String::new()));
+    let second = format!(
+        "{numbers}2 1 1 1 1 0 34 25\n{entries}read 8 1 0 1\n{}",
+        reached("2")
+    );
+    assert_eq!(said(&["--record", "2"], &TWO), (second, String::new()));
+    let line = "playback: there is no commit 3: the archive ends behind commit 2\n".to_string();
+    assert_eq!(
+        said(&["--record", "3"], &TWO),
+        ("end 2\n".to_string(), line)
+    );
+}
+
+#[test]
+fn for_a_spreadsheet() {
+    let rows = "commit,station,transaction,reads,writes\n1,0,1,1,1\n2,1,1,1,0\n".to_string();
+    let closing = "playback: end 2\n".to_string();
+    assert_eq!(said(&["--csv"], &TWO), (rows, closing));
+    let (output, errors) = said(&["--record", "1", "--csv"], &TWO);
+    assert!(output.ends_with("\nread,8,1,0,0\nwrite,8,1,0,1\n"));
+    assert_eq!(errors, format!("playback: {}", reached("1")));
+    let (output, errors) = said(&["--csv"], &TWO[..58]);
+    assert_eq!(
+        output,
+        "commit,station,transaction,reads,writes\n1,0,1,1,1\n"
+    );
+    assert!(errors.starts_with("playback: refused 12 after 1\nplayback: byte 58, "));
+}
+
+#[test]
+fn exit_statuses() {
+    let status =
+        |words: &[&str], archive: &[u8]| people::said(words, archive).expect("a text").status;
+    assert_eq!(status(&[], &TWO), 0);
+    assert_eq!(status(&["--at", "1"], &TWO), 0);
+    assert_eq!(status(&[], &TWO[..58]), 1);
+    assert_eq!(status(&["--foo"], &TWO), 2);
+    assert_eq!(status(&["--at", "3"], &TWO), 2);
+    assert_eq!(status(&["--record", "3"], &TWO), 2);
+    assert_eq!(status(&["--to", "3"], &TWO), 0);
 }

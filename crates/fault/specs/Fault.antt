@@ -8,13 +8,14 @@ use Rattle.record.specs.Check.{readCount, writeCount, commitNumber, transaction
 use Rattle.replay.specs.Replay.{addressAt, valueAt, readAgrees, readsAgree}
 use Rattle.fault.specs.First.{first}
 use Rattle.fault.specs.declared.Fault.{Fault}
-use Rattle.fault.specs.declared.Fault.the-variants.{Nothing, Cut, Header, Reads, Writes, Transaction, Station, Kind, Zero, Order, Sequence, Read}
+use Rattle.fault.specs.declared.Fault.the-variants.{Nothing, Cut, Header, Sizes, Reads, Writes, Transaction, Station, Kind, Zero, Order, Sequence, Read}
 
 -- the table's column "number"
 abbrev pub numberOf : Fault → ℕ
 numberOf Nothing = 0
 numberOf (Cut present size) = 12
 numberOf (Header present) = 12
+numberOf (Sizes present size) = 12
 numberOf (Reads n) = 5
 numberOf (Writes m) = 5
 numberOf Transaction = 5
@@ -30,6 +31,7 @@ abbrev pub placeOf : Fault → ℕ
 placeOf Nothing = 0
 placeOf (Cut present size) = present
 placeOf (Header present) = present
+placeOf (Sizes present size) = present
 placeOf (Reads n) = 0
 placeOf (Writes m) = 2
 placeOf Transaction = 8
@@ -92,8 +94,13 @@ unfoldable pub wholeFault : List ℕ → ℕ → List ℕ → Fault
 wholeFault t last v =
     orElse (orElse (orElse (countFault t) (byteFault t)) (addressFault t)) (orElse (sequenceFault t last) (readFault t v))
 
--- "the archive ends here", before any other
+-- "the archive ends here": in a record, or in what no record can be
+unfoldable pub cutFault : List ℕ → ℕ → Fault
+cutFault t size =
+    unless (leb (readCount t) 256) (Sizes (length t) size) (unless (leb (writeCount t) 256) (Sizes (length t) size) (Cut (length t) size))
+
+-- before any other fault
 unfoldable pub faultOf : List ℕ → ℕ → List ℕ → Fault
 faultOf t last v =
     cond (ltb (length t) 16) (Header (length t))
-    (cond (ltb (length t) (lengthOf t)) (Cut (length t) (lengthOf t)) (wholeFault t last v))
+    (cond (ltb (length t) (lengthOf t)) (cutFault t (lengthOf t)) (wholeFault t last v))

@@ -15,9 +15,9 @@ use Rattle.archive.specs.Told.{nothingThere}
 use Rattle.archive.specs.Read.{fieldsOf, firstOf, readOf}
 use Rattle.replay.specs.Replay.{readAgrees, readsAgree, onAnswer, replayOf}
 use Rattle.fault.specs.declared.Fault.{Fault}
-use Rattle.fault.specs.declared.Fault.the-variants.{Nothing, Cut, Header, Reads, Writes, Transaction, Station, Kind, Zero, Sequence}
+use Rattle.fault.specs.declared.Fault.the-variants.{Nothing, Cut, Header, Sizes, Reads, Writes, Transaction, Station, Kind, Zero, Sequence}
 use Rattle.fault.specs.First.{first}
-use Rattle.fault.specs.Fault.{numberOf, orElse, unless, countFault, byteFault, fall, orderFault, addressFault, sequenceFault, differs, readFault, wholeFault, faultOf}
+use Rattle.fault.specs.Fault.{numberOf, orElse, unless, countFault, byteFault, fall, orderFault, addressFault, sequenceFault, differs, readFault, wholeFault, cutFault, faultOf}
 
 -- the answer of replay that a fault stands for: f are the record's fields
 abbrev pub answerOf : Fields → Fault → Answer
@@ -84,6 +84,15 @@ read-number t v =
     let k = readCount t + writeCount t in
     unless-number (readsAgree t v) (differs t v k (first (readAgrees t v k) (readCount t)))
 
+cut-number : (t : List ℕ) (size : ℕ) → numberOf (cutFault t size) ≡ 12
+unfolding cutFault
+cut-number t size = by-tests (leb (readCount t) 256) (leb (writeCount t) 256)
+  where
+    by-tests : (a b : Bool) → numberOf (unless a (Sizes (length t) size) (unless b (Sizes (length t) size) (Cut (length t) size))) ≡ 12
+    by-tests false b = refl
+    by-tests true false = refl
+    by-tests true true = refl
+
 -- the numbers in checking order
 abbrev inOrder : (a b l q r : Bool) → ℕ
 inOrder a b l q r = cond a 12 (cond b 12 (cond l (cond q (cond r 0 14) 13) 5))
@@ -100,9 +109,9 @@ number-is t last v =
   where
     by-tests : (f : Fault) (a b l q r : Bool)
         → numberOf f ≡ cond (eqb (cond l 0 5) 0) (cond (eqb (cond q 0 13) 0) (cond r 0 14) (cond q 0 13)) (cond l 0 5)
-        → numberOf (cond a (Header (length t)) (cond b (Cut (length t) (lengthOf t)) f)) ≡ inOrder a b l q r
+        → numberOf (cond a (Header (length t)) (cond b (cutFault t (lengthOf t)) f)) ≡ inOrder a b l q r
     by-tests f true b l q r e = refl
-    by-tests f false true l q r e = refl
+    by-tests f false true l q r e = cut-number t (lengthOf t)
     by-tests f false false false q r e = e
     by-tests f false false true false r e = e
     by-tests f false false true true r e = e

@@ -12,9 +12,9 @@ use Rattle.le.specs.Le.{u64At}
 use Rattle.record.specs.Check.{readCount, writeCount, commitNumber, transactionNumber, stationNumber, stationKind, lengthOf, riseAt, rises}
 use Rattle.replay.specs.Replay.{addressAt, valueAt, readAgrees, readsAgree}
 use Rattle.fault.specs.declared.Fault.{Fault}
-use Rattle.fault.specs.declared.Fault.the-variants.{Nothing, Cut, Header, Reads, Writes, Transaction, Station, Kind, Zero, Order, Sequence, Read}
+use Rattle.fault.specs.declared.Fault.the-variants.{Nothing, Cut, Header, Sizes, Reads, Writes, Transaction, Station, Kind, Zero, Order, Sequence, Read}
 use Rattle.fault.specs.First.{first, first-is}
-use Rattle.fault.specs.Fault.{numberOf, orElse, unless, countFault, byteFault, fall, orderFault, addressFault, sequenceFault, differs, readFault, wholeFault, faultOf}
+use Rattle.fault.specs.Fault.{numberOf, orElse, unless, countFault, byteFault, fall, orderFault, addressFault, sequenceFault, differs, readFault, wholeFault, cutFault, faultOf}
 
 -- of the n addresses from a, the one at `at` is the first that is not above the one before it
 pub record Falls (t : List ℕ) (a n at before is : ℕ) : Type 0 where
@@ -40,6 +40,7 @@ pub record Differs (t v : List ℕ) (at address is left : ℕ) : Type 0 where
 abbrev pub Right : List ℕ → ℕ → List ℕ → Fault → Type 0
 Right t last v Nothing = Unit {0}
 Right t last v (Cut present size) = (present ≡ length t) × (size ≡ lengthOf t) × (present < size)
+Right t last v (Sizes present size) = (present ≡ length t) × (size ≡ lengthOf t) × (present < size) × ((256 < readCount t) ⊎ (256 < writeCount t))
 Right t last v (Header present) = (present ≡ length t) × (present < 16)
 Right t last v (Reads n) = (n ≡ readCount t) × (256 < n)
 Right t last v (Writes m) = (m ≡ writeCount t) × (256 < m)
@@ -139,6 +140,16 @@ module _ (t : List ℕ) (last : ℕ) (v : List ℕ) where
       let k = readCount t + writeCount t in
       right-row (readsAgree t v) (differs t v k (first (readAgrees t v k) (readCount t))) Nothing (λ e. differs-at _ e refl) tt
 
+  right-cut : length t < lengthOf t → Right t last v (cutFault t (lengthOf t))
+  unfolding cutFault
+  right-cut h = by-tests (leb (readCount t) 256) (leb (writeCount t) 256) refl refl
+    where
+      by-tests : (a b : Bool) → leb (readCount t) 256 ≡ a → leb (writeCount t) 256 ≡ b
+          → Right t last v (unless a (Sizes (length t) (lengthOf t)) (unless b (Sizes (length t) (lengthOf t)) (Cut (length t) (lengthOf t))))
+      by-tests false b ea eb = (refl, refl, h, inl (leb-false _ _ ea))
+      by-tests true false ea eb = (refl, refl, h, inr (leb-false _ _ eb))
+      by-tests true true ea eb = (refl, refl, h)
+
   -- a record's fault is there
   pub fault-right : Right t last v (faultOf t last v)
   unfolding faultOf wholeFault
@@ -152,7 +163,7 @@ module _ (t : List ℕ) (last : ℕ) (v : List ℕ) where
     where
       by-tests : (a b : Bool) → ltb (length t) 16 ≡ a → ltb (length t) (lengthOf t) ≡ b
           → Right t last v (wholeFault t last v)
-          → Right t last v (cond a (Header (length t)) (cond b (Cut (length t) (lengthOf t)) (wholeFault t last v)))
+          → Right t last v (cond a (Header (length t)) (cond b (cutFault t (lengthOf t)) (wholeFault t last v)))
       by-tests true b ea eb h = (refl, ltb-true _ _ ea)
-      by-tests false true ea eb h = (refl, refl, ltb-true _ _ eb)
+      by-tests false true ea eb h = right-cut (ltb-true _ _ eb)
       by-tests false false ea eb h = h

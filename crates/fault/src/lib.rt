@@ -3,7 +3,7 @@ ghost use mathlib.Core.Path.{_≡_};
 ghost use Prim.Native.Nat.{_+_, _≤_};
 ghost use lib.ListN.{length};
 ghost use Rattle.record.specs.Check.{lengthOf};
-ghost use Rattle.fault.specs.Fault.{numberOf, placeOf, orElse, countFault, byteFault, orderFault, addressFault, sequenceFault, readFault, wholeFault, faultOf};
+ghost use Rattle.fault.specs.Fault.{numberOf, placeOf, orElse, countFault, byteFault, orderFault, addressFault, sequenceFault, readFault, wholeFault, cutFault, faultOf};
 
 // A fault of a record. Places are counted from the record's first byte.
 pub enum Fault {
@@ -17,6 +17,11 @@ pub enum Fault {
     // They end inside its header.
     Header {
         present: usize,
+    },
+    // They end inside what its sizes claim, and no record has such sizes.
+    Sizes {
+        present: usize,
+        length: usize,
     },
     Reads(u32),
     Writes(u32),
@@ -55,6 +60,7 @@ fn number(f: Fault) -> u32
         Fault::Nothing => 0,
         Fault::Cut { .. } => 12,
         Fault::Header { .. } => 12,
+        Fault::Sizes { .. } => 12,
         Fault::Reads(_) => 5,
         Fault::Writes(_) => 5,
         Fault::Transaction => 5,
@@ -76,6 +82,7 @@ pub fn place(f: Fault) -> usize
         Fault::Reads(_) => 0,
         Fault::Cut { present, .. } => present,
         Fault::Header { present } => present,
+        Fault::Sizes { present, .. } => present,
         Fault::Writes(_) => 2,
         Fault::Sequence { .. } => 4,
         Fault::Transaction => 8,
@@ -221,6 +228,30 @@ fn whole_fault(t: &[u8], last: u32, values: &[u64; 256]) -> Fault
     )
 }
 
+// What is wrong with a record whose bytes are not all there.
+fn cut_fault(t: &[u8], claimed: usize) -> Fault
+    requires { ⌜ 16 ≤ length (now t) ⌝ }
+    ensures { λ r. ⌜ r ≡ cutFault (now (t .entry)) claimed ⌝ }
+{
+    let present = t.len();
+    if le::get_u16(t, 0) > 256 {
+        return Fault::Sizes {
+            present,
+            length: claimed,
+        };
+    }
+    if le::get_u16(t, 2) > 256 {
+        return Fault::Sizes {
+            present,
+            length: claimed,
+        };
+    }
+    Fault::Cut {
+        present,
+        length: claimed,
+    }
+}
+
 // What is wrong with the first record of some bytes, behind commit `last` and on these values: the first fault in checking order.
 pub fn first_fault(part: &[u8], last: u32, values: &[u64; 256]) -> Fault
     ensures { λ r. ⌜ r ≡ faultOf (now (part .entry)) last (now (values .entry)) ⌝ }
@@ -231,7 +262,7 @@ pub fn first_fault(part: &[u8], last: u32, values: &[u64; 256]) -> Fault
     }
     let length = record::claimed_length(part);
     if present < length {
-        return Fault::Cut { present, length };
+        return cut_fault(part, length);
     }
     whole_fault(part, last, values)
 }

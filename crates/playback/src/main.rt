@@ -1,57 +1,45 @@
-// Plays back an archive from standard input (docs/PLAYBACK.md): a line a commit, or a table of the counters.
+// Plays back an archive (docs/PLAYBACK.md): a line a commit, a table of the counters, the changes of one, or one record.
 //
 // Memory is constant. The input buffer holds the longest record that two size fields can claim, 16 + 9 * (65,535 + 65,535)
-// bytes, so that a record is called short only where the archive itself ends inside it.
-ghost use mathlib.Core.Path.{_≡_};
+// bytes, so that a record is called short only where the archive itself ends inside it. What is done between reads and writes is
+// crate player's; here are the reads and the writes, and what is said to standard error.
 ghost use Prim.Native.Nat.{_≤_};
 ghost use lib.ListN.{length};
-ghost use Rattle.totals.specs.Tally.{noted, tallied, tallyOf};
-use archive::Answer;
-use archive::Fields;
-use arguments::Mode;
 use libc::STDERR_FILENO;
 use libc::STDIN_FILENO;
 use libc::STDOUT_FILENO;
+use player::Job;
+use player::Stop;
+use replay::Playback;
 
 // Bytes asked of one read: few enough to stay in the processor's cache while they are played.
 const CHUNK: usize = 131072;
 
-// No commit has this number.
-const NEVER: u64 = 4294967296;
+// Room for the table and the closing line.
+const TABLE_ROOM: usize = 16512;
 
-// What to do: a line a commit, or a table as it stands behind the commit `until` or, for NEVER, at the end.
-struct Job {
-    table: bool,
-    until: u64,
-}
+// Where `--status` has the exit status written: a Rattle program has none.
+const STATUS_FILENO: i32 = 3;
 
-// How far the program has come: where in the archive the input buffer starts, bytes there that are not played yet, last commit
-// number, bytes in the output buffer that are not written yet, and whether there is more to do.
+// The exit statuses.
+const ACCEPTED: u32 = 0;
+
+const REFUSED: u32 = 1;
+
+const UNCLEAR: u32 = 2;
+
+const FAILED: u32 = 3;
+
+// How far the program has come: the bytes of the input buffer that are not played yet, where in the archive they start, the bytes of
+// the output buffer that are not written yet, and whether there is more to do; if not, the exit status.
 struct State {
     start: u64,
+    at: usize,
     len: usize,
     last: u32,
     out: usize,
     going: bool,
-}
-
-// Where a play of the input buffer stopped, and the number that stopped it: 0 at the end of what is there.
-struct Stop {
-    at: usize,
-    last: u32,
-    out: usize,
-    number: u32,
-}
-
-fn stop_at(at: usize, last: u32, out: usize, number: u32) -> Stop
-    ensures { λ r. ⌜ (r .at ≡ at) × (r .last ≡ last) × (r .number ≡ number) ⌝ }
-{
-    Stop {
-        at,
-        last,
-        out,
-        number,
-    }
+    status: u32,
 }
 
 // What a read brings: the bytes that the buffer now has, the end, or a failure.
@@ -67,22 +55,14 @@ fn least(a: usize, b: usize) -> usize
     if a < b { a } else { b }
 }
 
-// Writes the lines so far.
-fn flush(output: &[u8], out: usize) {
+// Writes the lines so far. The first write that fails is the last: the program says so and ends.
+fn flush(output: &[u8], out: usize) -> bool {
     let taken = least(out, output.len());
-    if !io::write_all(STDOUT_FILENO, &output[..taken]) {
-        os::fail(b"standard output");
+    if io::write_all(STDOUT_FILENO, &output[..taken]) {
+        return true;
     }
-}
-
-// Writes the lines so far if there may be no room for one more, and answers where the next one goes.
-fn make_room(output: &[u8], out: usize) -> usize {
-    let taken = least(out, output.len());
-    if report::LINE <= output.len() - taken {
-        return taken;
-    }
-    flush(output, taken);
-    0
+    os::fail(b"playback: standard output");
+    false
 }
 
 // Writes the first bytes of a message to standard error. Where that fails there is nobody to tell.
@@ -91,80 +71,13 @@ fn complain(message: &[u8], length: usize) {
     io::write_all(STDERR_FILENO, &message[..taken]);
 }
 
-// Takes note of a record that was replayed, in the table's counts or as a line. `part` is the input from its start on.
-fn note(
-    part: &[u8],
-    f: Fields,
-    table: bool,
-    counts: &mut [u64; 256],
-    output: &mut [u8],
-    out: usize,
-) -> usize
-    ensures { λ _. ⌜ now (counts .exit) ≡ noted table (now (part .entry)) (now (counts .entry)) ⌝ }
-{
-    if table {
-        totals::count(part, counts);
-        return out;
-    }
-    let place = make_room(output, out);
-    report::commit_line(output, place, f)
-}
-
-// Plays the records that are whole in the input, up to the commit where the job ends. One loop serves lines and table: the
-// compiler writes replay in place only where it is called once.
-fn play(
-    input: &[u8],
-    last: u32,
-    job: Job,
-    values: &mut [u64; 256],
-    counts: &mut [u64; 256],
-    output: &mut [u8],
-    out: usize,
-) -> Stop
-    ensures { λ r. ⌜ tallied (now (values .exit)) (now (counts .exit)) (r .at) (r .last) (r .number) ≡ tallyOf (job .table) (now (input .entry)) last (job .until) (now (values .entry)) (now (counts .entry)) ⌝ }
-{
-    let mut at = 0;
-    let mut commit = last;
-    let mut next = out;
-    loop {
-        if le::long(commit) == job.until {
-            return stop_at(at, commit, next, 0);
-        }
-        match replay::replay(input, at, commit, values) {
-            Answer::Record(f) => {
-                next = note(&input[at..], f, job.table, counts, output, next);
-                at = f.end;
-                commit = f.commit;
-            }
-            Answer::End => return stop_at(at, commit, next, 0),
-            Answer::Refused(number) => return stop_at(at, commit, next, number),
-        }
-    }
-}
-
-// Moves what is not played, from `at` up to `len`, to the buffer's start, and answers how much that is.
-fn move_down(input: &mut [u8], at: usize, len: usize) -> usize
-    requires { ⌜ len ≤ length (now input) ⌝ }
-{
-    if len <= at {
-        return 0;
-    }
-    let left = len - at;
-    let mut i = 0;
-    while i < left {
-        input[i] = input[at + i];
-        i += 1;
-    }
-    left
-}
-
 // One read behind the first `len` bytes of the buffer.
-fn read_more(input: &mut [u8], len: usize) -> More
+fn read_more(fd: i32, input: &mut [u8], len: usize) -> More
     requires { ⌜ len ≤ length (now input) ⌝ }
 {
     let e = len + least(CHUNK, input.len() - len);
     let part = &mut input[len..e];
-    let got = libc::read(STDIN_FILENO, part);
+    let got = libc::read(fd, part);
     if got < 0 {
         return More::Failed;
     }
@@ -173,27 +86,6 @@ fn read_more(input: &mut [u8], len: usize) -> More
         return More::End;
     }
     More::Bytes(len + n)
-}
-
-// Puts the heading and a line for each counter, and answers where the next line goes.
-fn put_table(output: &mut [u8], out: usize, values: &[u64; 256], counts: &[u64; 256]) -> usize {
-    let place = make_room(output, out);
-    let mut next = totals::heading_line(output, place);
-    let mut a: usize = 0;
-    while a < 256 {
-        let place = make_room(output, next);
-        next = totals::counter_line(output, place, a as u8, values[a], counts[a]);
-        a += 1;
-    }
-    next
-}
-
-// The whole text for `--at`: the table as it stands behind this commit.
-fn print_at(output: &mut [u8], commit: u32, values: &[u64; 256], counts: &[u64; 256]) {
-    let next = put_table(output, 0, values, counts);
-    let place = make_room(output, next);
-    let e = totals::at_line(output, place, commit);
-    flush(output, e);
 }
 
 // Says that the archive ends before a commit.
@@ -210,172 +102,270 @@ fn say_fault(part: &[u8], start: u64, last: u32, values: &[u64; 256]) {
     complain(&line, e);
 }
 
-// The last line, behind all others.
-fn finish(output: &mut [u8], out: usize, number: u32, last: u32) {
-    let place = make_room(output, out);
-    if number == 0 {
-        let e = report::end_line(output, place, last);
-        flush(output, e);
-        return;
-    }
-    let e = report::refused_line(output, place, number, last);
-    flush(output, e);
+// Says the closing line where standard output has rows alone.
+fn say_closing(reached: bool, number: u32, last: u32) {
+    let mut line = [0u8; 128];
+    let e = text::put_text(&mut line, 0, b"playback: ");
+    let e = player::closing_line(&mut line, e, reached, number, last);
+    complain(&line, e);
 }
 
-// The text's end: the table where that is asked for at the end, then the last line.
-fn close(output: &mut [u8], job: Job, stop: Stop, values: &[u64; 256], counts: &[u64; 256]) {
-    if job.table && job.until == NEVER {
-        let next = put_table(output, stop.out, values, counts);
-        finish(output, next, stop.number, stop.last);
-        return;
+// Writes the closing line behind what is there; for a spreadsheet it goes to standard error.
+fn write_closing(
+    output: &mut [u8],
+    out: usize,
+    job: Job,
+    reached: bool,
+    number: u32,
+    last: u32,
+) -> bool {
+    if job.sep == b' ' {
+        let e = player::closing_line(output, out, reached, number, last);
+        return flush(output, e);
     }
-    finish(output, stop.out, stop.number, stop.last);
+    if !flush(output, out) {
+        return false;
+    }
+    say_closing(reached, number, last);
+    true
 }
 
-fn stopped() -> State {
+// The text's end, from `out` on: the table where it is due, then the closing line. Answers whether all was written.
+fn finish_from(
+    output: &mut [u8],
+    out: usize,
+    job: Job,
+    stop: Stop,
+    reached: bool,
+    values: &[u64; 256],
+    counts: &[u64; 256],
+) -> bool {
+    if player::table_due(job, reached) {
+        let e = player::put_table(output, out, values, counts, job.sep);
+        return write_closing(output, e, job, reached, stop.number, stop.last);
+    }
+    write_closing(output, out, job, reached, stop.number, stop.last)
+}
+
+// The same behind what is there, which is written first where the table would have no room.
+fn finish(
+    output: &mut [u8],
+    job: Job,
+    stop: Stop,
+    reached: bool,
+    values: &[u64; 256],
+    counts: &[u64; 256],
+) -> bool {
+    let out = stop.out;
+    if text::room(TABLE_ROOM, output.len(), out) {
+        return finish_from(output, out, job, stop, reached, values, counts);
+    }
+    if !flush(output, out) {
+        return false;
+    }
+    finish_from(output, 0, job, stop, reached, values, counts)
+}
+
+fn done(status: u32) -> State {
     State {
         start: 0,
+        at: 0,
         len: 0,
         last: 0,
         out: 0,
         going: false,
+        status,
     }
 }
 
-// Plays the first `len` bytes of the buffer and keeps the record that is cut by its end for the next turn.
-fn advance(
-    input: &mut [u8],
-    len: usize,
-    job: Job,
-    values: &mut [u64; 256],
-    counts: &mut [u64; 256],
+// The end where the job's last commit is reached.
+fn end_reached(
     output: &mut [u8],
-    s: State,
-) -> State
-    requires { ⌜ len ≤ length (now input) ⌝ }
-{
-    let stop = play(&input[..len], s.last, job, values, counts, output, s.out);
-    if stop.number == 0 || stop.number == 12 {
-        return State {
-            start: words::further(s.start, stop.at),
-            len: move_down(input, stop.at, len),
-            last: stop.last,
-            out: stop.out,
-            going: true,
-        };
+    job: Job,
+    stop: Stop,
+    values: &[u64; 256],
+    counts: &[u64; 256],
+) -> State {
+    if !finish(output, job, stop, true, values, counts) {
+        return done(FAILED);
     }
-    close(output, job, stop, values, counts);
-    let at = least(stop.at, len);
-    say_fault(
-        &input[at..len],
-        words::further(s.start, at),
-        stop.last,
-        values,
-    );
-    stopped()
+    done(ACCEPTED)
 }
 
-// The end of the archive. Bytes that are left are a record cut short.
-fn ended(
-    left: &[u8],
+// The end at a record that is refused, which stands at the start of `part`.
+fn end_refused(
+    part: &[u8],
+    start: u64,
+    output: &mut [u8],
+    job: Job,
+    stop: Stop,
+    values: &[u64; 256],
+    counts: &[u64; 256],
+) -> State {
+    if !finish(output, job, stop, false, values, counts) {
+        return done(FAILED);
+    }
+    say_fault(part, start, stop.last, values);
+    done(REFUSED)
+}
+
+// The end of the archive behind a whole record. A table as of a commit, or a record, that does not come was asked for in vain.
+fn end_whole(
+    output: &mut [u8],
+    job: Job,
+    stop: Stop,
+    values: &[u64; 256],
+    counts: &[u64; 256],
+) -> State {
+    if !finish(output, job, stop, false, values, counts) {
+        return done(FAILED);
+    }
+    if !player::is_missing(job) {
+        return done(ACCEPTED);
+    }
+    say_missing(player::narrow(job.until), stop.last);
+    done(UNCLEAR)
+}
+
+// More is wanted: keeps what is not played and reads behind it.
+fn read_on(
+    fd: i32,
+    input: &mut [u8],
+    at: usize,
+    len: usize,
+    start: u64,
     job: Job,
     values: &[u64; 256],
     counts: &[u64; 256],
     output: &mut [u8],
-    s: State,
-) {
-    let number = if left.len() == 0 { 0 } else { 12 };
-    close(
-        output,
-        job,
-        stop_at(0, s.last, s.out, number),
-        values,
-        counts,
-    );
-    if number != 0 {
-        say_fault(left, s.start, s.last, values);
-        return;
-    }
-    if job.until < NEVER {
-        say_missing(job.until as u32, s.last);
+    stop: Stop,
+) -> State
+    requires { ⌜ (at ≤ len) × (len ≤ length (now input)) ⌝ }
+{
+    let left = player::move_down(input, at, len);
+    match read_more(fd, input, left) {
+        More::Bytes(n) => State {
+            start,
+            at: 0,
+            len: n,
+            last: stop.last,
+            out: stop.out,
+            going: true,
+            status: 0,
+        },
+        More::End => {
+            if left == 0 {
+                return end_whole(
+                    output,
+                    job,
+                    player::stop_at(0, stop.last, stop.out, 0),
+                    values,
+                    counts,
+                );
+            }
+            let short = player::stop_at(0, stop.last, stop.out, 12);
+            let from: usize = 0;
+            end_refused(
+                &input[from..left],
+                start,
+                output,
+                job,
+                short,
+                values,
+                counts,
+            )
+        }
+        More::Failed => {
+            os::fail(b"playback: the archive cannot be read");
+            flush(output, stop.out);
+            done(FAILED)
+        }
     }
 }
 
-// One read, and the play of what is then there.
+// One turn: a play of what is there, then what it asks for, which is a write, a read or the end.
 fn turn(
+    fd: i32,
     input: &mut [u8],
     job: Job,
     values: &mut [u64; 256],
     counts: &mut [u64; 256],
     output: &mut [u8],
+    last: u32,
     s: State,
 ) -> State {
     let len = least(s.len, input.len());
-    match read_more(input, len) {
-        More::Bytes(n) => {
-            let have = least(n, input.len());
-            advance(input, have, job, values, counts, output, s)
-        }
-        More::End => {
-            ended(&input[..len], job, values, counts, output, s);
-            stopped()
-        }
-        More::Failed => {
-            flush(output, s.out);
-            os::fail(b"standard input");
-            stopped()
-        }
+    let from = least(s.at, len);
+    let stop = player::play(
+        &input[from..len],
+        s.start,
+        last,
+        job,
+        values,
+        counts,
+        output,
+        s.out,
+    );
+    let at = from + least(stop.at, len - from);
+    let start = words::further(s.start, stop.at);
+    if stop.number == player::NO_ROOM {
+        return State {
+            start,
+            at,
+            len,
+            last: stop.last,
+            out: 0,
+            going: flush(output, stop.out),
+            status: FAILED,
+        };
     }
+    if le::long(stop.last) == job.until {
+        return end_reached(output, job, stop, values, counts);
+    }
+    if player::wants_more(stop.number) {
+        return read_on(fd, input, at, len, start, job, values, counts, output, stop);
+    }
+    end_refused(&input[at..len], start, output, job, stop, values, counts)
 }
 
-// What is printed before the first record.
-fn begin(output: &mut [u8], job: Job) -> usize {
-    if job.table {
-        return 0;
-    }
-    report::heading_line(output, 0)
-}
-
-// A proved loop has to end, and nothing says that standard input does: it counts down from a number that no run uses up.
-fn run(
-    input: &mut [u8],
-    job: Job,
-    values: &mut [u64; 256],
-    counts: &mut [u64; 256],
-    output: &mut [u8],
-) {
+// A proved loop has to end, and nothing says that the archive does: it counts down from a number that no run uses up.
+fn run(fd: i32, input: &mut [u8], job: Job, counts: &mut [u64; 256], output: &mut [u8]) -> u32 {
+    let mut kept = Playback {
+        values: [0u64; 256],
+        last: 0,
+    };
     let mut s = State {
         start: 0,
+        at: 0,
         len: 0,
         last: 0,
-        out: begin(output, job),
+        out: player::put_heading(output, 0, job),
         going: true,
+        status: 0,
     };
     let mut turns = u64::MAX;
     while turns > 0 {
         if !s.going {
-            return;
+            return s.status;
         }
-        if s.last as u64 == job.until {
-            print_at(output, s.last, values, counts);
-            return;
-        }
-        s = turn(input, job, values, counts, output, s);
+        let last = kept.last;
+        s = turn(fd, input, job, &mut kept.values, counts, output, last, s);
+        kept.last = s.last;
         turns -= 1;
     }
+    FAILED
 }
 
 // The buffer comes as an array: its length is then known by its type, and nothing has to be computed of its bytes.
-fn start(input: &mut [u8; 1310720], job: Job) {
-    let mut values = [0u64; 256];
+fn start(fd: i32, input: &mut [u8; 1310720], job: Job) -> u32 {
     let mut counts = [0u64; 256];
     let mut output = io::large_buffer();
-    run(input, job, &mut values, &mut counts, &mut output);
+    run(fd, input, job, &mut counts, &mut output)
 }
 
-fn do_job(job: Job) {
+fn do_job(fd: i32, job: Job) -> u32 {
     let mut input = [0u8; 1310720];
-    start(&mut input, job);
+    start(fd, &mut input, job)
 }
 
 // Prints a part of the help unless an earlier one could not be printed, and answers whether the next may be.
@@ -386,65 +376,156 @@ fn say(going: bool, text: &[u8]) -> bool {
     if io::write_all(STDOUT_FILENO, text) {
         return true;
     }
-    os::fail(b"standard output");
+    os::fail(b"playback: standard output");
     false
 }
 
-fn help() {
+fn said(going: bool) -> u32 {
+    if going { ACCEPTED } else { FAILED }
+}
+
+fn help_listings(on: bool) -> bool {
+    let on = say(on, b"usage: playback [LISTING] [--csv] [ARCHIVE]\n");
     let on = say(
-        true,
-        b"usage: playback [--totals | --at N | --help] <ARCHIVE\n",
+        on,
+        b"Plays back an archive, or - or nothing for standard input, and prints a listing:\n",
     );
     let on = say(
         on,
-        b"Plays back the archive on standard input and prints a line a commit.\n",
+        b"  (none)       a line a commit; --from N and --to M print those from N to M\n",
     );
     let on = say(
         on,
-        b"  --totals  instead each counter's value at the end, and how often it was written\n",
+        b"  --totals     each counter's value at the end, and how often it was written\n",
     );
     let on = say(
         on,
-        b"  --at N    the same as it stood after commit N, from 0 to 4294967295\n",
+        b"  --at N       the same as it stood after commit N, from 0 to 4294967295\n",
     );
-    let on = say(on, b"  --help    this text\n");
+    let on = say(
+        on,
+        b"  --counter A  each commit that wrote counter A, 0 to 255; also with --from N and --to M\n",
+    );
     say(
         on,
-        b"The last line is `end N`, `at N` or `refused N after K`; what is wrong goes to standard error.\n",
+        b"  --record N   commit N in full: its numbers, and every read and write\n",
+    )
+}
+
+fn help() -> u32 {
+    let on = help_listings(true);
+    let on = say(
+        on,
+        b"  --csv        with commas, and the closing line on standard error\n",
     );
+    let on = say(on, b"  --help, --version\n");
+    let on = say(
+        on,
+        b"The closing line is `end N`, `at N` or `refused N after K`; what is wrong goes to standard error.\n",
+    );
+    let on = say(
+        on,
+        b"waxwingrack-play exits with 0 accepted, 1 refused, 2 not understood or no such commit, 3 failed.\n",
+    );
+    said(on)
 }
 
-fn misunderstood() {
-    let line =
-        b"playback: the arguments are not understood; playback --help says which there are\n";
-    complain(line, line.len());
+fn version() -> u32 {
+    said(say(true, b"playback 1.0.0\n"))
 }
 
-// How many words stand behind the program's name.
-fn words_behind(count: usize) -> usize {
-    if count == 0 { 0 } else { count - 1 }
+// Names the word that is not understood.
+fn misunderstood(i: usize) -> u32 {
+    let mut word = io::buffer();
+    let n = os::arg(i, &mut word);
+    let mut line = [0u8; 256];
+    let e = arguments::unclear_line(&mut line, 0, &word[..n]);
+    complain(&line, e);
+    UNCLEAR
+}
+
+// Takes word i.
+fn take_word(a: &mut [u64; 10], i: usize) {
+    let mut word = io::buffer();
+    let n = os::arg(i, &mut word);
+    arguments::take(a, i as u64, &word[..n]);
+}
+
+// Takes the words behind the program's name, in order.
+fn take_words(a: &mut [u64; 10], count: usize) {
+    let mut i: usize = 1;
+    while i < count {
+        take_word(a, i);
+        i += 1;
+    }
+    arguments::settle(a, last_word(count));
+}
+
+// The number of the last word.
+fn last_word(count: usize) -> u64 {
+    if count == 0 { 0 } else { (count - 1) as u64 }
+}
+
+// Opens the archive that word i names; 0 and the word - are standard input.
+fn open(i: usize) -> i32 {
+    if i == 0 {
+        return STDIN_FILENO;
+    }
+    let mut word = io::buffer();
+    let n = os::arg(i, &mut word);
+    if arguments::is_dash(&word[..n]) {
+        return STDIN_FILENO;
+    }
+    let fd = os::open_read(&word[..n]);
+    if fd < 0 {
+        complain(b"playback: ", 10);
+        os::fail(&word[..n]);
+    }
+    fd
+}
+
+fn play_file(fd: i32, job: Job) -> u32 {
+    if fd < 0 {
+        return FAILED;
+    }
+    do_job(fd, job)
+}
+
+// Does what is asked for, and answers the exit status.
+fn answer(a: &[u64; 10]) -> u32 {
+    let wrong = a[arguments::WRONG];
+    if wrong != 0 {
+        return misunderstood(wrong as usize);
+    }
+    let listing = a[arguments::LISTING];
+    if listing == arguments::HELP {
+        return help();
+    }
+    if listing == arguments::VERSION {
+        return version();
+    }
+    let number = player::narrow(a[arguments::NUMBER]);
+    let from = player::narrow(a[arguments::FROM]);
+    let job = player::job_of(
+        listing,
+        number,
+        from,
+        a[arguments::UNTIL],
+        a[arguments::CSV],
+    );
+    play_file(open(a[arguments::FILE] as usize), job)
+}
+
+// Tells the front end the exit status, where it asks.
+fn tell(asked: u64, status: u32) {
+    if asked == 0 {
+        return;
+    }
+    io::write_all(STATUS_FILENO, &[48 + (status % 4) as u8]);
 }
 
 fn main() {
-    let mut first = io::buffer();
-    let mut second = io::buffer();
-    let n = os::arg(1, &mut first);
-    let m = os::arg(2, &mut second);
-    let count = words_behind(os::arg_count());
-    match arguments::asked_for(count, &first[..n], &second[..m]) {
-        Mode::Lines => do_job(Job {
-            table: false,
-            until: NEVER,
-        }),
-        Mode::Totals => do_job(Job {
-            table: true,
-            until: NEVER,
-        }),
-        Mode::At(commit) => do_job(Job {
-            table: true,
-            until: commit as u64,
-        }),
-        Mode::Help => help(),
-        Mode::Unknown => misunderstood(),
-    }
+    let mut a = arguments::nothing_asked();
+    take_words(&mut a, os::arg_count());
+    tell(a[arguments::STATUS], answer(&a));
 }

@@ -6,7 +6,7 @@ use lib.ListN.{length, length-append}
 use Rattle.text.specs.Text.{decimal64, field64}
 use Rattle.text.specs.Decimal.{decimal-short, decimal-same}
 use Rattle.archive.specs.declared.Fields.{Fields}
-use Rattle.report.specs.Text.{decimal, field, heading, lineOf, endLine, refusedLine, longest}
+use Rattle.report.specs.Text.{decimal, field, heading, lineOf, lineWith, endLine, refusedLine, longest}
 
 pub field-short : (n b : ℕ) → length (field n b) ≤ 11
 unfolding field decimal
@@ -31,6 +31,13 @@ line-fits f =
     simp length-append
     (omega
     (arith, field-short (f .commit) 32, field-short (f .station) 32, field-short (f .transaction) 32, field-short (f .reads) 32, field-short (f .writes) 10))
+
+pub line-with-fits : (sep : ℕ) (f : Fields) → length (lineWith sep f) ≤ longest
+unfolding lineWith
+line-with-fits sep f =
+    simp length-append
+    (omega
+    (arith, field-short (f .commit) sep, field-short (f .station) sep, field-short (f .transaction) sep, field-short (f .reads) sep, field-short (f .writes) 10))
 
 pub end-fits : (last : ℕ) → length (endLine last) ≤ longest
 unfolding endLine

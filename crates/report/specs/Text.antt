@@ -1,5 +1,6 @@
 -- Document 01, "Playback reads an archive on standard input": the text that it prints, as bytes, each line ended by byte 10.
 use Prim.Native.Nat.{ℕ, zero, suc}
+use mathlib.Core.Path.{_≡_, refl}
 use mathlib.Core.List.{List, [], _∷_, _++_}
 use lib.ListN.{length, replicate}
 use Rattle.text.specs.Text.{ascii, decimalTo, Put, lineWithin}
@@ -24,6 +25,15 @@ heading = ascii "commit station transaction reads writes\n"
 unfoldable pub lineOf : Fields → List ℕ
 lineOf f =
     field (f .commit) 32 ++ (field (f .station) 32 ++ (field (f .transaction) 32 ++ (field (f .reads) 32 ++ field (f .writes) 10)))
+
+-- the same with another byte between the numbers: a comma (44) for a spreadsheet
+unfoldable pub lineWith : ℕ → Fields → List ℕ
+lineWith sep f =
+    field (f .commit) sep ++ (field (f .station) sep ++ (field (f .transaction) sep ++ (field (f .reads) sep ++ field (f .writes) 10)))
+
+pub line-with-space : (f : Fields) → lineWith 32 f ≡ lineOf f
+unfolding lineOf lineWith
+line-with-space f = refl
 
 -- "`end` gives the last commit number"
 unfoldable pub endLine : ℕ → List ℕ

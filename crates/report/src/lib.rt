@@ -2,8 +2,8 @@
 ghost use mathlib.Core.Path.{_≡_};
 ghost use Prim.Native.Nat.{_+_, _≤_};
 ghost use lib.ListN.{length};
-ghost use Rattle.text.specs.Text.{put, putOf};
-ghost use Rattle.report.specs.Text.{field, heading, lineOf, endLine, refusedLine, lineAt};
+ghost use Rattle.text.specs.Text.{columns, put, putOf};
+ghost use Rattle.report.specs.Text.{field, heading, lineWith, endLine, refusedLine, lineAt};
 use archive::Fields;
 
 // No line is longer.
@@ -18,27 +18,28 @@ fn put_field(out: &mut [u8], at: usize, n: u32, follows: u8) -> usize
 }
 
 // Each function below puts a line at `at` and answers the position behind it. Where fewer than 64 bytes are free from `at` on it
-// changes nothing and answers `at`.
+// changes nothing and answers `at`. `sep` stands between columns: a space, or a comma for a spreadsheet.
 
-pub fn heading_line(out: &mut [u8], at: usize) -> usize
-    ensures { λ r. ⌜ put (now (out .exit)) r ≡ lineAt (now (out .entry)) at heading ⌝ }
+pub fn heading_line(out: &mut [u8], at: usize, sep: u8) -> usize
+    ensures { λ r. ⌜ put (now (out .exit)) r ≡ lineAt (now (out .entry)) at (columns sep heading) ⌝ }
 {
     if !text::room(LINE, out.len(), at) {
         return at;
     }
-    text::put_text(out, at, b"commit station transaction reads writes\n")
+    let row = b"commit station transaction reads writes\n";
+    text::put_columns(out, at, row, sep)
 }
 
-pub fn commit_line(out: &mut [u8], at: usize, f: Fields) -> usize
-    ensures { λ r. ⌜ put (now (out .exit)) r ≡ lineAt (now (out .entry)) at (lineOf f) ⌝ }
+pub fn commit_line(out: &mut [u8], at: usize, f: Fields, sep: u8) -> usize
+    ensures { λ r. ⌜ put (now (out .exit)) r ≡ lineAt (now (out .entry)) at (lineWith sep f) ⌝ }
 {
     if !text::room(LINE, out.len(), at) {
         return at;
     }
-    let at = put_field(out, at, f.commit, b' ');
-    let at = put_field(out, at, f.station, b' ');
-    let at = put_field(out, at, f.transaction, b' ');
-    let at = put_field(out, at, f.reads, b' ');
+    let at = put_field(out, at, f.commit, sep);
+    let at = put_field(out, at, f.station, sep);
+    let at = put_field(out, at, f.transaction, sep);
+    let at = put_field(out, at, f.reads, sep);
     put_field(out, at, f.writes, b'\n')
 }
 

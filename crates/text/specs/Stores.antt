@@ -5,11 +5,12 @@ use mathlib.Core.List.{List, [], _∷_, _++_}
 use mathlib.Core.Bool.{Bool, true, false, not}
 use native.Mathlib.Nat.{add-zero}
 use native.Mathlib.Omega.{arith}
-use lib.ListN.{length, take, drop, set, length-append, length-drop}
-use lib.Seq.{sets, set-comm, length-take-le}
+use lib.ListN.{length, take, drop, getD, set, length-append, length-drop, drop-of-length-le}
+use native.Mathlib.Numerals.{add-one}
+use lib.Seq.{sets, set-comm, drop-cons, length-take-le}
 use borrow.Author.Tests.{leb-true, not-true, not-false}
 use Rattle.lists.specs.Stores.{sets-join, put-part, copy-whole}
-use Rattle.text.specs.Text.{decimal64, field64, Put, put, putOf, hasRoom, lineWithin}
+use Rattle.text.specs.Text.{decimal64, field64, parted, columns, Put, put, putOf, hasRoom, lineWithin}
 use Rattle.text.specs.Decimal.{lastDigits, length-digits}
 
 -- a text behind a text is one text
@@ -66,6 +67,29 @@ text-stores text y s at k e h copied =
     let inside : k ≤ length (drop at s) = rw length-drop (omega arith) in
     let same : length (take k (drop at s)) ≡ length text = length-take-le k (drop at s) inside ∙ e in
     ap (λ (o : List ℕ). put o (at + length text)) (put-part text y s at k (copied ∙ copy-whole text (take k (drop at s)) same) e h)
+
+-- a row of words, stored byte by byte
+pub length-columns : (sep : ℕ) (text : List ℕ) → length (columns sep text) ≡ length text
+unfolding columns
+length-columns sep [] = refl
+length-columns sep (b ∷ bs) = ap suc (length-columns sep bs)
+
+pub column-store : (s text : List ℕ) (sep at i : ℕ) {b : ℕ} → i < length text → b ≡ parted sep (getD text i 0)
+    → sets (set s (at + i) b) (at + (i + 1)) (columns sep (drop (i + 1) text)) ≡ sets s (at + i) (columns sep (drop i text))
+unfolding columns
+column-store s text sep at i h e =
+    let next : at + (i + 1) ≡ suc (at + i) = omega arith in
+    rw (next, e, add-one, drop-cons text i 0 h)
+
+pub columns-begin : (s text : List ℕ) (sep at : ℕ) → sets s (at + 0) (columns sep (drop 0 text)) ≡ sets s at (columns sep text)
+columns-begin s text sep at = ap (λ (k : ℕ). sets s k (columns sep text)) (add-zero at)
+
+pub columns-done : (s s₀ text : List ℕ) (sep at i : ℕ) → length text ≤ i → sets s (at + i) (columns sep (drop i text)) ≡ sets s₀ at (columns sep text)
+    → put s (at + length text) ≡ putOf s₀ at (columns sep text)
+unfolding putOf columns
+columns-done s s₀ text sep at i h e =
+    let done : s ≡ sets s₀ at (columns sep text) = rw (drop-of-length-le text {i = i} h) at e in
+    rw (← done, length-columns sep text)
 
 -- what the test for room tells
 pub has-room : (longest len at : ℕ) {r : Bool} → r ≡ hasRoom longest len at → not r ≡ false → at + longest ≤ len

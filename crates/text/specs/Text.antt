@@ -5,7 +5,7 @@ use Prim.Native.String.{String, [] as empty, _∷_ as _then_}
 use mathlib.Core.List.{List, [], _∷_, _++_}
 use mathlib.Core.Bool.{Bool, cond}
 use lib.ListN.{length}
-use lib.Dec.{ltb, leb}
+use lib.Dec.{eqb, ltb, leb}
 use lib.Seq.{sets}
 
 -- the bytes of a text
@@ -25,6 +25,14 @@ decimal64 n = decimalTo 20 n
 -- a number and the byte behind it
 unfoldable pub field64 : ℕ → ℕ → List ℕ
 field64 n b = decimal64 n ++ (b ∷ [])
+
+-- a row of words, with another byte for each space between them: a spreadsheet wants commas
+unfoldable pub parted : ℕ → ℕ → ℕ
+parted sep b = cond (eqb b 32) sep b
+
+unfoldable pub columns : ℕ → List ℕ → List ℕ
+columns sep [] = []
+columns sep (b ∷ bs) = parted sep b ∷ columns sep bs
 
 -- an output, and the position behind what was put there
 pub record Put : Type 0 where

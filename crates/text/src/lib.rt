@@ -3,7 +3,7 @@ ghost use mathlib.Core.Path.{_≡_};
 ghost use Prim.Native.Nat.{_+_, _≤_};
 ghost use lib.ListN.{length};
 ghost use lib.Seq.{sets};
-ghost use Rattle.text.specs.Text.{decimal64, field64, put, putOf, hasRoom};
+ghost use Rattle.text.specs.Text.{decimal64, field64, parted as Text·parted, columns, put, putOf, hasRoom};
 ghost use Rattle.text.specs.Decimal.{lastDigits};
 
 // How many digits a number has: one, and one more for each of 10, 100, .. that it reaches. A division would cost more. The
@@ -64,9 +64,32 @@ pub fn put_text(out: &mut [u8], at: usize, text: &[u8]) -> usize
     requires { ⌜ at + length (now text) ≤ length (now out) ⌝ }
     ensures { λ r. ⌜ (put (now (out .exit)) r ≡ putOf (now (out .entry)) at (now (text .entry))) × (r ≡ at + length (now (text .entry))) ⌝ }
 {
-    let e = at + text.len();
-    bytes::copy(text, &mut out[at..e]);
-    e
+    let end = at + text.len();
+    bytes::copy(text, &mut out[at..end]);
+    end
+}
+
+// The byte that stands for one of a row of words.
+fn parted(sep: u8, b: u8) -> u8
+    ensures { λ r. ⌜ r ≡ Text·parted sep b ⌝ }
+{
+    if b == 32 {
+        return sep;
+    }
+    b
+}
+
+// Puts a row of words with `sep` for each space.
+pub fn put_columns(out: &mut [u8], at: usize, text: &[u8], sep: u8) -> usize
+    requires { ⌜ at + length (now text) ≤ length (now out) ⌝ }
+    ensures { λ r. ⌜ (put (now (out .exit)) r ≡ putOf (now (out .entry)) at (columns sep (now (text .entry)))) × (r ≡ at + length (now (text .entry))) ⌝ }
+{
+    let mut i = 0;
+    while i < text.len() {
+        out[at + i] = parted(sep, text[i]);
+        i += 1;
+    }
+    at + text.len()
 }
 
 // Whether a line of up to `longest` bytes has room from `at` on in an output of this length.

@@ -11,13 +11,13 @@ unfoldable pub heading : List ℕ
 heading = ascii "counter page object value writes\n"
 
 -- "its address, page and object, its value behind the last record, and how many records wrote it"; a page has 8 objects
-unfoldable pub counterLine : ℕ → ℕ → ℕ → List ℕ
-counterLine a value writes =
-    field64 a 32 ++ (field64 (a / 8) 32 ++ (field64 (a % 8) 32 ++ (field64 value 32 ++ field64 writes 10)))
+unfoldable pub counterLine : ℕ → ℕ → ℕ → ℕ → List ℕ
+counterLine sep a value writes =
+    field64 a sep ++ (field64 (a / 8) sep ++ (field64 (a % 8) sep ++ (field64 value sep ++ field64 writes 10)))
 
--- "closed by `at N`"
+-- "closed by `at N`", which says that it looked no further
 unfoldable pub atLine : ℕ → List ℕ
-atLine commit = ascii "at " ++ field64 commit 10
+atLine commit = ascii "at " ++ (field64 commit 58 ++ ascii " what follows was not looked at\n")
 
 -- "there is no commit 9: the archive ends behind commit 2"
 unfoldable pub missingLine : ℕ → ℕ → List ℕ
@@ -37,16 +37,16 @@ pub heading-fits : length heading ≤ longest
 unfolding heading
 heading-fits = omega arith
 
-pub counter-fits : (a value writes : ℕ) → a < 256 → value < 2 ^ 64 → writes < 2 ^ 64 → length (counterLine a value writes) ≤ longest
+pub counter-fits : (sep a value writes : ℕ) → a < 256 → value < 2 ^ 64 → writes < 2 ^ 64 → length (counterLine sep a value writes) ≤ longest
 unfolding counterLine
-counter-fits a value writes ha hv hw =
+counter-fits sep a value writes ha hv hw =
     simp length-append
     (omega
-    (arith, field-within 3 a 32 (omega arith) (omega arith) (omega arith), field-within 2 (a / 8) 32 (omega arith) (omega arith) (omega arith), field-within 1 (a % 8) 32 (omega arith) (omega arith) (omega arith), field-within 20 value 32 (omega arith) (omega arith) (omega arith), field-within 20 writes 10 (omega arith) (omega arith) (omega arith)))
+    (arith, field-within 3 a sep (omega arith) (omega arith) (omega arith), field-within 2 (a / 8) sep (omega arith) (omega arith) (omega arith), field-within 1 (a % 8) sep (omega arith) (omega arith) (omega arith), field-within 20 value sep (omega arith) (omega arith) (omega arith), field-within 20 writes 10 (omega arith) (omega arith) (omega arith)))
 
 pub at-fits : (commit : ℕ) → commit < 2 ^ 32 → length (atLine commit) ≤ longest
 unfolding atLine
-at-fits commit h = omega (arith, field-within 10 commit 10 (omega arith) (omega arith) (omega arith))
+at-fits commit h = simp length-append (omega (arith, field-within 10 commit 58 (omega arith) (omega arith) (omega arith)))
 
 pub missing-fits : (commit last : ℕ) → commit < 2 ^ 32 → last < 2 ^ 32 → length (missingLine commit last) ≤ longestMessage
 unfolding missingLine

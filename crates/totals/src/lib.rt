@@ -2,7 +2,7 @@
 ghost use mathlib.Core.Path.{_≡_};
 ghost use Prim.Native.Nat.{_+_, _<_};
 ghost use lib.ListN.{length, getD, set};
-ghost use Rattle.text.specs.Text.{put, lineWithin};
+ghost use Rattle.text.specs.Text.{columns, put, lineWithin};
 ghost use Rattle.report.specs.Text.{lineAt};
 ghost use Rattle.replay.specs.Replay.{addressAt};
 ghost use Rattle.totals.specs.Totals.{oneMore, countedTo, counted};
@@ -45,28 +45,36 @@ pub fn count(part: &[u8], counts: &mut [u64; 256])
 }
 
 // Each function below puts a line at `at` and answers the position behind it. Where fewer than 64 bytes are free from `at` on it
-// changes nothing and answers `at`.
+// changes nothing and answers `at`. `sep` stands between columns.
 
-pub fn heading_line(out: &mut [u8], at: usize) -> usize
-    ensures { λ r. ⌜ put (now (out .exit)) r ≡ lineAt (now (out .entry)) at heading ⌝ }
+pub fn heading_line(out: &mut [u8], at: usize, sep: u8) -> usize
+    ensures { λ r. ⌜ put (now (out .exit)) r ≡ lineAt (now (out .entry)) at (columns sep heading) ⌝ }
 {
     if !text::room(report::LINE, out.len(), at) {
         return at;
     }
-    text::put_text(out, at, b"counter page object value writes\n")
+    let row = b"counter page object value writes\n";
+    text::put_columns(out, at, row, sep)
 }
 
-pub fn counter_line(out: &mut [u8], at: usize, address: u8, value: u64, writes: u64) -> usize
-    ensures { λ r. ⌜ put (now (out .exit)) r ≡ lineAt (now (out .entry)) at (counterLine address value writes) ⌝ }
+pub fn counter_line(
+    out: &mut [u8],
+    at: usize,
+    address: u8,
+    value: u64,
+    writes: u64,
+    sep: u8,
+) -> usize
+    ensures { λ r. ⌜ put (now (out .exit)) r ≡ lineAt (now (out .entry)) at (counterLine sep address value writes) ⌝ }
 {
     if !text::room(report::LINE, out.len(), at) {
         return at;
     }
     let a = le::long(le::wide(address));
-    let at = text::put_field(out, at, a, b' ');
-    let at = text::put_field(out, at, a / 8, b' ');
-    let at = text::put_field(out, at, a % 8, b' ');
-    let at = text::put_field(out, at, value, b' ');
+    let at = text::put_field(out, at, a, sep);
+    let at = text::put_field(out, at, a / 8, sep);
+    let at = text::put_field(out, at, a % 8, sep);
+    let at = text::put_field(out, at, value, sep);
     text::put_field(out, at, writes, b'\n')
 }
 
@@ -77,7 +85,8 @@ pub fn at_line(out: &mut [u8], at: usize, commit: u32) -> usize
         return at;
     }
     let at = text::put_text(out, at, b"at ");
-    text::put_field(out, at, le::long(commit), b'\n')
+    let at = text::put_field(out, at, le::long(commit), b':');
+    text::put_text(out, at, b" what follows was not looked at\n")
 }
 
 // No message is longer.

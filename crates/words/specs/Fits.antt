@@ -7,7 +7,7 @@ use lib.ListN.{length, length-append}
 use Rattle.text.specs.Text.{ascii, decimal64, Put, put, putOf}
 use Rattle.text.specs.Decimal.{decimal-short}
 use Rattle.fault.specs.declared.Fault.{Fault}
-use Rattle.fault.specs.declared.Fault.the-variants.{Nothing, Cut, Header, Reads, Writes, Transaction, Station, Kind, Zero, Order, Sequence, Read}
+use Rattle.fault.specs.declared.Fault.the-variants.{Nothing, Cut, Header, Sizes, Reads, Writes, Transaction, Station, Kind, Zero, Order, Sequence, Read}
 use Rattle.words.specs.Words.{numbered, wordsOf, placed, whereOf, faultLine, longest}
 
 pub number-short : (n : ℕ) → length (decimal64 n) ≤ 20
@@ -30,6 +30,10 @@ words-short (Header present) = omega (arith, numbered-short (ascii "the archive 
 words-short (Cut present size) =
     rw length-append
     (omega (arith, numbered-short (ascii "the archive ends here, ") present (ascii " bytes into a record of "), number-short size))
+words-short (Sizes present size) =
+    rw length-append
+    (omega
+    (arith, numbered-short (ascii "the archive ends here, ") present (ascii " bytes into a record of "), numbered-short (ascii "") size (ascii ", but no record has such sizes")))
 words-short (Reads n) = omega (arith, numbered-short (ascii "") n (ascii " reads, but a record has at most 256"))
 words-short (Writes m) = omega (arith, numbered-short (ascii "") m (ascii " writes, but a record has at most 256"))
 words-short Transaction = omega arith

@@ -4,7 +4,7 @@ use mathlib.Core.Path.{_≡_, refl}
 use mathlib.Core.List.{List, [], _∷_}
 use Rattle.text.specs.Text.{ascii, decimalTo, decimal64}
 use Rattle.fault.specs.declared.Fault.{Fault}
-use Rattle.fault.specs.declared.Fault.the-variants.{Cut, Header, Reads, Writes, Transaction, Station, Kind, Zero, Order, Sequence, Read}
+use Rattle.fault.specs.declared.Fault.the-variants.{Cut, Header, Sizes, Reads, Writes, Transaction, Station, Kind, Zero, Order, Sequence, Read}
 use Rattle.words.specs.Words.{numbered, wordsOf, further, placed, whereOf, faultLine}
 
 -- a fault and its words
@@ -23,6 +23,7 @@ abbrev pub rows : List Row
 rows =
     row (Header 5) "the archive ends here, 5 bytes into a header of 16"
     ∷ row (Cut 20 25) "the archive ends here, 20 bytes into a record of 25"
+    ∷ row (Sizes 20 2329) "the archive ends here, 20 bytes into a record of 2329, but no record has such sizes"
     ∷ row (Reads 257) "257 reads, but a record has at most 256"
     ∷ row (Writes 257) "257 writes, but a record has at most 256"
     ∷ row Transaction "transaction 0, but the first is 1"
@@ -36,7 +37,7 @@ rows =
 
 pub table : Spelt rows
 unfolding wordsOf numbered decimal64 decimalTo
-table = (refl, (refl, (refl, (refl, (refl, (refl, (refl, (refl, (refl, (refl, (refl, tt)))))))))))
+table = (refl, (refl, (refl, (refl, (refl, (refl, (refl, (refl, (refl, (refl, (refl, (refl, tt))))))))))))
 
 -- "playback: byte 46, in the record at byte 34: station 9, but stations are 0 to 7"
 pub example : faultLine 34 (Station 9) ≡ ascii "playback: byte 46, in the record at byte 34: station 9, but stations are 0 to 7\n"

@@ -5,7 +5,7 @@ use mathlib.Core.Bool.{cond}
 use lib.Dec.{leb}
 use Rattle.text.specs.Text.{ascii, decimal64}
 use Rattle.fault.specs.declared.Fault.{Fault}
-use Rattle.fault.specs.declared.Fault.the-variants.{Nothing, Cut, Header, Reads, Writes, Transaction, Station, Kind, Zero, Order, Sequence, Read}
+use Rattle.fault.specs.declared.Fault.the-variants.{Nothing, Cut, Header, Sizes, Reads, Writes, Transaction, Station, Kind, Zero, Order, Sequence, Read}
 use Rattle.fault.specs.Fault.{placeOf}
 
 -- a number in decimal between two texts
@@ -17,6 +17,9 @@ unfoldable pub wordsOf : Fault → List ℕ
 wordsOf Nothing = ascii "nothing is wrong"
 wordsOf (Header present) = numbered (ascii "the archive ends here, ") present (ascii " bytes into a header of 16")
 wordsOf (Cut present size) = numbered (ascii "the archive ends here, ") present (ascii " bytes into a record of ") ++ decimal64 size
+wordsOf (Sizes present size) =
+    numbered (ascii "the archive ends here, ") present (ascii " bytes into a record of ")
+    ++ numbered (ascii "") size (ascii ", but no record has such sizes")
 wordsOf (Reads n) = numbered (ascii "") n (ascii " reads, but a record has at most 256")
 wordsOf (Writes m) = numbered (ascii "") m (ascii " writes, but a record has at most 256")
 wordsOf Transaction = ascii "transaction 0, but the first is 1"

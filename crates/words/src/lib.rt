@@ -47,6 +47,16 @@ fn cut_words(out: &mut [u8], at: usize, present: usize, whole: usize) -> usize
     text::put_number(out, at, whole as u64)
 }
 
+fn size_words(out: &mut [u8], at: usize, present: usize, whole: usize) -> usize
+    requires { ⌜ at + 128 ≤ length (now out) ⌝ }
+    ensures { λ r. ⌜ put (now (out .exit)) r ≡ putOf (now (out .entry)) at (wordsOf (Fault.Sizes present whole)) ⌝ }
+{
+    let ends = b"the archive ends here, ";
+    let at = say_long(out, at, ends, present as u64, b" bytes into a record of ");
+    let sizes = b", but no record has such sizes";
+    say_long(out, at, b"", whole as u64, sizes)
+}
+
 fn order_words(out: &mut [u8], at: usize, before: u32, is: u32) -> usize
     requires { ⌜ at + 128 ≤ length (now out) ⌝ }
     ensures { λ r. ⌜ put (now (out .exit)) r ≡ putOf (now (out .entry)) at (wordsOf (Fault.Order 0 before is)) ⌝ }
@@ -82,6 +92,7 @@ fn put_words(out: &mut [u8], at: usize, f: Fault) -> usize
         Fault::Nothing => text::put_text(out, at, b"nothing is wrong"),
         Fault::Header { present } => header_words(out, at, present),
         Fault::Cut { present, length } => cut_words(out, at, present, length),
+        Fault::Sizes { present, length } => size_words(out, at, present, length),
         Fault::Reads(n) => say(out, at, b"", n, b" reads, but a record has at most 256"),
         Fault::Writes(m) => say(out, at, b"", m, b" writes, but a record has at most 256"),
         Fault::Transaction => text::put_text(out, at, b"transaction 0, but the first is 1"),

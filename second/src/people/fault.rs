@@ -1,7 +1,8 @@
 //! What is wrong with a record that is refused, where, and in words.
 
 use crate::archive::Playback;
-use crate::record::{claimed_length, Header, View, HEADER, MOST};
+use crate::line::places::{header::Field as At, Place};
+use crate::record::{claimed_length, Header, View, HEADER, MOST, VALUE};
 use crate::Refusal;
 use std::fmt::{self, Display, Formatter};
 
@@ -19,6 +20,8 @@ pub struct Fault {
 pub enum Cause {
     /// The archive ends inside a header or a record.
     Short(usize, &'static str, usize),
+    /// It ends inside what no record's sizes are.
+    Sizes(usize, usize),
     /// So many reads or writes.
     Many(u32, &'static str),
     Transaction,
@@ -59,23 +62,45 @@ fn short(bytes: &[u8]) -> Found {
         None => ("header", HEADER),
         Some(length) => ("record", length),
     };
-    (there < length).then_some((there, Cause::Short(there, part, length)))
+    let sizes = Header::first(bytes).map_or(0, |header| header.reads.max(header.writes));
+    let cause = match sizes > MOST {
+        true => Cause::Sizes(there, length),
+        false => Cause::Short(there, part, length),
+    };
+    (there < length).then_some((there, cause))
 }
 
 fn header(bytes: &[u8]) -> Found {
     let header = Header::first(bytes)?;
+    let spare = At::Spare.start();
     let fields = [
-        (header.reads > MOST, 0, Cause::Many(header.reads, "reads")),
+        (
+            header.reads > MOST,
+            At::Reads.start(),
+            Cause::Many(header.reads, "reads"),
+        ),
         (
             header.writes > MOST,
-            2,
+            At::Writes.start(),
             Cause::Many(header.writes, "writes"),
         ),
-        (header.transaction == 0, 8, Cause::Transaction),
-        (header.station > 7, 12, Cause::Station(header.station)),
-        (header.kind > 1, 13, Cause::Kind(header.kind)),
-        (bytes[14] != 0, 14, Cause::NotZero(bytes[14])),
-        (bytes[15] != 0, 15, Cause::NotZero(bytes[15])),
+        (
+            header.transaction == 0,
+            At::Transaction.start(),
+            Cause::Transaction,
+        ),
+        (
+            header.station > 7,
+            At::Station.start(),
+            Cause::Station(header.station),
+        ),
+        (header.kind > 1, At::Kind.start(), Cause::Kind(header.kind)),
+        (bytes[spare] != 0, spare, Cause::NotZero(bytes[spare])),
+        (
+            bytes[spare + 1] != 0,
+            spare + 1,
+            Cause::NotZero(bytes[spare + 1]),
+        ),
     ];
     let found = fields.into_iter().find(|(wrong, ..)| *wrong);
     found.map(|(_, place, cause)| (place, cause))
@@ -93,7 +118,7 @@ fn order(bytes: &[u8]) -> Found {
 fn sequence(bytes: &[u8], last: u32) -> Found {
     let commit = Header::first(bytes)?.commit;
     let follows = last.checked_add(1) == Some(commit);
-    (!follows).then_some((4, Cause::Sequence(commit, last)))
+    (!follows).then_some((At::Commit.start(), Cause::Sequence(commit, last)))
 }
 
 fn replay(bytes: &[u8], playback: &Playback) -> Found {
@@ -101,14 +126,14 @@ fn replay(bytes: &[u8], playback: &Playback) -> Found {
     let left = |counter: u8| playback.values[usize::from(counter)];
     let mut reads = view.reads().enumerate();
     let (i, (counter, value)) = reads.find(|(_, (counter, value))| left(*counter) != *value)?;
-    let place = HEADER + view.addresses.len() + 8 * i;
+    let place = HEADER + view.addresses.len() + VALUE * i;
     Some((place, Cause::Read(counter, value, left(counter))))
 }
 
 impl Cause {
     pub fn refusal(&self) -> Refusal {
         match self {
-            Cause::Short(..) => Refusal::Short,
+            Cause::Short(..) | Cause::Sizes(..) => Refusal::Short,
             Cause::Sequence(..) => Refusal::Sequence,
             Cause::Read(..) => Refusal::Replay,
             _ => Refusal::Record,
@@ -129,6 +154,10 @@ impl Display for Cause {
             Cause::Short(there, part, length) => write!(
                 f,
                 "the archive ends here, {there} bytes into a {part} of {length}"
+            ),
+            Cause::Sizes(there, length) => write!(
+                f,
+                "the archive ends here, {there} bytes into a record of {length}, but no record has such sizes"
             ),
             Cause::Many(count, what) => write!(f, "{count} {what}, but a record has at most 256"),
             Cause::Transaction => f.write_str("transaction 0, but the first is 1"),

@@ -17,6 +17,9 @@ enum-known-f c = search needs
 enum-known-f-2 : tie.Need-enum-known-f-2
 enum-known-f-2 c = search needs
 
+enum-known-f-3 : tie.Need-enum-known-f-3
+enum-known-f-3 c = search needs
+
 enum-told-3 : tie.Need-enum-told-3
 enum-told-3 c = search needs
 
@@ -32,14 +35,14 @@ enum-told-6 c = search needs
 enum-told-7 : tie.Need-enum-told-7
 enum-told-7 c = search needs
 
-enum-known-f-3 : tie.Need-enum-known-f-3
-enum-known-f-3 c = search needs
-
 enum-known-f-4 : tie.Need-enum-known-f-4
 enum-known-f-4 c = search needs
 
 enum-known-f-5 : tie.Need-enum-known-f-5
 enum-known-f-5 c = search needs
+
+enum-known-f-6 : tie.Need-enum-known-f-6
+enum-known-f-6 c = search needs
 
 returns : tie.Need-returns
 returns c = search needs
@@ -75,7 +78,10 @@ returns-11 : tie.Need-returns-11
 returns-11 c = search needs
 
 returns-12 : tie.Need-returns-12
-returns-12 c = sym (ap placeOf (c .before .f5 .given .1))
+returns-12 c = search needs
+
+returns-13 : tie.Need-returns-13
+returns-13 c = sym (ap placeOf (c .before .f6 .given .1))
 
 pub place-spec : {M : Type 1} → statement M
 place-spec =
@@ -85,14 +91,15 @@ place-spec =
     enum-told-2
     enum-known-f
     enum-known-f-2
+    enum-known-f-3
     enum-told-3
     enum-told-4
     enum-told-5
     enum-told-6
     enum-told-7
-    enum-known-f-3
     enum-known-f-4
     enum-known-f-5
+    enum-known-f-6
     returns
     returns-2
     returns-3
@@ -104,4 +111,5 @@ place-spec =
     returns-9
     returns-10
     returns-11
-    returns-12)
+    returns-12
+    returns-13)

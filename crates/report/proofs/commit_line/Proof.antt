@@ -1,5 +1,5 @@
 -- `report::commit_line` meets its contract.
-use Rattle.report.specs.Text.{lineOf}
+use Rattle.report.specs.Text.{lineWith}
 use Rattle.text.specs.Stores.{put-join, has-room, line-put, line-refused}
 use native.Mathlib.Omega.{arith}
 use borrow.Author.Needs.{needs}
@@ -31,7 +31,7 @@ same-length : tie.Need-same-length
 same-length c = search needs
 
 returns-2 : tie.Need-returns-2
-unfolding lineOf
+unfolding lineWith
 returns-2 c = line-put _ _ _ _ (c .before .before .before .before .before .before .before .before .before .before .before .before .before .before .before .before .before .before .before .before .before .room .ensures) (c .before .before .before .before .before .before .before .before .before .before .before .before .before .before .before .before .before .before .before .before .if1 .left) (put-join _ _ _ _ (c .before .before .before .before .before .before .before .before .before .before .before .before .before .before .before .before .before .before .put-field .ensures .0) (put-join _ _ _ _ (c .before .before .before .before .before .before .before .before .before .before .before .before .before .before .put-field2 .ensures .0) (put-join _ _ _ _ (c .before .before .before .before .before .before .before .before .before .before .put-field3 .ensures .0) (put-join _ _ _ _ (c .before .before .before .before .before .before .put-field4 .ensures .0) (c .before .before .put-field5 .ensures .0)))))
 
 pub commit-line-spec : {M : Type 1} → statement M

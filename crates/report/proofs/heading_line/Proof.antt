@@ -12,26 +12,17 @@ room-requires c κs = search needs
 returns : tie.Need-returns
 returns c = line-refused _ _ _ _ (c .before .room .ensures) (c .if1 .taken)
 
-slice-aggregate-put-text : tie.Need-slice-aggregate-put-text
-slice-aggregate-put-text c = search needs
-
-put-text-requires : tie.Need-put-text-requires
-put-text-requires c κs = omega (arith, has-room _ _ _ (c .before .before .before .room .ensures) (c .before .before .if1 .left))
+put-columns-requires : tie.Need-put-columns-requires
+put-columns-requires c κs = omega (arith, has-room _ _ _ (c .before .before .before .before .room .ensures) (c .before .before .before .if1 .left))
 
 same-length : tie.Need-same-length
 same-length c = search needs
 
 returns-2 : tie.Need-returns-2
 unfolding heading
-returns-2 c = line-put _ _ _ _ (c .before .before .before .before .before .before .room .ensures) (c .before .before .before .before .before .if1 .left) (c .before .before .put-text .ensures .0)
+returns-2 c = line-put _ _ _ _ (c .before .before .before .before .before .before .before .room .ensures) (c .before .before .before .before .before .before .if1 .left) (c .before .before .put-columns .ensures .0)
 
 pub heading-line-spec : {M : Type 1} → statement M
 heading-line-spec =
     tie.close
-    (tie.spec
-    room-requires
-    returns
-    slice-aggregate-put-text
-    put-text-requires
-    same-length
-    returns-2)
+    (tie.spec room-requires returns put-columns-requires same-length returns-2)

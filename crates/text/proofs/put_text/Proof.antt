@@ -8,8 +8,8 @@ use borrow.Author.Needs.{needs}
 use Rattle.text.proofs.put_text.Statement.{statement}
 use Rattle.text.proofs.put_text.Tie as tie
 
-add-e : tie.Need-add-e
-add-e c = search needs
+add-end : tie.Need-add-end
+add-end c = search needs
 
 sub-copy : tie.Need-sub-copy
 sub-copy c = search needs
@@ -32,4 +32,4 @@ returns c = let at = c .before .before .before .before .before .before .args .at
 pub put-text-spec : {M : Type 1} → statement M
 put-text-spec =
     tie.close
-    (tie.spec add-e sub-copy part-copy-start part-copy-end copy-requires same-length returns)
+    (tie.spec add-end sub-copy part-copy-start part-copy-end copy-requires same-length returns)

@@ -22,14 +22,20 @@ long-requires : tie.Need-long-requires
 long-requires c κs = search needs
 
 put-field-requires : tie.Need-put-field-requires
-put-field-requires c κs = omega (arith, has-room _ _ _ (c .before .before .before .before .before .before .before .before .room .ensures) (c .before .before .before .before .before .before .before .if1 .left), field-within 10 (c .long .result) 10 (omega arith) (omega arith) (omega arith))
+put-field-requires c κs = omega (arith, has-room _ _ _ (c .before .before .before .before .before .before .before .before .room .ensures) (c .before .before .before .before .before .before .before .if1 .left), field-within 10 (c .long .result) 58 (omega arith) (omega arith) (omega arith))
+
+slice-aggregate-put-text-2 : tie.Need-slice-aggregate-put-text-2
+slice-aggregate-put-text-2 c = search needs
+
+put-text-requires-2 : tie.Need-put-text-requires-2
+put-text-requires-2 c κs = omega (arith, has-room _ _ _ (c .before .before .before .before .before .before .before .before .before .before .before .before .before .room .ensures) (c .before .before .before .before .before .before .before .before .before .before .before .before .if1 .left), field-within 10 (c .before .before .before .before .before .long .result) 58 (omega arith) (omega arith) (omega arith))
 
 same-length : tie.Need-same-length
 same-length c = search needs
 
 returns-2 : tie.Need-returns-2
 unfolding atLine
-returns-2 c = line-put _ _ _ _ (c .before .before .before .before .before .before .before .before .before .before .before .room .ensures) (c .before .before .before .before .before .before .before .before .before .before .if1 .left) (put-join _ _ _ _ (c .before .before .before .before .before .before .before .put-text .ensures .0) (rw (c .before .before .before .long .ensures) at (c .before .before .put-field .ensures .0)))
+returns-2 c = line-put _ _ _ _ (c .before .before .before .before .before .before .before .before .before .before .before .before .before .before .before .before .room .ensures) (c .before .before .before .before .before .before .before .before .before .before .before .before .before .before .before .if1 .left) (put-join _ _ _ _ (c .before .before .before .before .before .before .before .before .before .before .before .before .put-text .ensures .0) (put-join _ _ _ _ (rw (c .before .before .before .before .before .before .before .before .long .ensures) at (c .before .before .before .before .before .before .before .put-field .ensures .0)) (c .before .before .put-text2 .ensures .0)))
 
 pub at-line-spec : {M : Type 1} → statement M
 at-line-spec =
@@ -41,5 +47,7 @@ at-line-spec =
     put-text-requires
     long-requires
     put-field-requires
+    slice-aggregate-put-text-2
+    put-text-requires-2
     same-length
     returns-2)

@@ -21,19 +21,19 @@ long-requires : tie.Need-long-requires
 long-requires c κs = search needs
 
 put-field-requires : tie.Need-put-field-requires
-put-field-requires c κs = omega (arith, has-room _ _ _ (c .before .before .before .before .room .ensures) (c .before .before .before .if1 .left), field-within 3 (c .before .long .result) 32 (omega arith) (omega arith) (omega arith))
+put-field-requires c κs = omega (arith, has-room _ _ _ (c .before .before .before .before .room .ensures) (c .before .before .before .if1 .left), field-within 3 (c .before .long .result) (c .before .before .before .before .before .before .args .sep) (omega arith) (omega arith) (omega arith))
 
 put-field-requires-2 : tie.Need-put-field-requires-2
-put-field-requires-2 c κs = omega (arith, has-room _ _ _ (c .before .before .before .before .before .before .before .before .room .ensures) (c .before .before .before .before .before .before .before .if1 .left), field-within 3 (c .before .before .before .before .before .long .result) 32 (omega arith) (omega arith) (omega arith), field-within 2 (c .before .before .before .before .before .long .result / 8) 32 (omega arith) (omega arith) (omega arith))
+put-field-requires-2 c κs = omega (arith, has-room _ _ _ (c .before .before .before .before .before .before .before .before .room .ensures) (c .before .before .before .before .before .before .before .if1 .left), field-within 3 (c .before .before .before .before .before .long .result) (c .before .before .before .before .before .before .before .before .before .before .args .sep) (omega arith) (omega arith) (omega arith), field-within 2 (c .before .before .before .before .before .long .result / 8) (c .before .before .before .before .before .before .before .before .before .before .args .sep) (omega arith) (omega arith) (omega arith))
 
 put-field-requires-3 : tie.Need-put-field-requires-3
-put-field-requires-3 c κs = omega (arith, has-room _ _ _ (c .before .before .before .before .before .before .before .before .before .before .before .before .room .ensures) (c .before .before .before .before .before .before .before .before .before .before .before .if1 .left), field-within 3 (c .before .before .before .before .before .before .before .before .before .long .result) 32 (omega arith) (omega arith) (omega arith), field-within 2 (c .before .before .before .before .before .before .before .before .before .long .result / 8) 32 (omega arith) (omega arith) (omega arith), field-within 1 (c .before .before .before .before .before .before .before .before .before .long .result % 8) 32 (omega arith) (omega arith) (omega arith))
+put-field-requires-3 c κs = omega (arith, has-room _ _ _ (c .before .before .before .before .before .before .before .before .before .before .before .before .room .ensures) (c .before .before .before .before .before .before .before .before .before .before .before .if1 .left), field-within 3 (c .before .before .before .before .before .before .before .before .before .long .result) (c .before .before .before .before .before .before .before .before .before .before .before .before .before .before .args .sep) (omega arith) (omega arith) (omega arith), field-within 2 (c .before .before .before .before .before .before .before .before .before .long .result / 8) (c .before .before .before .before .before .before .before .before .before .before .before .before .before .before .args .sep) (omega arith) (omega arith) (omega arith), field-within 1 (c .before .before .before .before .before .before .before .before .before .long .result % 8) (c .before .before .before .before .before .before .before .before .before .before .before .before .before .before .args .sep) (omega arith) (omega arith) (omega arith))
 
 put-field-requires-4 : tie.Need-put-field-requires-4
-put-field-requires-4 c κs = omega (arith, has-room _ _ _ (c .before .before .before .before .before .before .before .before .before .before .before .before .before .before .before .before .room .ensures) (c .before .before .before .before .before .before .before .before .before .before .before .before .before .before .before .if1 .left), field-within 3 (c .before .before .before .before .before .before .before .before .before .before .before .before .before .long .result) 32 (omega arith) (omega arith) (omega arith), field-within 2 (c .before .before .before .before .before .before .before .before .before .before .before .before .before .long .result / 8) 32 (omega arith) (omega arith) (omega arith), field-within 1 (c .before .before .before .before .before .before .before .before .before .before .before .before .before .long .result % 8) 32 (omega arith) (omega arith) (omega arith), field-within 20 (c .before .before .before .before .before .before .before .before .before .before .before .before .before .before .before .before .before .before .args .value) 32 (omega arith) (omega arith) (omega arith))
+put-field-requires-4 c κs = omega (arith, has-room _ _ _ (c .before .before .before .before .before .before .before .before .before .before .before .before .before .before .before .before .room .ensures) (c .before .before .before .before .before .before .before .before .before .before .before .before .before .before .before .if1 .left), field-within 3 (c .before .before .before .before .before .before .before .before .before .before .before .before .before .long .result) (c .before .before .before .before .before .before .before .before .before .before .before .before .before .before .before .before .before .before .args .sep) (omega arith) (omega arith) (omega arith), field-within 2 (c .before .before .before .before .before .before .before .before .before .before .before .before .before .long .result / 8) (c .before .before .before .before .before .before .before .before .before .before .before .before .before .before .before .before .before .before .args .sep) (omega arith) (omega arith) (omega arith), field-within 1 (c .before .before .before .before .before .before .before .before .before .before .before .before .before .long .result % 8) (c .before .before .before .before .before .before .before .before .before .before .before .before .before .before .before .before .before .before .args .sep) (omega arith) (omega arith) (omega arith), field-within 20 (c .before .before .before .before .before .before .before .before .before .before .before .before .before .before .before .before .before .before .args .value) (c .before .before .before .before .before .before .before .before .before .before .before .before .before .before .before .before .before .before .args .sep) (omega arith) (omega arith) (omega arith))
 
 put-field-requires-5 : tie.Need-put-field-requires-5
-put-field-requires-5 c κs = omega (arith, has-room _ _ _ (c .before .before .before .before .before .before .before .before .before .before .before .before .before .before .before .before .before .before .before .before .room .ensures) (c .before .before .before .before .before .before .before .before .before .before .before .before .before .before .before .before .before .before .before .if1 .left), field-within 3 (c .before .before .before .before .before .before .before .before .before .before .before .before .before .before .before .before .before .long .result) 32 (omega arith) (omega arith) (omega arith), field-within 2 (c .before .before .before .before .before .before .before .before .before .before .before .before .before .before .before .before .before .long .result / 8) 32 (omega arith) (omega arith) (omega arith), field-within 1 (c .before .before .before .before .before .before .before .before .before .before .before .before .before .before .before .before .before .long .result % 8) 32 (omega arith) (omega arith) (omega arith), field-within 20 (c .before .before .before .before .before .before .before .before .before .before .before .before .before .before .before .before .before .before .before .before .before .before .args .value) 32 (omega arith) (omega arith) (omega arith), field-within 20 (c .before .before .before .before .before .before .before .before .before .before .before .before .before .before .before .before .before .before .before .before .before .before .args .writes) 10 (omega arith) (omega arith) (omega arith))
+put-field-requires-5 c κs = omega (arith, has-room _ _ _ (c .before .before .before .before .before .before .before .before .before .before .before .before .before .before .before .before .before .before .before .before .room .ensures) (c .before .before .before .before .before .before .before .before .before .before .before .before .before .before .before .before .before .before .before .if1 .left), field-within 3 (c .before .before .before .before .before .before .before .before .before .before .before .before .before .before .before .before .before .long .result) (c .before .before .before .before .before .before .before .before .before .before .before .before .before .before .before .before .before .before .before .before .before .before .args .sep) (omega arith) (omega arith) (omega arith), field-within 2 (c .before .before .before .before .before .before .before .before .before .before .before .before .before .before .before .before .before .long .result / 8) (c .before .before .before .before .before .before .before .before .before .before .before .before .before .before .before .before .before .before .before .before .before .before .args .sep) (omega arith) (omega arith) (omega arith), field-within 1 (c .before .before .before .before .before .before .before .before .before .before .before .before .before .before .before .before .before .long .result % 8) (c .before .before .before .before .before .before .before .before .before .before .before .before .before .before .before .before .before .before .before .before .before .before .args .sep) (omega arith) (omega arith) (omega arith), field-within 20 (c .before .before .before .before .before .before .before .before .before .before .before .before .before .before .before .before .before .before .before .before .before .before .args .value) (c .before .before .before .before .before .before .before .before .before .before .before .before .before .before .before .before .before .before .before .before .before .before .args .sep) (omega arith) (omega arith) (omega arith), field-within 20 (c .before .before .before .before .before .before .before .before .before .before .before .before .before .before .before .before .before .before .before .before .before .before .args .writes) 10 (omega arith) (omega arith) (omega arith))
 
 same-length : tie.Need-same-length
 same-length c = search needs

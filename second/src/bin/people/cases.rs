@@ -3,7 +3,7 @@
 use crate::wounds::Part;
 use second::archive::Playback;
 use second::generate::{self, Line, Size};
-use second::people::Play;
+use second::people::{Asked, Play};
 use second::program::PIECES;
 use second::random::Random;
 use second::record::{Record, HEADER};
@@ -12,9 +12,9 @@ use second::record::{Record, HEADER};
 const LONG: usize = 2_200_000;
 
 /// Arguments that are not understood.
-const UNCLEAR: [&[&str]; 14] = [
+const UNCLEAR: [&[&str]; 26] = [
     &[""],
-    &["-"],
+    &["--"],
     &["-h"],
     &["--at"],
     &["--at=2"],
@@ -25,8 +25,20 @@ const UNCLEAR: [&[&str]; 14] = [
     &["--at", "+1"],
     &["--at", "1x"],
     &["--totals", "--help"],
-    &["--at", "1", "2"],
+    &["--at", "--csv"],
     &["archive", "--totals", "--at", "1"],
+    &["--counter", "256"],
+    &["--counter"],
+    &["--record", "0"],
+    &["--record", "1", "--counter", "1"],
+    &["--from"],
+    &["--to", "x"],
+    &["--from", "4", "--to", "3"],
+    &["--totals", "--from", "1"],
+    &["--to", "9", "--at", "3"],
+    &["--record", "3", "--to", "4"],
+    &["one", "two"],
+    &["-", "-"],
 ];
 
 /// How the archive gets to the program.
@@ -34,6 +46,8 @@ const UNCLEAR: [&[&str]; 14] = [
 pub enum Way {
     Pieces(usize),
     File,
+    /// As a file that is named.
+    Named,
     /// Through a pipe that stays open: what is not needed never comes.
     Held,
 }
@@ -54,9 +68,10 @@ impl Case {
         };
         let (archive, wounds) = archive(random, &records);
         let arguments = arguments(random, &archive);
-        let way = match random.below(6) {
+        let way = match random.below(7) {
             0 | 1 => Way::File,
             2 => Way::Held,
+            6 if !names(&arguments) => Way::Named,
             _ if archive.len() > 100_000 => Way::Pieces(random.pick(&PIECES[3..])),
             3 => Way::Pieces(1 + random.below(20)),
             _ => Way::Pieces(random.pick(&PIECES)),
@@ -147,20 +162,64 @@ fn tamed(random: &mut Random) -> Vec<u8> {
     bytes
 }
 
+/// Whether an archive is named already.
+fn names(arguments: &[String]) -> bool {
+    let words: Vec<&str> = arguments.iter().map(String::as_str).collect();
+    let more = [&words[..], &["-"]].concat();
+    Asked::by(&more).is_err()
+}
+
 fn arguments(random: &mut Random, archive: &[u8]) -> Vec<String> {
-    let words = |words: &[&str]| words.iter().map(|word| word.to_string()).collect();
-    match random.below(20) {
-        0 => words(&["--help"]),
-        1 => words(random.pick(&UNCLEAR)),
+    let words =
+        |words: &[&str]| -> Vec<String> { words.iter().map(|word| word.to_string()).collect() };
+    let mut arguments = match random.below(24) {
+        0 => return words(random.pick(&[&["--help"][..], &["--version"], &["--csv", "--help"]])),
+        1 => return words(random.pick(&UNCLEAR)),
         2..=6 => words(&[]),
         7..=11 => words(&["--totals"]),
-        _ => words(&["--at", &commit(random, archive)]),
+        12..=16 => words(&["--at", &commit(random, archive)]),
+        17..=20 => words(&["--counter", &counter(random, archive).to_string()]),
+        _ => words(&["--record", &commit(random, archive)]),
+    };
+    let ranges = arguments.is_empty() || arguments[0] == "--counter";
+    if ranges && random.one_in(2) {
+        let range = range(random, archive);
+        arguments.splice(0..0, range);
+    }
+    if random.one_in(3) {
+        let at = if random.one_in(2) { 0 } else { arguments.len() };
+        arguments.insert(at, "--csv".to_string());
+    }
+    if random.one_in(8) {
+        arguments.push("-".to_string());
+    }
+    arguments
+}
+
+/// A counter that was written, or any.
+fn counter(random: &mut Random, archive: &[u8]) -> usize {
+    let writes = Play::whole(archive).writes;
+    let written: Vec<usize> = (0..writes.len()).filter(|a| writes[*a] > 0).collect();
+    match written.is_empty() || random.one_in(4) {
+        true => random.below(256),
+        false => random.pick(&written),
+    }
+}
+
+/// From a commit, to a commit, or both.
+fn range(random: &mut Random, archive: &[u8]) -> Vec<String> {
+    let [from, to] = ["--from", "--to"].map(|name| [name.to_string(), commit(random, archive)]);
+    match random.below(4) {
+        0 => from.into(),
+        1 => to.into(),
+        2 => [to, from].concat(),
+        _ => [from, to].concat(),
     }
 }
 
 /// A commit around the last good one, or any.
 fn commit(random: &mut Random, archive: &[u8]) -> String {
-    let last = Play::of(archive, None).playback.last;
+    let last = Play::whole(archive).playback.last;
     let commit = match random.below(9) {
         0 => 0,
         1 => random.below(last as usize + 1) as u32,

@@ -33,9 +33,15 @@ pub fn run(path: &str, length: usize) -> io::Result<bool> {
         "{megabytes:.0} MB, small records, the fastest of {ROUNDS} rounds; output to /dev/null\n"
     );
     println!("| command | MB/s | time, of that without | most resident, kB |\n|---|---|---|---|");
-    let last = people::Play::of(&archive, None).playback.last.to_string();
+    let last = people::Play::whole(&archive).playback.last.to_string();
     let mut rows = Vec::new();
-    for arguments in [&[][..], &["--totals"], &["--at", &last]] {
+    for arguments in [
+        &[][..],
+        &["--totals"],
+        &["--at", &last],
+        &["--counter", "8"],
+        &["--csv"],
+    ] {
         answers(path, arguments, &file, &archive)?;
         rows.push(measure(path, arguments, &file)?);
         let (row, without) = (&rows[rows.len() - 1], rows[0].seconds);
@@ -64,7 +70,8 @@ fn are_fit(rows: &[Measured]) -> bool {
 fn answers(path: &str, arguments: &[&str], mut file: &File, archive: &[u8]) -> io::Result<()> {
     file.rewind()?;
     let said = program::read(path, arguments, file)?;
-    match Some(said) == people::said(arguments, archive) {
+    let expected = people::said(arguments, archive).expect("a play");
+    match said.output == expected.output && said.errors == expected.errors {
         true => Ok(()),
         false => Err(io::Error::other("the text differs")),
     }

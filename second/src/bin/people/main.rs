@@ -14,8 +14,10 @@ use second::random::Random;
 use std::time::Instant;
 use std::{fs, io, process};
 
-const USAGE: &str = "people --playback PROGRAM [--seed N|random] [--cases N] [--keep FILE]
+const USAGE: &str =
+    "people --playback PROGRAM [--statuses] [--seed N|random] [--cases N] [--keep FILE]
        people --playback PROGRAM --long BYTES
+  --statuses  PROGRAM is the command with its exit statuses
   --seed   of the first case; each next case's is one more
   --cases  how many, 3000 if nothing is said
   --keep   write the archive of a difference there
@@ -26,7 +28,7 @@ const MANY: u64 = 3_000;
 
 fn main() {
     let with_value = ["--playback", "--seed", "--cases", "--keep", "--long"];
-    let options = Options::read(USAGE, &with_value, &[]).without_words();
+    let options = Options::read(USAGE, &with_value, &["--statuses"]).without_words();
     let path = options.text("--playback");
     let path = path.unwrap_or_else(|| options.misused());
     let outcome = match options.has("--long") {
@@ -48,8 +50,10 @@ fn compare(path: &str, options: &Options) -> io::Result<bool> {
     let (first, count) = (options.seed("--seed", 1), options.number("--cases", MANY));
     println!("seed {first}");
     let start = Instant::now();
-    let mut judge = Judge::new(path)?;
-    if let Err(difference) = judge.unreadable() {
+    let mut judge = Judge::new(path, options.has("--statuses"))?;
+    let failures = judge.unreadable();
+    let failures = failures.and_then(|()| judge.unwritable());
+    if let Err(difference) = failures.and_then(|()| judge.unread()) {
         println!("DIFFERENCE\n{difference}");
         return Ok(false);
     }

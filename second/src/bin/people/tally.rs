@@ -1,16 +1,17 @@
 //! What was reached, and how often.
 
 use crate::cases::{Case, Way};
-use second::people::{Asked, Cause, Fault, Play, Stop};
+use second::people::{Asked, Cause, Fault, Listing, Play, Stop};
 use second::record::{Header, HEADER, LONGEST};
 use second::tally::Tally;
 use std::collections::BTreeMap;
 use std::fmt::{self, Display, Formatter};
 
 /// The rows of the table in docs/PLAYBACK.md; two of them in halves.
-const ROWS: [&str; 13] = [
+const ROWS: [&str; 14] = [
     "12 in a header",
     "12 in a record",
+    "12 in what is no record",
     "5 reads",
     "5 writes",
     "5 transaction",
@@ -24,15 +25,24 @@ const ROWS: [&str; 13] = [
     "14",
 ];
 /// What closes a play that is not refused.
-const CLOSINGS: [(&str, &str); 4] = [
+const CLOSINGS: [(&str, &str); 12] = [
     ("commits", "end"),
+    ("commits", "at"),
     ("totals", "end"),
     ("at", "end"),
     ("at", "at"),
+    ("counter", "end"),
+    ("counter", "at"),
+    ("record", "end"),
+    ("record", "at"),
+    ("csv", "end"),
+    ("csv", "at"),
+    ("csv", "refused"),
 ];
-const OTHERS: [(&str, &str); 14] = [
+const OTHERS: [(&str, &str); 15] = [
     ("ways", "pipe"),
     ("ways", "file"),
+    ("ways", "named file"),
     ("ways", "held pipe"),
     ("help", "pipe"),
     ("help", "file"),
@@ -54,18 +64,23 @@ const FULL: (&str, &str) = ("archives", "a record of 4,624 bytes");
 pub struct Tallies(BTreeMap<&'static str, Tally<&'static str>>);
 
 impl Tallies {
-    pub fn count(&mut self, case: &Case, way: Way, asked: Asked, play: &Play) {
+    pub fn count(&mut self, case: &Case, way: Way, asked: Option<&Asked>, play: &Play) {
         let way = match way {
             Way::Pieces(_) => "pipe",
             Way::File => "file",
+            Way::Named => "named file",
             Way::Held => "held pipe",
         };
-        let mode = match asked {
-            Asked::Commits => "commits",
-            Asked::Totals => "totals",
-            Asked::At(_) => "at",
-            Asked::Help => return self.add("help", way),
-            Asked::Unclear => return self.add("unclear", way),
+        let Some(asked) = asked else {
+            return self.add("unclear", way);
+        };
+        let mode = match asked.listing {
+            Listing::Commits => "commits",
+            Listing::Totals => "totals",
+            Listing::At(_) => "at",
+            Listing::Counter(_) => "counter",
+            Listing::Record(_) => "record",
+            Listing::Help | Listing::Version => return self.add("help", way),
         };
         self.add("ways", way);
         let closing = match &play.stop {
@@ -74,6 +89,13 @@ impl Tallies {
             Stop::Fault(fault) => row(fault, &case.archive),
         };
         self.add(mode, closing);
+        if asked.csv {
+            let closing = match &play.stop {
+                Stop::Fault(_) => "refused",
+                _ => closing,
+            };
+            self.add("csv", closing);
+        }
         self.count_archive(case, play);
     }
 
@@ -102,7 +124,7 @@ impl Tallies {
 
     /// The first thing that was not reached.
     pub fn missing(&self) -> Option<String> {
-        let modes = ["commits", "totals", "at"];
+        let modes = ["commits", "totals", "at", "counter", "record"];
         let rows = modes.iter().flat_map(|mode| ROWS.map(|row| (*mode, row)));
         let mut all = rows.chain(CLOSINGS).chain(OTHERS).chain([FULL]);
         let missing = all.find(|(group, what)| match self.0.get(group) {
@@ -119,17 +141,18 @@ fn row(fault: &Fault, archive: &[u8]) -> &'static str {
     let row = match fault.cause {
         Cause::Short(..) if header.is_none() => 0,
         Cause::Short(..) => 1,
-        Cause::Many(..) if place == 0 => 2,
-        Cause::Many(..) => 3,
-        Cause::Transaction => 4,
-        Cause::Station(_) => 5,
-        Cause::Kind(_) => 6,
-        Cause::NotZero(_) if place == 14 => 7,
-        Cause::NotZero(_) => 8,
-        Cause::Order(..) if header.is_some_and(|h| place < HEADER + h.reads as usize) => 9,
-        Cause::Order(..) => 10,
-        Cause::Sequence(..) => 11,
-        Cause::Read(..) => 12,
+        Cause::Sizes(..) => 2,
+        Cause::Many(..) if place == 0 => 3,
+        Cause::Many(..) => 4,
+        Cause::Transaction => 5,
+        Cause::Station(_) => 6,
+        Cause::Kind(_) => 7,
+        Cause::NotZero(_) if place == 14 => 8,
+        Cause::NotZero(_) => 9,
+        Cause::Order(..) if header.is_some_and(|h| place < HEADER + h.reads as usize) => 10,
+        Cause::Order(..) => 11,
+        Cause::Sequence(..) => 12,
+        Cause::Read(..) => 13,
     };
     ROWS[row]
 }

@@ -1,0 +1,2 @@
+-- One record in full.
+pub mod Full

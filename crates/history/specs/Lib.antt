@@ -1,0 +1,2 @@
+-- The changes of one counter.
+pub mod History

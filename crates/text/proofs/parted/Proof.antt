@@ -1,0 +1,16 @@
+-- `text::parted` meets its contract.
+use borrow.Author.Tests.{eq-eqb, ne-eqb}
+use Rattle.text.specs.Text.{parted}
+use Rattle.text.proofs.parted.Statement.{statement}
+use Rattle.text.proofs.parted.Tie as tie
+
+returns : tie.Need-returns
+unfolding parted
+returns c = simp (eq-eqb _ _ (c .if1 .taken))
+
+returns-2 : tie.Need-returns-2
+unfolding parted
+returns-2 c = simp (ne-eqb _ _ (c .if1 .left))
+
+pub parted-spec : {M : Type 1} → statement M
+parted-spec = tie.close (tie.spec returns returns-2)
