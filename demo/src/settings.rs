@@ -60,8 +60,10 @@ impl Settings {
 
 fn chart(options: &Options) -> Option<Chart> {
     let Some(path) = options.text("--chart") else {
-        if options.has("--chart-from") || options.has("--chart-calls") {
-            options.misused()
+        for name in ["--chart-from", "--chart-calls"] {
+            if options.has(name) {
+                options.unclear(name, "wants --chart FILE too")
+            }
         }
         return None;
     };
@@ -75,7 +77,7 @@ fn chart(options: &Options) -> Option<Chart> {
 
 fn at_least_one(options: &Options, name: &str, default: u64) -> u64 {
     match options.number(name, default) {
-        0 => options.misused(),
+        0 => options.unclear(&format!("{name} 0"), "is too small: at least 1"),
         number => number,
     }
 }

@@ -25,12 +25,13 @@ impl Options {
         let mut arguments = std::env::args().skip(1);
         while let Some(argument) = arguments.next() {
             if let Some(name) = with_value.iter().find(|name| **name == argument) {
-                let value = arguments.next().unwrap_or_else(|| options.misused());
+                let value = arguments.next();
+                let value = value.unwrap_or_else(|| options.unclear(&argument, "wants a value"));
                 options.values.insert(name, value);
             } else if let Some(name) = plain.iter().find(|name| **name == argument) {
                 options.values.insert(name, String::new());
             } else if argument.starts_with('-') {
-                options.misused()
+                options.unclear(&argument, "is no option of this program")
             } else {
                 options.words.push(argument);
             }
@@ -40,10 +41,16 @@ impl Options {
 
     /// For programs that take no words.
     pub fn without_words(self) -> Options {
-        if !self.words.is_empty() {
-            self.misused()
+        if let Some(word) = self.words.first() {
+            self.unclear(word, "is no option")
         }
         self
+    }
+
+    /// Names what is not understood, then ends the program with its usage.
+    pub fn unclear(&self, word: &str, why: &str) -> ! {
+        eprintln!("{word} {why}");
+        self.misused()
     }
 
     pub fn misused(&self) -> ! {
@@ -65,7 +72,8 @@ impl Options {
 
     pub fn number(&self, name: &str, default: u64) -> u64 {
         self.text(name).map_or(default, |text| {
-            text.parse().unwrap_or_else(|_| self.misused())
+            let unclear = |_| self.unclear(&format!("{name} {text}"), "is no number that it takes");
+            text.parse().unwrap_or_else(unclear)
         })
     }
 
