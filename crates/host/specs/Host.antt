@@ -2,6 +2,7 @@
 -- and values for each of its cases."
 use Prim.Native.Nat.{ℕ}
 use mathlib.Core.Path.{_≡_, refl, ap, _∙_}
+use mathlib.Core.Logic.{_≢_}
 use mathlib.Core.List.{List, [], _∷_}
 use mathlib.Core.Bool.{cond, true, false}
 use lib.ListN.{length}
@@ -23,6 +24,10 @@ told t n = record { out = t; number = n }
 -- an answer's number, and what goes with it: WAX_BEGUN to WAX_NOTHING of the header
 abbrev pub accepted : List ℕ → ℕ → ℕ → ℕ → ℕ → Told
 accepted t a v n k = told (sets t 0 (a ∷ v ∷ n ∷ k ∷ [])) 0
+
+-- "hosts take the value out by let .. else, other answers leave early"
+abbrev pub NoValue : Answer → Type 0
+NoValue a = (v : ℕ) → a ≢ Value v
 
 abbrev pub toldOf : List ℕ → ℕ → ℕ → Answer → Told
 toldOf t n k (Refused x) = told t x

@@ -7,7 +7,7 @@ ghost use Rattle.message.specs.Number.{downNumber, upNumber};
 ghost use Rattle.station_state.specs.Valid.{freshened, freshOf};
 ghost use Rattle.station_owner.specs.Owner.{called, commitCalled, ownBeginB, ownReadB, ownWriteB, ownAbortB, ownPurgeB};
 ghost use Rattle.station.specs.Station.{stationStepB};
-ghost use Rattle.host.specs.Host.{told as Host·told, accepted, toldOf, toldSaid, hosted, hostOf};
+ghost use Rattle.host.specs.Host.{told as Host·told, accepted, NoValue, toldOf, toldSaid, hosted, hostOf};
 use station_answer::Answer;
 use station_answer::Said;
 
@@ -23,15 +23,15 @@ fn put_told(told: &mut [u64], answer: u64, value: u64, messages: usize, commit: 
     0
 }
 
-// Every answer but a value.
+// Every answer but a value, which `tell` has taken out.
 fn tell_other(a: Answer, messages: usize, commit: usize, told: &mut [u64]) -> u32
-    requires { ⌜ 4 ≤ length (now told) ⌝ }
+    requires { ⌜ (4 ≤ length (now told)) × NoValue a ⌝ }
     ensures { λ r. ⌜ Host·told (now (told .exit)) r ≡ toldOf (now (told .entry)) messages commit a ⌝ }
 {
     match a {
         Answer::Refused(number) => number,
         Answer::Begun(t) => put_told(told, 1, le::long(t), messages, commit),
-        Answer::Value(v) => put_told(told, 2, v, messages, commit),
+        Answer::Value(_v) => 0,
         Answer::Waits => put_told(told, 3, 0, messages, commit),
         Answer::Written => put_told(told, 4, 0, messages, commit),
         Answer::Committed(n) => put_told(told, 5, le::long(n), messages, commit),

@@ -87,8 +87,8 @@ pub fn replay(archive: &[u8], at: usize, last: u32, values: &mut [u64; 256]) -> 
 }
 
 // Plays the first record of these bytes on lent values behind a lent last commit number: 0, 12 (also for no bytes), 5, 13 or
-// 14. Only 0 changes them.
-fn play_record(bytes: &[u8], last: &mut u32, values: &mut [u64; 256]) -> u32
+// 14. Only 0 changes them. The core of the play of a whole archive, where a record costs no copy of the values.
+fn play_in_place(bytes: &[u8], last: &mut u32, values: &mut [u64; 256]) -> u32
     ensures { λ r. ⌜ played (now (values .exit)) (now (last .exit)) r ≡ recordPlayed (now (bytes .entry)) (now (last .entry)) (now (values .entry)) ⌝ }
 {
     let before = *last;
@@ -111,7 +111,7 @@ pub extern "C" fn wax_archive_replay(archive: &[u8], values: &mut [u64; 256], la
     let mut at = 0;
     while at < archive.len() {
         let part = &archive[at..];
-        let number = play_record(part, last, values);
+        let number = play_in_place(part, last, values);
         if number != 0 {
             return number;
         }
@@ -125,6 +125,46 @@ pub extern "C" fn wax_archive_replay(archive: &[u8], values: &mut [u64; 256], la
 pub struct Playback {
     pub values: [u64; 256],
     pub last: u32,
+}
+
+// A playback behind a record, and the record's number.
+pub struct PlaybackTurn {
+    pub playback: Playback,
+    pub number: u32,
+}
+
+// The core, by value: what a playback becomes by the first record of these bytes, and the number: 0, 12 (also for no bytes), 5, 13 or
+// 14. Only 0 changes it.
+pub fn turned(playback: Playback, bytes: &[u8]) -> PlaybackTurn
+    ensures { λ r. ⌜ played (r .playback .values) (r .playback .last) (r .number) ≡ recordPlayed (now (bytes .entry)) (playback .last) (playback .values) ⌝ }
+{
+    let mut values = playback.values;
+    let mut last = playback.last;
+    let number = play_in_place(bytes, &mut last, &mut values);
+    PlaybackTurn {
+        playback: Playback { values, last },
+        number,
+    }
+}
+
+// The core on the two fields of a playback that is lent: they are copied out, and back.
+fn play_record(bytes: &[u8], last: &mut u32, values: &mut [u64; 256]) -> u32
+    ensures { λ r. ⌜ played (now (values .exit)) (now (last .exit)) r ≡ recordPlayed (now (bytes .entry)) (now (last .entry)) (now (values .entry)) ⌝ }
+{
+    let before = *values;
+    let number = *last;
+    let t = turned(
+        Playback {
+            values: before,
+            last: number,
+        },
+        bytes,
+    );
+    let kept = t.playback;
+    let after = kept.values;
+    *values = after;
+    *last = kept.last;
+    t.number
 }
 
 // Plays the first record of these bytes: 0, 12 (also for no bytes), 5, 13 or 14. Only 0 changes the playback.

@@ -19,7 +19,7 @@ use Rattle.cells.specs.Loops.{anyTo, any-to, any-suc, any-same, maskTo, mask-is
 use Rattle.cells.specs.Pages.{any-byte}
 use Rattle.station_state.specs.Layout.{hasBit}
 use Rattle.server_state.specs.Facts.{zero-eight}
-use Rattle.server_state.specs.Layout.{lockOf, readSet, writtenSet, busyOf, waitsB, otherB, wantedOn}
+use Rattle.server_state.specs.Layout.{lockFrom, busyFrom, readSetFrom, writtenSetFrom, lockOf, readSet, writtenSet, busyOf, waitsB, otherB, wantedOn}
 use Rattle.server_tests.specs.Tests.{earlierB, blocksB, blockedAtB, blockedOnB, blockedB, edgeAtB, edgeOnB, edgeB, edgeSet}
 
 -- r |= f(i)
@@ -49,7 +49,7 @@ holderAt s i p o =
 
 -- a page without locks or on which nothing is wanted is not looked at
 unfoldable pub holdersOn : List ℕ → ℕ → ℕ → ℕ
-holdersOn s i p = cond (eqb (u64At s (36216 + p * 8)) 0) 0 (cond (eqb (wantedOn s i p) 0) 0 (joinTo (holderAt s i p) 8))
+holdersOn s i p = cond (eqb (u64At s (lockFrom + p * 8)) 0) 0 (cond (eqb (wantedOn s i p) 0) 0 (joinTo (holderAt s i p) 8))
 
 unfoldable pub holderSet : List ℕ → ℕ → ℕ
 holderSet s i = joinTo (holdersOn s i) 32
@@ -144,7 +144,7 @@ holder-lt s i p o = go (hasBit (wantedOn s i p) o && otherB (lockOf s (p * 8 + o
 
 holders-lt : (s : List ℕ) (i p : ℕ) → holdersOn s i p < 256
 unfolding holdersOn
-holders-lt s i p = go (eqb (u64At s (36216 + p * 8)) 0) (eqb (wantedOn s i p) 0)
+holders-lt s i p = go (eqb (u64At s (lockFrom + p * 8)) 0) (eqb (wantedOn s i p) 0)
   where
     go : (a b : Bool) → cond a 0 (cond b 0 (joinTo (holderAt s i p) 8)) < 256
     go true b = omega arith
@@ -158,16 +158,16 @@ lockB s i j p o = hasBit (wantedOn s i p) o && (eqb (lockOf s (p * 8 + o)) (j + 
 holders-bit : (s : List ℕ) (i j p : ℕ) → j < 8 → tb (holdersOn s i p) j ≡ any 8 (lockB s i j p)
 unfolding holdersOn holderAt
 holders-bit s i j p l =
-    byEq (u64At s (36216 + p * 8)) 0
-    (λ e. rw e (tb-zero j ∙ sym (any-none 8 (lockB s i j p) (free (eqb-yes (u64At s (36216 + p * 8)) 0 e)))))
+    byEq (u64At s (lockFrom + p * 8)) 0
+    (λ e. rw e (tb-zero j ∙ sym (any-none 8 (lockB s i j p) (free (eqb-yes (u64At s (lockFrom + p * 8)) 0 e)))))
     (λ e. rw e (byEq (wantedOn s i p) 0
     (λ d. rw d (tb-zero j ∙ sym (any-none 8 (lockB s i j p) (λ o q. rw (eqb-yes (wantedOn s i p) 0 d, bit-is 0 o, tb-zero o)))))
     (λ d. rw d (join-is (holderAt s i p) 8 j ∙ any-ext 8 (λ o. tb (holderAt s i p o) j) (lockB s i j p) (λ o. bit-of (hasBit (wantedOn s i p) o) (lockOf s (p * 8 + o)) i j l)))))
   where
-    free : u64At s (36216 + p * 8) ≡ 0 → (o : ℕ) → o < 8 → lockB s i j p o ≡ false
+    free : u64At s (lockFrom + p * 8) ≡ 0 → (o : ℕ) → o < 8 → lockB s i j p o ≡ false
     free e o q =
-        let a : 36216 + (p * 8 + o) ≡ 36216 + p * 8 + o = omega arith in
-        rw (a, zero-eight s (36216 + p * 8) o q e, eqb-diff 0 (j + 1) (λ z. omega arith)) (and-false (hasBit (wantedOn s i p) o))
+        let a : lockFrom + (p * 8 + o) ≡ lockFrom + p * 8 + o = omega arith in
+        rw (a, zero-eight s (lockFrom + p * 8) o q e, eqb-diff 0 (j + 1) (λ z. omega arith)) (and-false (hasBit (wantedOn s i p) o))
 
 -- the waiters ahead
 
@@ -186,7 +186,7 @@ meet-lt s h i j p =
     let x = wantedOn s i p in
     let y = wantedOn s j p in
     lt-of-le-of-lt (and-le-l (bitAnd x y) (bitOr (writtenSet s j p) (writtenSet s i p)))
-    (lt-of-le-of-lt (and-le-l x y) (or-lt 8 (readSet s i p) (writtenSet s i p) (h (36504 + i * 32 + p)) (h (36760 + i * 32 + p))))
+    (lt-of-le-of-lt (and-le-l x y) (or-lt 8 (readSet s i p) (writtenSet s i p) (h (readSetFrom i + p)) (h (writtenSetFrom i + p))))
 
 meet-any : (s : List ℕ) → AllBytes s → (i j : ℕ) → not (eqb (meetSet s i j) 0) ≡ any 32 (λ p. any 8 (tb (meetOn s i j p)))
 unfolding meetSet
@@ -266,7 +266,7 @@ unfolding edgeSet edgeB
 edges-are s h i = tb-tells 8 (maskTo (edgeB s i) 8) (cond (waitsB s i) (bitOr (busyOf s i) (blockersB s i)) 0) (mask-lt (edgeB s i) 8) (small (waitsB s i)) bits
   where
     small : (b : Bool) → cond b (bitOr (busyOf s i) (blockersB s i)) 0 < 256
-    small true = or-lt 8 (busyOf s i) (blockersB s i) (h (37056 + i)) (blockers-lt s i)
+    small true = or-lt 8 (busyOf s i) (blockersB s i) (h (busyFrom + i)) (blockers-lt s i)
     small false = omega arith
 
     joined : (b : Bool) (j : ℕ) → j < 8 → (b && (hasBit (busyOf s i) j || anyTo (edgeOnB s i j) 32)) ≡ tb (cond b (bitOr (busyOf s i) (blockersB s i)) 0) j

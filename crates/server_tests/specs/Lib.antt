@@ -1,4 +1,5 @@
 -- What the server asks of its state: number 6, the gates of the pass, the waits-for edges.
+pub mod Kinds
 pub mod Tests
 pub mod Blockers
 pub mod Shorter

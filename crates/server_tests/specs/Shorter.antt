@@ -12,20 +12,20 @@ use Rattle.cells.specs.Bits.{tb, tb-zero}
 use Rattle.cells.specs.Loops.{anyTo, any-to}
 use Rattle.station_state.specs.Layout.{hasBit}
 use Rattle.server_state.specs.Facts.{zero-eight}
-use Rattle.server_state.specs.Layout.{lockOf, wholeOf, writtenSet, lockingB}
+use Rattle.server_state.specs.Layout.{lockFrom, lockOf, wholeOf, writtenSet, lockingB}
 use Rattle.server_tests.specs.Tests.{lockAtB, lockOnB, dropsLockedB, concernsAt, concernedB, waitsToWriteB}
 use Rattle.server_tests.specs.Blockers.{joinTo, join-is, bit-is, any-none}
 
 -- a page without locks on objects
-pub lock-whole : (s : List ℕ) (i p : ℕ) → u64At s (36216 + p * 8) ≡ 0 → lockOnB s i p ≡ eqb (wholeOf s p) (i + 1)
+pub lock-whole : (s : List ℕ) (i p : ℕ) → u64At s (lockFrom + p * 8) ≡ 0 → lockOnB s i p ≡ eqb (wholeOf s p) (i + 1)
 unfolding lockOnB lockAtB
 lock-whole s i p e =
     rw (any-to (lockAtB s i p) (λ k. false) 8 (λ o l. free o l), any-none 8 (λ k. false) (λ k l. refl)) (or-false (eqb (wholeOf s p) (i + 1)))
   where
     free : (o : ℕ) → o < 8 → eqb (lockOf s (p * 8 + o)) (i + 1) ≡ false
     free o l =
-        let at : 36216 + (p * 8 + o) ≡ 36216 + p * 8 + o = omega arith in
-        rw (at, zero-eight s (36216 + p * 8) o l e, ne-eqb 0 (i + 1) (λ z. omega arith))
+        let at : lockFrom + (p * 8 + o) ≡ lockFrom + p * 8 + o = omega arith in
+        rw (at, zero-eight s (lockFrom + p * 8) o l e, ne-eqb 0 (i + 1) (λ z. omega arith))
 
 -- what station j waits to write on page p, if it is another than i
 unfoldable pub writtenBy : List ℕ → ℕ → ℕ → ℕ → ℕ

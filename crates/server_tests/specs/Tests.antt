@@ -11,6 +11,8 @@ use Rattle.le.specs.Le.{u16At}
 use Rattle.cells.specs.Loops.{anyTo, maskTo}
 use Rattle.message.specs.Layout.{stationOf, pageOf, transactionOf, pagesOf}
 use Rattle.message.specs.Layout as Message
+use Rattle.message.specs.Commit.{recordAt, addressesAt}
+use Rattle.record.specs.Check.{writeCountFrom, readCountFrom}
 use Rattle.station_state.specs.Layout.{hasBit}
 use Rattle.server_state.specs.Layout.{arrivalOf, versionOf, sentVersion, latestOf, listedOf, lastOf, askedOf, lockOf, wholeOf, writtenSet, unfinishedOf, pendOf, busyOf, lockingB, waitsB, otherB, wantedOn}
 
@@ -32,11 +34,11 @@ badNumberB s i t =
 -- "a locking commit that writes an unlocked object": write k of the record
 unfoldable pub unlockedAt : List ℕ → ℕ → List ℕ → ℕ → Bool
 unlockedAt s i m k =
-    let a = getD m (256 + u16At m 240 + k) 0 in
+    let a = getD m (addressesAt + u16At m (recordAt + readCountFrom) + k) 0 in
     not (eqb (lockOf s a) (i + 1)) && not (eqb (wholeOf s (a / 8)) (i + 1))
 
 unfoldable pub unlockedB : List ℕ → ℕ → List ℕ → Bool
-unlockedB s i m = lockingB s i && anyTo (unlockedAt s i m) (u16At m 242)
+unlockedB s i m = lockingB s i && anyTo (unlockedAt s i m) (u16At m (recordAt + writeCountFrom))
 
 -- "7 dropping a page with a lock of its own"
 unfoldable pub dropsLockedB : List ℕ → ℕ → ℕ → ℕ → Bool

@@ -1,17 +1,39 @@
 // What the server asks of its state: number 6, the gates of the pass, the waits-for edges.
-// Where each field stands is in server_state's specs/Layout.antt and docs/STATE.md.
 ghost use mathlib.Core.Path.{_≡_};
 ghost use mathlib.Core.Bool.{cond};
 ghost use Prim.Native.Nat.{_+_, _/_, _^_, _≤_, _<_};
 ghost use lib.ListN.{length, getD};
 ghost use Rattle.le.specs.Le.{u16At};
-ghost use Rattle.message.specs.Layout.{kindOf, stationOf, pageOf};
-ghost use Rattle.message.specs.Commit.{entriesOf};
-ghost use Rattle.server_state.specs.Layout.{wantedOn};
+ghost use Rattle.message.specs.Layout.{messageLength, kindOf, stationOf, pageOf};
+ghost use Rattle.message.specs.Commit.{recordAt, addressesAt, entriesOf};
+ghost use Rattle.record.specs.Check.{readCountFrom};
+ghost use Rattle.server_state.specs.Layout.{serverLength, wantedOn};
+ghost use Rattle.server_tests.specs.Kinds.{ForServer};
 ghost use Rattle.server_tests.specs.Tests.{lockAtB, lockOnB, badNumberB, unlockedAt, unlockedB, dropsLockedB, dropsOwnB, unexpectedB, openCallB, openAskB, staleAt, staleB, lockedAtB, lockedOnB, lockedB, faultB, earlierB, blockedB, shutB, shutOutB, concernsAt, concernedB, concernedSet, hindersB, hinderedB, unavailableAt, unavailableB, informedB, edgeSet};
 ghost use Rattle.cells.specs.Loops.{anyTo};
 ghost use Rattle.server_tests.specs.Shorter.{writtenBy};
 ghost use Rattle.server_tests.specs.Blockers.{joinTo, meetOn, meetSet, aheadB, aheadSet, holderAt, holdersOn, holderSet, blockersB};
+use server_state::AGE_WIDTH;
+use server_state::ARRIVAL;
+use server_state::ASKED;
+use server_state::BUSY;
+use server_state::KIND;
+use server_state::LAST;
+use server_state::LATEST;
+use server_state::LISTED;
+use server_state::LOCK;
+use server_state::PEND;
+use server_state::READ_SET;
+use server_state::SENT_VERSION;
+use server_state::SET_ROW;
+use server_state::UNFINISHED;
+use server_state::VERSION;
+use server_state::VERSION_ROW;
+use server_state::WANT;
+use server_state::WHOLE;
+use server_state::WRITTEN_SET;
+use station_state::NUMBER_WIDTH;
+use station_state::PAGE_SET_WIDTH;
 
 // A byte as a number that compares with a station and finds a place.
 fn byte(s: &[u8], k: usize) -> usize
@@ -34,26 +56,26 @@ fn bit_if(yes: bool, k: usize) -> u8
 
 // The objects of page p that station i's waiting entry reads or writes.
 fn wanted(s: &[u8], i: usize, p: usize) -> u8
-    requires { ⌜ (length (now s) ≡ 37072) × (i < 8) × (p < 32) ⌝ }
+    requires { ⌜ (length (now s) ≡ serverLength) × (i < 8) × (p < 32) ⌝ }
     ensures { λ r. ⌜ r ≡ wantedOn (now (s .entry)) i p ⌝ }
 {
-    s[36504 + i * 32 + p] | s[36760 + i * 32 + p]
+    s[READ_SET + i * SET_ROW + p] | s[WRITTEN_SET + i * SET_ROW + p]
 }
 
 fn lock_at(s: &[u8], i: usize, p: usize, o: usize) -> bool
-    requires { ⌜ (length (now s) ≡ 37072) × (i < 8) × (p < 32) × (o < 8) ⌝ }
+    requires { ⌜ (length (now s) ≡ serverLength) × (i < 8) × (p < 32) × (o < 8) ⌝ }
     ensures { λ r. ⌜ r ≡ lockAtB (now (s .entry)) i p o ⌝ }
 {
-    byte(s, 36216 + (p * 8 + o)) == i + 1
+    byte(s, LOCK + (p * 8 + o)) == i + 1
 }
 
 // Whether station i has a lock on page p, whole or on an object. A page without locks on objects is seen at once.
 pub fn lock_on(s: &[u8], i: usize, p: usize) -> bool
-    requires { ⌜ (length (now s) ≡ 37072) × (i < 8) × (p < 32) ⌝ }
+    requires { ⌜ (length (now s) ≡ serverLength) × (i < 8) × (p < 32) ⌝ }
     ensures { λ r. ⌜ r ≡ lockOnB (now (s .entry)) i p ⌝ }
 {
-    let whole = byte(s, 36472 + p) == i + 1;
-    if le::get_u64(s, 36216 + p * 8) == 0 {
+    let whole = byte(s, WHOLE + p) == i + 1;
+    if le::get_u64(s, LOCK + p * 8) == 0 {
         return whole;
     }
     let mut r = false;
@@ -67,40 +89,43 @@ pub fn lock_on(s: &[u8], i: usize, p: usize) -> bool
 
 // Whether 1 to 4 of transaction t come out of turn.
 fn bad_number(s: &[u8], i: usize, t: u32) -> bool
-    requires { ⌜ (length (now s) ≡ 37072) × (i < 8) ⌝ }
+    requires { ⌜ (length (now s) ≡ serverLength) × (i < 8) ⌝ }
     ensures { λ r. ⌜ r ≡ badNumberB (now (s .entry)) i t ⌝ }
 {
-    let n = le::get_u32(s, 36144 + i * 4);
-    let over = s[37064 + i] == 0;
-    (t < n) | ((t == n) & over) | ((n < t) & !over & (s[37016 + i] == 0)) | (s[37024 + i] != 0)
+    let n = le::get_u32(s, LATEST + i * NUMBER_WIDTH);
+    let over = s[UNFINISHED + i] == 0;
+    (t < n) | ((t == n) & over) | ((n < t) & !over & (s[KIND + i] == 0)) | (s[WANT + i] != 0)
 }
 
 // Whether write k of the record is to an object that i has not locked.
 fn unlocked_at(s: &[u8], i: usize, m: &[u8], k: usize) -> bool
-    requires { ⌜ (length (now s) ≡ 37072) × (i < 8) × (256 + u16At (now m) 240 + k < length (now m)) ⌝ }
+    requires { ⌜ (length (now s) ≡ serverLength) × (i < 8) × (addressesAt + u16At (now m) (recordAt + readCountFrom) + k < length (now m)) ⌝ }
     ensures { λ r. ⌜ r ≡ unlockedAt (now (s .entry)) i (now (m .entry)) k ⌝ }
 {
-    let a = byte(m, 256 + le::index(le::get_u16(m, 240)) + k);
-    (byte(s, 36216 + a) != i + 1) & (byte(s, 36472 + a / 8) != i + 1)
+    let a = byte(
+        m,
+        message::ADDRESSES + le::index(le::get_u16(m, message::RECORD_READS)) + k,
+    );
+    (byte(s, LOCK + a) != i + 1) & (byte(s, WHOLE + a / 8) != i + 1)
 }
 
 // Whether i is locking and writes an object that it has not locked.
 fn unlocked(s: &[u8], i: usize, m: &[u8]) -> bool
-    requires { ⌜ (length (now s) ≡ 37072) × (i < 8) × (256 + entriesOf (now m) ≤ length (now m)) ⌝ }
+    requires { ⌜ (length (now s) ≡ serverLength) × (i < 8) × (addressesAt + entriesOf (now m) ≤ length (now m)) ⌝ }
     ensures { λ r. ⌜ r ≡ unlockedB (now (s .entry)) i (now (m .entry)) ⌝ }
 {
-    let n = le::index(le::get_u16(m, 242));
+    let n = le::index(le::get_u16(m, message::RECORD_WRITES));
     let mut r = false;
     let mut k: usize = 0;
     while k < n {
         r |= unlocked_at(s, i, m, k);
         k += 1;
     }
-    (s[37016 + i] == 0) & r
+    (s[KIND + i] == 0) & r
 }
 
 fn drops_locked(s: &[u8], i: usize, d: u32, p: usize) -> bool
-    requires { ⌜ (length (now s) ≡ 37072) × (i < 8) × (p < 32) ⌝ }
+    requires { ⌜ (length (now s) ≡ serverLength) × (i < 8) × (p < 32) ⌝ }
     ensures { λ r. ⌜ r ≡ dropsLockedB (now (s .entry)) i d p ⌝ }
 {
     if station_state::has_bit32(d, p) {
@@ -111,7 +136,7 @@ fn drops_locked(s: &[u8], i: usize, d: u32, p: usize) -> bool
 
 // Whether i has a lock on one of the pages d.
 fn drops_own(s: &[u8], i: usize, d: u32) -> bool
-    requires { ⌜ (length (now s) ≡ 37072) × (i < 8) ⌝ }
+    requires { ⌜ (length (now s) ≡ serverLength) × (i < 8) ⌝ }
     ensures { λ r. ⌜ r ≡ dropsOwnB (now (s .entry)) i d ⌝ }
 {
     let mut r = false;
@@ -125,55 +150,58 @@ fn drops_own(s: &[u8], i: usize, d: u32) -> bool
 
 // Number 6 of a message that numbers 2 to 5 let pass.
 pub fn unexpected(s: &[u8], m: &[u8]) -> bool
-    requires { ⌜ (length (now s) ≡ 37072) × (112 ≤ length (now m)) × (stationOf (now m) < 8) × (kindOf (now m) ≡ 3 → 256 + entriesOf (now m) ≤ length (now m)) × (kindOf (now m) ≡ 5 → pageOf (now m) < 32) ⌝ }
+    requires { ⌜ (length (now s) ≡ serverLength) × (messageLength ≤ length (now m)) × (stationOf (now m) < 8) × ForServer (now m) × (kindOf (now m) ≡ 3 → addressesAt + entriesOf (now m) ≤ length (now m)) × (kindOf (now m) ≡ 5 → pageOf (now m) < 32) ⌝ }
     ensures { λ r. ⌜ r ≡ unexpectedB (now (s .entry)) (now (m .entry)) ⌝ }
 {
-    let i = byte(m, 1);
-    let t = le::get_u32(m, 4);
-    let validates = s[37016 + i] != 0;
-    match m[0] {
+    let i = byte(m, message::STATION);
+    let t = le::get_u32(m, message::TRANSACTION);
+    let validates = s[KIND + i] != 0;
+    match m[message::KIND] {
         1 => bad_number(s, i, t),
         2 => bad_number(s, i, t) | validates,
         3 => bad_number(s, i, t) | unlocked(s, i, m),
         4 => bad_number(s, i, t) | validates,
-        5 => lock_on(s, i, byte(m, 2)),
-        7 => validates | drops_own(s, i, le::get_u32(m, 8)),
-        _ => validates,
+        5 => lock_on(s, i, byte(m, message::PAGE)),
+        6 => validates,
+        7 => validates | drops_own(s, i, le::get_u32(m, message::PAGES)),
+        8 => validates,
+        _ => true,
     }
 }
 
 // Whether i owes a 7 to transaction t of station r.
 pub fn open_call(s: &[u8], i: usize, r: usize, t: u32) -> bool
-    requires { ⌜ (length (now s) ≡ 37072) × (i < 8) × (r < 8) ⌝ }
+    requires { ⌜ (length (now s) ≡ serverLength) × (i < 8) × (r < 8) ⌝ }
     ensures { λ x. ⌜ x ≡ openCallB (now (s .entry)) i r t ⌝ }
 {
-    (s[37024 + r] != 0)
-        & (t == le::get_u32(s, 36144 + r * 4))
-        & station_state::has_bit8(s[37048 + r], i)
+    (s[WANT + r] != 0)
+        & (t == le::get_u32(s, LATEST + r * NUMBER_WIDTH))
+        & station_state::has_bit8(s[PEND + r], i)
 }
 
 // Whether i owes an 8 for page p and transaction t.
 pub fn open_ask(s: &[u8], i: usize, p: usize, t: u32) -> bool
-    requires { ⌜ (length (now s) ≡ 37072) × (i < 8) × (p < 32) ⌝ }
+    requires { ⌜ (length (now s) ≡ serverLength) × (i < 8) × (p < 32) ⌝ }
     ensures { λ r. ⌜ r ≡ openAskB (now (s .entry)) i p t ⌝ }
 {
-    (byte(s, 36472 + p) == i + 1)
-        & station_state::has_bit32(le::get_u32(s, 36212), p)
-        & (s[37064 + i] != 0)
-        & (t == le::get_u32(s, 36144 + i * 4))
+    (byte(s, WHOLE + p) == i + 1)
+        & station_state::has_bit32(le::get_u32(s, ASKED), p)
+        & (s[UNFINISHED + i] != 0)
+        & (t == le::get_u32(s, LATEST + i * NUMBER_WIDTH))
 }
 
 fn stale_at(s: &[u8], i: usize, p: usize) -> bool
-    requires { ⌜ (length (now s) ≡ 37072) × (i < 8) × (p < 32) ⌝ }
+    requires { ⌜ (length (now s) ≡ serverLength) × (i < 8) × (p < 32) ⌝ }
     ensures { λ r. ⌜ r ≡ staleAt (now (s .entry)) i p ⌝ }
 {
     (wanted(s, i, p) != 0)
-        & (le::get_u32(s, 35088 + i * 128 + p * 4) != le::get_u32(s, 34960 + p * 4))
+        & (le::get_u32(s, SENT_VERSION + i * VERSION_ROW + p * NUMBER_WIDTH)
+            != le::get_u32(s, VERSION + p * NUMBER_WIDTH))
 }
 
 // Whether i's commit used a page at another version.
 fn stale(s: &[u8], i: usize) -> bool
-    requires { ⌜ (length (now s) ≡ 37072) × (i < 8) ⌝ }
+    requires { ⌜ (length (now s) ≡ serverLength) × (i < 8) ⌝ }
     ensures { λ r. ⌜ r ≡ staleB (now (s .entry)) i ⌝ }
 {
     let mut r = false;
@@ -186,19 +214,19 @@ fn stale(s: &[u8], i: usize) -> bool
 }
 
 fn locked_at(s: &[u8], i: usize, p: usize, o: usize) -> bool
-    requires { ⌜ (length (now s) ≡ 37072) × (i < 8) × (p < 32) × (o < 8) ⌝ }
+    requires { ⌜ (length (now s) ≡ serverLength) × (i < 8) × (p < 32) × (o < 8) ⌝ }
     ensures { λ r. ⌜ r ≡ lockedAtB (now (s .entry)) i p o ⌝ }
 {
-    station_state::has_bit8(s[36760 + i * 32 + p], o)
-        & (server_state::other(s[36216 + (p * 8 + o)], i) | server_state::other(s[36472 + p], i))
+    station_state::has_bit8(s[WRITTEN_SET + i * SET_ROW + p], o)
+        & (server_state::other(s[LOCK + (p * 8 + o)], i) | server_state::other(s[WHOLE + p], i))
 }
 
 // Most pages are not written, and cost one test.
 fn locked_on(s: &[u8], i: usize, p: usize) -> bool
-    requires { ⌜ (length (now s) ≡ 37072) × (i < 8) × (p < 32) ⌝ }
+    requires { ⌜ (length (now s) ≡ serverLength) × (i < 8) × (p < 32) ⌝ }
     ensures { λ r. ⌜ r ≡ lockedOnB (now (s .entry)) i p ⌝ }
 {
-    if s[36760 + i * 32 + p] == 0 {
+    if s[WRITTEN_SET + i * SET_ROW + p] == 0 {
         return false;
     }
     let mut r = false;
@@ -212,7 +240,7 @@ fn locked_on(s: &[u8], i: usize, p: usize) -> bool
 
 // Whether i's commit writes what another has locked.
 fn locked(s: &[u8], i: usize) -> bool
-    requires { ⌜ (length (now s) ≡ 37072) × (i < 8) ⌝ }
+    requires { ⌜ (length (now s) ≡ serverLength) × (i < 8) ⌝ }
     ensures { λ r. ⌜ r ≡ lockedB (now (s .entry)) i ⌝ }
 {
     let mut r = false;
@@ -226,10 +254,10 @@ fn locked(s: &[u8], i: usize) -> bool
 
 // The cause that ends i's validating commit, 0 for none.
 pub fn fault(s: &[u8], i: usize) -> u8
-    requires { ⌜ (length (now s) ≡ 37072) × (i < 8) ⌝ }
+    requires { ⌜ (length (now s) ≡ serverLength) × (i < 8) ⌝ }
     ensures { λ r. ⌜ r ≡ faultB (now (s .entry)) i ⌝ }
 {
-    if le::get_u32(s, 36208) == 4294967295 {
+    if le::get_u32(s, LAST) == 4294967295 {
         return 4;
     }
     if stale(s, i) {
@@ -243,23 +271,26 @@ pub fn fault(s: &[u8], i: usize) -> u8
 
 // Whether j waits and arrived before i.
 fn earlier(s: &[u8], j: usize, i: usize) -> bool
-    requires { ⌜ (length (now s) ≡ 37072) × (j < 8) × (i < 8) ⌝ }
+    requires { ⌜ (length (now s) ≡ serverLength) × (j < 8) × (i < 8) ⌝ }
     ensures { λ r. ⌜ r ≡ earlierB (now (s .entry)) j i ⌝ }
 {
-    (s[37024 + j] != 0) & (le::get_u64(s, 34880 + j * 8) < le::get_u64(s, 34880 + i * 8))
+    (s[WANT + j] != 0)
+        & (le::get_u64(s, ARRIVAL + j * AGE_WIDTH) < le::get_u64(s, ARRIVAL + i * AGE_WIDTH))
 }
 
 // The objects of page p that i and j want and one of the two writes.
 fn meet_on(s: &[u8], i: usize, j: usize, p: usize) -> u8
-    requires { ⌜ (length (now s) ≡ 37072) × (i < 8) × (j < 8) × (p < 32) ⌝ }
+    requires { ⌜ (length (now s) ≡ serverLength) × (i < 8) × (j < 8) × (p < 32) ⌝ }
     ensures { λ r. ⌜ r ≡ meetOn (now (s .entry)) i j p ⌝ }
 {
-    wanted(s, i, p) & wanted(s, j, p) & (s[36760 + j * 32 + p] | s[36760 + i * 32 + p])
+    wanted(s, i, p)
+        & wanted(s, j, p)
+        & (s[WRITTEN_SET + j * SET_ROW + p] | s[WRITTEN_SET + i * SET_ROW + p])
 }
 
 // Those of all pages, laid over each other.
 fn meet(s: &[u8], i: usize, j: usize) -> u8
-    requires { ⌜ (length (now s) ≡ 37072) × (i < 8) × (j < 8) ⌝ }
+    requires { ⌜ (length (now s) ≡ serverLength) × (i < 8) × (j < 8) ⌝ }
     ensures { λ r. ⌜ r ≡ meetSet (now (s .entry)) i j ⌝ }
 {
     let mut r: u8 = 0;
@@ -273,7 +304,7 @@ fn meet(s: &[u8], i: usize, j: usize) -> u8
 
 // Whether j stands before i as an earlier waiter.
 fn ahead(s: &[u8], i: usize, j: usize) -> bool
-    requires { ⌜ (length (now s) ≡ 37072) × (i < 8) × (j < 8) ⌝ }
+    requires { ⌜ (length (now s) ≡ serverLength) × (i < 8) × (j < 8) ⌝ }
     ensures { λ r. ⌜ r ≡ aheadB (now (s .entry)) i j ⌝ }
 {
     if !earlier(s, j, i) {
@@ -283,7 +314,7 @@ fn ahead(s: &[u8], i: usize, j: usize) -> bool
 }
 
 fn ahead_set(s: &[u8], i: usize) -> u8
-    requires { ⌜ (length (now s) ≡ 37072) × (i < 8) ⌝ }
+    requires { ⌜ (length (now s) ≡ serverLength) × (i < 8) ⌝ }
     ensures { λ r. ⌜ r ≡ aheadSet (now (s .entry)) i ⌝ }
 {
     let mut d: u8 = 0;
@@ -297,20 +328,20 @@ fn ahead_set(s: &[u8], i: usize) -> u8
 
 // The bit of another station's lock on object o of page p, if i wants the object.
 fn holder_at(s: &[u8], i: usize, p: usize, o: usize) -> u8
-    requires { ⌜ (length (now s) ≡ 37072) × (i < 8) × (p < 32) × (o < 8) ⌝ }
+    requires { ⌜ (length (now s) ≡ serverLength) × (i < 8) × (p < 32) × (o < 8) ⌝ }
     ensures { λ r. ⌜ r ≡ holderAt (now (s .entry)) i p o ⌝ }
 {
-    let h = s[36216 + (p * 8 + o)];
+    let h = s[LOCK + (p * 8 + o)];
     let held = station_state::has_bit8(wanted(s, i, p), o) & server_state::other(h, i) & (h <= 8);
-    bit_if(held, (byte(s, 36216 + (p * 8 + o)) + 7) % 8)
+    bit_if(held, (byte(s, LOCK + (p * 8 + o)) + 7) % 8)
 }
 
 // Most pages are without locks or not wanted, and cost a test.
 fn holders_on(s: &[u8], i: usize, p: usize) -> u8
-    requires { ⌜ (length (now s) ≡ 37072) × (i < 8) × (p < 32) ⌝ }
+    requires { ⌜ (length (now s) ≡ serverLength) × (i < 8) × (p < 32) ⌝ }
     ensures { λ r. ⌜ r ≡ holdersOn (now (s .entry)) i p ⌝ }
 {
-    if le::get_u64(s, 36216 + p * 8) == 0 {
+    if le::get_u64(s, LOCK + p * 8) == 0 {
         return 0;
     }
     if wanted(s, i, p) == 0 {
@@ -326,7 +357,7 @@ fn holders_on(s: &[u8], i: usize, p: usize) -> u8
 }
 
 fn holder_set(s: &[u8], i: usize) -> u8
-    requires { ⌜ (length (now s) ≡ 37072) × (i < 8) ⌝ }
+    requires { ⌜ (length (now s) ≡ serverLength) × (i < 8) ⌝ }
     ensures { λ r. ⌜ r ≡ holderSet (now (s .entry)) i ⌝ }
 {
     let mut d: u8 = 0;
@@ -340,7 +371,7 @@ fn holder_set(s: &[u8], i: usize) -> u8
 
 // The stations that block i: by a lock, or as earlier waiters.
 fn blockers(s: &[u8], i: usize) -> u8
-    requires { ⌜ (length (now s) ≡ 37072) × (i < 8) ⌝ }
+    requires { ⌜ (length (now s) ≡ serverLength) × (i < 8) ⌝ }
     ensures { λ r. ⌜ r ≡ blockersB (now (s .entry)) i ⌝ }
 {
     holder_set(s, i) | ahead_set(s, i)
@@ -348,7 +379,7 @@ fn blockers(s: &[u8], i: usize) -> u8
 
 // Whether another's lock or an earlier waiter stands before i.
 pub fn blocked(s: &[u8], i: usize) -> bool
-    requires { ⌜ (length (now s) ≡ 37072) × (i < 8) ⌝ }
+    requires { ⌜ (length (now s) ≡ serverLength) × (i < 8) ⌝ }
     ensures { λ r. ⌜ r ≡ blockedB (now (s .entry)) i ⌝ }
 {
     blockers(s, i) != 0
@@ -356,15 +387,15 @@ pub fn blocked(s: &[u8], i: usize) -> bool
 
 // Whether i wants something of page p and another has it whole.
 pub fn shut(s: &[u8], i: usize, p: usize) -> bool
-    requires { ⌜ (length (now s) ≡ 37072) × (i < 8) × (p < 32) ⌝ }
+    requires { ⌜ (length (now s) ≡ serverLength) × (i < 8) × (p < 32) ⌝ }
     ensures { λ r. ⌜ r ≡ shutB (now (s .entry)) i p ⌝ }
 {
-    (wanted(s, i, p) != 0) & server_state::other(s[36472 + p], i)
+    (wanted(s, i, p) != 0) & server_state::other(s[WHOLE + p], i)
 }
 
 // Whether a page that i wants is another's whole.
 pub fn shut_out(s: &[u8], i: usize) -> bool
-    requires { ⌜ (length (now s) ≡ 37072) × (i < 8) ⌝ }
+    requires { ⌜ (length (now s) ≡ serverLength) × (i < 8) ⌝ }
     ensures { λ r. ⌜ r ≡ shutOutB (now (s .entry)) i ⌝ }
 {
     let mut r = false;
@@ -377,15 +408,16 @@ pub fn shut_out(s: &[u8], i: usize) -> bool
 }
 
 fn concerns_at(s: &[u8], i: usize, j: usize, p: usize) -> bool
-    requires { ⌜ (length (now s) ≡ 37072) × (i < 8) × (j < 8) × (p < 32) ⌝ }
+    requires { ⌜ (length (now s) ≡ serverLength) × (i < 8) × (j < 8) × (p < 32) ⌝ }
     ensures { λ r. ⌜ r ≡ concernsAt (now (s .entry)) i j p ⌝ }
 {
-    station_state::has_bit32(le::get_u32(s, 36176 + j * 4), p) & (s[36760 + i * 32 + p] != 0)
+    station_state::has_bit32(le::get_u32(s, LISTED + j * PAGE_SET_WIDTH), p)
+        & (s[WRITTEN_SET + i * SET_ROW + p] != 0)
 }
 
 // Whether j is another locking station, listed for a page that i is to write.
 fn concerns(s: &[u8], i: usize, j: usize) -> bool
-    requires { ⌜ (length (now s) ≡ 37072) × (i < 8) × (j < 8) ⌝ }
+    requires { ⌜ (length (now s) ≡ serverLength) × (i < 8) × (j < 8) ⌝ }
     ensures { λ r. ⌜ r ≡ anyTo (concernsAt (now (s .entry)) i j) 32 ⌝ }
 {
     let mut r = false;
@@ -398,10 +430,10 @@ fn concerns(s: &[u8], i: usize, j: usize) -> bool
 }
 
 fn concerned(s: &[u8], i: usize, j: usize) -> bool
-    requires { ⌜ (length (now s) ≡ 37072) × (i < 8) × (j < 8) ⌝ }
+    requires { ⌜ (length (now s) ≡ serverLength) × (i < 8) × (j < 8) ⌝ }
     ensures { λ r. ⌜ r ≡ concernedB (now (s .entry)) i j ⌝ }
 {
-    if (j != i) & (s[37016 + j] == 0) {
+    if (j != i) & (s[KIND + j] == 0) {
         return concerns(s, i, j);
     }
     false
@@ -409,7 +441,7 @@ fn concerned(s: &[u8], i: usize, j: usize) -> bool
 
 // The stations that i's 20s go to.
 pub fn concerned_set(s: &[u8], i: usize) -> u8
-    requires { ⌜ (length (now s) ≡ 37072) × (i < 8) ⌝ }
+    requires { ⌜ (length (now s) ≡ serverLength) × (i < 8) ⌝ }
     ensures { λ r. ⌜ r ≡ concernedSet (now (s .entry)) i ⌝ }
 {
     let mut d: u8 = 0;
@@ -422,16 +454,19 @@ pub fn concerned_set(s: &[u8], i: usize) -> u8
 }
 
 fn hinders(s: &[u8], i: usize, p: usize, j: usize) -> bool
-    requires { ⌜ (length (now s) ≡ 37072) × (i < 8) × (p < 32) × (j < 8) ⌝ }
+    requires { ⌜ (length (now s) ≡ serverLength) × (i < 8) × (p < 32) × (j < 8) ⌝ }
     ensures { λ r. ⌜ r ≡ hindersB (now (s .entry)) i p j ⌝ }
 {
-    let listed = station_state::has_bit32(le::get_u32(s, 36176 + j * 4), p);
-    (j != i) & (((s[37016 + j] == 0) & listed) | lock_on(s, j, p) | (s[36760 + j * 32 + p] != 0))
+    let listed = station_state::has_bit32(le::get_u32(s, LISTED + j * PAGE_SET_WIDTH), p);
+    (j != i)
+        & (((s[KIND + j] == 0) & listed)
+            | lock_on(s, j, p)
+            | (s[WRITTEN_SET + j * SET_ROW + p] != 0))
 }
 
 // Whether i cannot have page p whole.
 pub fn hindered(s: &[u8], i: usize, p: usize) -> bool
-    requires { ⌜ (length (now s) ≡ 37072) × (i < 8) × (p < 32) ⌝ }
+    requires { ⌜ (length (now s) ≡ serverLength) × (i < 8) × (p < 32) ⌝ }
     ensures { λ r. ⌜ r ≡ hinderedB (now (s .entry)) i p ⌝ }
 {
     let mut r = false;
@@ -444,18 +479,18 @@ pub fn hindered(s: &[u8], i: usize, p: usize) -> bool
 }
 
 fn written_by(s: &[u8], i: usize, p: usize, j: usize) -> u8
-    requires { ⌜ (length (now s) ≡ 37072) × (i < 8) × (p < 32) × (j < 8) ⌝ }
+    requires { ⌜ (length (now s) ≡ serverLength) × (i < 8) × (p < 32) × (j < 8) ⌝ }
     ensures { λ r. ⌜ r ≡ writtenBy (now (s .entry)) i p j ⌝ }
 {
     if j == i {
         return 0;
     }
-    s[36760 + j * 32 + p]
+    s[WRITTEN_SET + j * SET_ROW + p]
 }
 
 // The objects of page p that others than i wait to write.
 fn others_write(s: &[u8], i: usize, p: usize) -> u8
-    requires { ⌜ (length (now s) ≡ 37072) × (i < 8) × (p < 32) ⌝ }
+    requires { ⌜ (length (now s) ≡ serverLength) × (i < 8) × (p < 32) ⌝ }
     ensures { λ r. ⌜ r ≡ joinTo (writtenBy (now (s .entry)) i p) 8 ⌝ }
 {
     let mut w: u8 = 0;
@@ -469,16 +504,16 @@ fn others_write(s: &[u8], i: usize, p: usize) -> u8
 
 // w is what others wait to write there.
 fn unavailable_at(s: &[u8], i: usize, a: usize, w: u8, o: usize) -> bool
-    requires { ⌜ (length (now s) ≡ 37072) × (i < 8) × (a < 256) × (o < 8) × (w ≡ joinTo (writtenBy (now s) i (a / 8)) 8) ⌝ }
+    requires { ⌜ (length (now s) ≡ serverLength) × (i < 8) × (a < 256) × (o < 8) × (w ≡ joinTo (writtenBy (now s) i (a / 8)) 8) ⌝ }
     ensures { λ r. ⌜ r ≡ unavailableAt (now (s .entry)) i a o ⌝ }
 {
-    let other = server_state::other(s[36216 + (a / 8 * 8 + o)], i);
+    let other = server_state::other(s[LOCK + (a / 8 * 8 + o)], i);
     (o != a % 8) & (other | station_state::has_bit8(w, o))
 }
 
 // The unavailable set that goes to i with the page of a.
 pub fn unavailable(s: &[u8], i: usize, a: usize) -> u8
-    requires { ⌜ (length (now s) ≡ 37072) × (i < 8) × (a < 256) ⌝ }
+    requires { ⌜ (length (now s) ≡ serverLength) × (i < 8) × (a < 256) ⌝ }
     ensures { λ r. ⌜ r ≡ unavailableB (now (s .entry)) i a ⌝ }
 {
     let w = others_write(s, i, a / 8);
@@ -493,19 +528,19 @@ pub fn unavailable(s: &[u8], i: usize, a: usize) -> u8
 
 // Whether 23 goes to j when i has written the pages d.
 pub fn informed(s: &[u8], i: usize, d: u32, j: usize) -> bool
-    requires { ⌜ (length (now s) ≡ 37072) × (i < 8) × (j < 8) ⌝ }
+    requires { ⌜ (length (now s) ≡ serverLength) × (i < 8) × (j < 8) ⌝ }
     ensures { λ r. ⌜ r ≡ informedB (now (s .entry)) i d j ⌝ }
 {
-    (j != i) & (s[37016 + j] != 0) & (le::get_u32(s, 36176 + j * 4) & d != 0)
+    (j != i) & (s[KIND + j] != 0) & (le::get_u32(s, LISTED + j * PAGE_SET_WIDTH) & d != 0)
 }
 
 // The stations that i waits for. A station that does not wait costs one test.
 pub fn edge_set(s: &[u8], i: usize) -> u8
-    requires { ⌜ (length (now s) ≡ 37072) × (i < 8) ⌝ }
+    requires { ⌜ (length (now s) ≡ serverLength) × (i < 8) ⌝ }
     ensures { λ r. ⌜ r ≡ edgeSet (now (s .entry)) i ⌝ }
 {
-    if s[37024 + i] == 0 {
+    if s[WANT + i] == 0 {
         return 0;
     }
-    s[37056 + i] | blockers(s, i)
+    s[BUSY + i] | blockers(s, i)
 }

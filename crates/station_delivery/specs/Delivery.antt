@@ -1,12 +1,12 @@
 -- "Station steps", on each kind of message. Each definition carries out the one of crate line that has its name; m are the message's bytes.
-use Prim.Native.Nat.{ℕ, _+_, _*_, _/_, _%_, _<_}
+use Prim.Native.Nat.{ℕ, _+_, _*_, _/_, _%_, _≤_, _<_}
 use mathlib.Core.Path.{_≡_}
 use mathlib.Core.Logic.{_≢_}
 use mathlib.Core.List.{List, [], _∷_}
 use mathlib.Core.Bool.{Bool, true, false, not, _&&_, _||_, cond}
 use lib.Dec.{eqb, ltb}
-use Rattle.message.specs.Layout.{kindOf, pageOf, requesterOf, objectOf, causeOf, transactionOf, pagesOf, versionOf, upMessage}
-use Rattle.station_state.specs.Layout.{copyOf, waitingValue, number, whole, writtenSet, station, wait, address, locksFrom, hasBit}
+use Rattle.message.specs.Layout.{setsFrom, kindOf, pageOf, requesterOf, objectOf, causeOf, transactionOf, pagesOf, versionOf, upMessage}
+use Rattle.station_state.specs.Layout.{wholeFrom, copyOf, waitingValue, number, whole, writtenSet, station, wait, address, locksFrom, hasBit}
 use Rattle.station_state.specs.Changes.{addTo, pageOn, recordReadB, writeLocalB, idleB, loosenB, keepB}
 use Rattle.station_pages.specs.Pages.{inUseB, touchedB, dropPagesB, arriveB, versionsB}
 use Rattle.station_callbacks.specs.Callbacks.{sends, setsAt, doCallbackB, closeB, undoB}
@@ -15,9 +15,13 @@ use Rattle.station_answer.specs.declared.Answer.the-variants.{Value, Written, C
 use Rattle.station_answer.specs.Did.{Did, does, doesAll}
 use Rattle.station_answer.specs.Ask.{lockingB, openB}
 
--- what numbers 3 and 4 have seen to: 20 names a requester; 16 to 19 name a page, 16 to 18 an object (21 to 23 have zeros there)
+-- "16 to 23 to stations": what number 3 has seen to
+abbrev pub ForStations : List ℕ → Type 0
+ForStations m = (16 ≤ kindOf m) × (kindOf m < 24)
+
+-- .. and number 4: 20 names a requester; 16 to 19 name a page, 16 to 18 an object (21 to 23 have zeros there)
 abbrev pub Named : List ℕ → Type 0
-Named m = (kindOf m ≢ 20 → pageOf m < 32) × (kindOf m ≡ 20 → requesterOf m < 8) × (kindOf m < 19 → objectOf m < 8) × (kindOf m < 24)
+Named m = (kindOf m ≢ 20 → pageOf m < 32) × (kindOf m ≡ 20 → requesterOf m < 8) × (kindOf m < 19 → objectOf m < 8) × ForStations m
 
 -- the address that a page message names
 abbrev pub addressOf : List ℕ → ℕ
@@ -67,7 +71,7 @@ fitsB m s =
 -- "17 the same with a lock on the object; 18 with a lock on the whole page"
 unfoldable pub takeLockB : List ℕ → List ℕ → List ℕ
 takeLockB m s =
-    cond (eqb (kindOf m) 17) (addTo s locksFrom (addressOf m)) (cond (eqb (kindOf m) 18) (pageOn s 6320 (pageOf m)) s)
+    cond (eqb (kindOf m) 17) (addTo s locksFrom (addressOf m)) (cond (eqb (kindOf m) 18) (pageOn s wholeFrom (pageOf m)) s)
 
 -- the lock is taken, the page arrives, nothing is out any more
 unfoldable pub arrivedB : List ℕ → List ℕ → List ℕ
@@ -100,9 +104,9 @@ unfoldable pub onCallbackB : List ℕ → List ℕ → Did
 onCallbackB m s =
     let r = requesterOf m in
     let t = transactionOf m in
-    cond (inUseB (setsAt m 16) s)
-    (does Nothing (keepB r t (setsAt m 16) s) (upMessage 6 (station s) r 0 t 0 0 ∷ []))
-    (doesAll Nothing (doCallbackB (station s) r t (setsAt m 16) (sends s [])))
+    cond (inUseB (setsAt m setsFrom) s)
+    (does Nothing (keepB r t (setsAt m setsFrom) s) (upMessage 6 (station s) r 0 t 0 0 ∷ []))
+    (doesAll Nothing (doCallbackB (station s) r t (setsAt m setsFrom) (sends s [])))
 
 -- "On 21 written pages take the commit number as version."
 unfoldable pub onCommittedB : List ℕ → List ℕ → Did

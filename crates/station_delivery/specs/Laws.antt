@@ -1,5 +1,5 @@
 -- What stands in the lent bytes after the calls that take a message, in their order, is what the definition hands out.
-use Prim.Native.Nat.{ℕ, _+_, _<_}
+use Prim.Native.Nat.{ℕ, _+_, _≤_, _<_}
 use mathlib.Core.Path.{_≡_, refl, _∙_}
 use mathlib.Core.Logic.{_≢_}
 use mathlib.Core.Bool.{Bool, true, false, not, _&&_}
@@ -8,7 +8,7 @@ use native.Mathlib.Omega.{arith}
 use lib.Seq.{sets}
 use lib.Dec.{eqb}
 use borrow.Author.Tests.{eq-eqb, ne-eqb}
-use Rattle.message.specs.Layout.{pageOf, requesterOf, causeOf, transactionOf, pagesOf, versionOf, upMessage}
+use Rattle.message.specs.Layout.{setsFrom, pageOf, requesterOf, causeOf, transactionOf, pagesOf, versionOf, upMessage}
 use Rattle.station_state.specs.Layout.{copyOf, waitingValue, station, wait, address}
 use Rattle.station_state.specs.Changes.{recordReadB, writeLocalB, keepB}
 use Rattle.station_pages.specs.Pages.{inUseB, touchedB, dropPagesB, versionsB}
@@ -24,9 +24,11 @@ use Rattle.station_delivery.specs.Delivery.{endedB, arrivedB, answerWait
 below : (k n : ℕ) → k < n + 1 → k ≢ n → k < n
 below k n h e = omega (arith, e)
 
--- the kinds of the last arm
-pub page-kind : (k : ℕ) → k < 24 → k ≢ 19 → k ≢ 20 → k ≢ 21 → k ≢ 22 → k ≢ 23 → k < 19
-page-kind k h a b c d e = below k 19 (below k 20 (below k 21 (below k 22 (below k 23 h e) d) c) b) a
+-- each kind has an arm: behind these there is none
+pub no-other : (k : ℕ) → (16 ≤ k) × (k < 24) → k ≢ 16 → k ≢ 17 → k ≢ 18 → k ≢ 19 → k ≢ 20 → k ≢ 21 → k ≢ 22 → k ≢ 23 → ⊥
+no-other k h a b c d e f g i =
+    let l : k < 16 = below k 16 (below k 17 (below k 18 (below k 19 (below k 20 (below k 21 (below k 22 (below k 23 (h .1) i) g) f) e) d) c) b) a in
+    omega arith
 
 -- the messages of a callback done; those of a transaction's end
 done-sent : (i r t : ℕ) (x s o : List ℕ) (a : Answer) (s₁ p : List ℕ) (k : ℕ) {y : Said}
@@ -66,14 +68,14 @@ module _ (m s o : List ℕ) {t : ℕ} {b : Bool} where
   unfolding onPageB
   page-taken et eb h ev es e = rw (← et, ← eb, h, ← ev, ← es) e
 
-  pub callback-busy : {s₁ p : List ℕ} {y : Said} → t ≡ transactionOf m → b ≡ inUseB (setsAt m 16) s → b ≡ true
-      → p ≡ sets o 0 (upMessage 6 (station s) (requesterOf m) 0 t 0 0) → s₁ ≡ keepB (requesterOf m) t (setsAt m 16) s → y ≡ said Nothing 1 0
+  pub callback-busy : {s₁ p : List ℕ} {y : Said} → t ≡ transactionOf m → b ≡ inUseB (setsAt m setsFrom) s → b ≡ true
+      → p ≡ sets o 0 (upMessage 6 (station s) (requesterOf m) 0 t 0 0) → s₁ ≡ keepB (requesterOf m) t (setsAt m setsFrom) s → y ≡ said Nothing 1 0
       → delivered s₁ p y ≡ handed o (onCallbackB m s)
   unfolding onCallbackB
   callback-busy et eb h ep es ey = rw (← et, ← eb, h, ← es) (hand-one o _ _ _ refl ep ey)
 
-  pub callback-done : (s₁ p : List ℕ) (k : ℕ) {y : Said} → t ≡ transactionOf m → b ≡ inUseB (setsAt m 16) s → b ≡ false
-      → posted s₁ p k ≡ callbackPosted (station s) (requesterOf m) t (setsAt m 16) s o 0 → y ≡ said Nothing k 0
+  pub callback-done : (s₁ p : List ℕ) (k : ℕ) {y : Said} → t ≡ transactionOf m → b ≡ inUseB (setsAt m setsFrom) s → b ≡ false
+      → posted s₁ p k ≡ callbackPosted (station s) (requesterOf m) t (setsAt m setsFrom) s o 0 → y ≡ said Nothing k 0
       → delivered s₁ p y ≡ handed o (onCallbackB m s)
   unfolding onCallbackB
   callback-done s₁ p k et eb h e ey = rw (← et, ← eb, h) (done-sent (station s) (requesterOf m) _ _ s o _ s₁ p k e ey)

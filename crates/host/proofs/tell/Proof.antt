@@ -1,5 +1,7 @@
 -- `host::tell` meets its contract.
 use Rattle.host.specs.Host.{toldSaid}
+use mathlib.Core.List.{[], _∷_}
+use types.Run.{miss}
 use borrow.Author.Needs.{needs}
 use Rattle.host.proofs.tell.Statement.{statement}
 use Rattle.host.proofs.tell.Tie as tie
@@ -8,7 +10,7 @@ enum-known-answer : tie.Need-enum-known-answer
 enum-known-answer c = search needs
 
 tell-other-requires : tie.Need-tell-other-requires
-tell-other-requires c κs = search needs
+tell-other-requires c κs = (search needs, λ v e. miss (0 ∷ 1 ∷ 3 ∷ 4 ∷ 5 ∷ 6 ∷ 7 ∷ 8 ∷ []) 2 tt (rw e at (c .before .match .keys2)))
 
 same-length : tie.Need-same-length
 same-length c = search needs

@@ -27,23 +27,23 @@ part-part-start c = search needs
 part-part-end : tie.Need-part-part-end Inv-loop μ-loop
 part-part-end c = search needs
 
-play-record-requires : tie.Need-play-record-requires Inv-loop μ-loop
-play-record-requires c κs = search needs
+play-in-place-requires : tie.Need-play-in-place-requires Inv-loop μ-loop
+play-in-place-requires c κs = search needs
 
 returns : tie.Need-returns Inv-loop μ-loop
-returns c = sym (c .before .before .before .before .before .before .loop .inv .1 ∙ refused-part (c .before .before .before .before .before .before .before .before .args .archive .now) (c .before .before .before .before .before .before .loop .at) (c .before .before .before .before .before .before .loop .last) (c .before .before .before .before .before .before .loop .values) (c .before .play-record .last .1 .1 .0) (c .before .play-record .last .1 .0) (c .before .play-record .result) (c .before .before .before .before .before .loop-test .taken) (c .if1 .taken) (c .before .play-record .ensures))
+returns c = sym (c .before .before .before .before .before .before .loop .inv .1 ∙ refused-part (c .before .before .before .before .before .before .before .before .args .archive .now) (c .before .before .before .before .before .before .loop .at) (c .before .before .before .before .before .before .loop .last) (c .before .before .before .before .before .before .loop .values) (c .before .play-in-place .last .1 .1 .0) (c .before .play-in-place .last .1 .0) (c .before .play-in-place .result) (c .before .before .before .before .before .loop-test .taken) (c .if1 .taken) (c .before .play-in-place .ensures))
 
 claimed-length-requires : tie.Need-claimed-length-requires Inv-loop μ-loop
 claimed-length-requires c κs = search needs
 
 add-at : tie.Need-add-at Inv-loop μ-loop
-add-at c = let r = accepted-part (c .before .before .before .before .before .before .before .before .before .args .archive .now) (c .before .before .before .before .before .before .before .loop .at) (c .before .before .before .before .before .before .before .loop .last) (c .before .before .before .before .before .before .before .loop .values) (c .before .before .play-record .last .1 .1 .0) (c .before .before .play-record .last .1 .0) (c .before .before .play-record .result) (c .claimed-length .result) (c .before .before .before .before .before .before .loop-test .taken) (c .before .if1 .left) (c .before .before .play-record .ensures) (c .claimed-length .ensures) in omega (arith, r)
+add-at c = let r = accepted-part (c .before .before .before .before .before .before .before .before .before .args .archive .now) (c .before .before .before .before .before .before .before .loop .at) (c .before .before .before .before .before .before .before .loop .last) (c .before .before .before .before .before .before .before .loop .values) (c .before .before .play-in-place .last .1 .1 .0) (c .before .before .play-in-place .last .1 .0) (c .before .before .play-in-place .result) (c .claimed-length .result) (c .before .before .before .before .before .before .loop-test .taken) (c .before .if1 .left) (c .before .before .play-in-place .ensures) (c .claimed-length .ensures) in omega (arith, r)
 
 loop-less : tie.Need-loop-less Inv-loop μ-loop
-loop-less c = let r = accepted-part (c .before .before .before .before .before .before .before .before .before .args .archive .now) (c .before .before .before .before .before .before .before .loop .at) (c .before .before .before .before .before .before .before .loop .last) (c .before .before .before .before .before .before .before .loop .values) (c .before .before .play-record .last .1 .1 .0) (c .before .before .play-record .last .1 .0) (c .before .before .play-record .result) (c .claimed-length .result) (c .before .before .before .before .before .before .loop-test .taken) (c .before .if1 .left) (c .before .before .play-record .ensures) (c .claimed-length .ensures) in omega (arith, r)
+loop-less c = let r = accepted-part (c .before .before .before .before .before .before .before .before .before .args .archive .now) (c .before .before .before .before .before .before .before .loop .at) (c .before .before .before .before .before .before .before .loop .last) (c .before .before .before .before .before .before .before .loop .values) (c .before .before .play-in-place .last .1 .1 .0) (c .before .before .play-in-place .last .1 .0) (c .before .before .play-in-place .result) (c .claimed-length .result) (c .before .before .before .before .before .before .loop-test .taken) (c .before .if1 .left) (c .before .before .play-in-place .ensures) (c .claimed-length .ensures) in omega (arith, r)
 
 loop-again : tie.Need-loop-again Inv-loop μ-loop
-loop-again c = let r = accepted-part (c .before .before .before .before .before .before .before .before .before .args .archive .now) (c .before .before .before .before .before .before .before .loop .at) (c .before .before .before .before .before .before .before .loop .last) (c .before .before .before .before .before .before .before .loop .values) (c .before .before .play-record .last .1 .1 .0) (c .before .before .play-record .last .1 .0) (c .before .before .play-record .result) (c .claimed-length .result) (c .before .before .before .before .before .before .loop-test .taken) (c .before .if1 .left) (c .before .before .play-record .ensures) (c .claimed-length .ensures) in (r .within, c .before .before .before .before .before .before .before .loop .inv .1 ∙ r .rest)
+loop-again c = let r = accepted-part (c .before .before .before .before .before .before .before .before .before .args .archive .now) (c .before .before .before .before .before .before .before .loop .at) (c .before .before .before .before .before .before .before .loop .last) (c .before .before .before .before .before .before .before .loop .values) (c .before .before .play-in-place .last .1 .1 .0) (c .before .before .play-in-place .last .1 .0) (c .before .before .play-in-place .result) (c .claimed-length .result) (c .before .before .before .before .before .before .loop-test .taken) (c .before .if1 .left) (c .before .before .play-in-place .ensures) (c .claimed-length .ensures) in (r .within, c .before .before .before .before .before .before .before .loop .inv .1 ∙ r .rest)
 
 returns-2 : tie.Need-returns-2 Inv-loop μ-loop
 returns-2 c = sym (c .before .loop .inv .1 ∙ turn-end (c .before .before .before .args .archive .now) (c .before .loop .at) (c .before .loop .last) (c .before .loop .values) (omega arith))
@@ -58,7 +58,7 @@ wax-archive-replay-spec =
     sub-part
     part-part-start
     part-part-end
-    play-record-requires
+    play-in-place-requires
     returns
     claimed-length-requires
     add-at

@@ -1,7 +1,6 @@
 -- `server_tests::unexpected` meets its contract.
 use Rattle.server_tests.specs.Tests.{unexpectedB}
-use Rattle.message.specs.Layout.{kindOf}
-use borrow.Author.Tests.{ne-eqb}
+use Rattle.server_tests.specs.Kinds.{no-other}
 use native.Mathlib.Omega.{arith}
 use borrow.Author.Needs.{needs}
 use Rattle.server_tests.proofs.unexpected.Statement.{statement}
@@ -32,7 +31,7 @@ bad-number-requires-3 : tie.Need-bad-number-requires-3
 bad-number-requires-3 c κs = search needs
 
 unlocked-requires : tie.Need-unlocked-requires
-unlocked-requires c κs = (search needs, search needs, c .before .before .before .before .before .before .before .before .pre .3 (c .before .match .keys3))
+unlocked-requires c κs = (search needs, search needs, c .before .before .before .before .before .before .before .before .pre .4 (c .before .match .keys3))
 
 bad-number-requires-4 : tie.Need-bad-number-requires-4
 bad-number-requires-4 c κs = search needs
@@ -41,7 +40,7 @@ byte-requires-2 : tie.Need-byte-requires-2
 byte-requires-2 c κs = search needs
 
 lock-on-requires : tie.Need-lock-on-requires
-lock-on-requires c κs = (search needs, search needs, omega (arith, c .before .before .before .before .before .before .before .before .pre .4 (c .before .match .keys5), c .byte2 .ensures .0))
+lock-on-requires c κs = (search needs, search needs, omega (arith, c .before .before .before .before .before .before .before .before .pre .5 (c .before .match .keys5), c .byte2 .ensures .0))
 
 get-u32-requires-2 : tie.Need-get-u32-requires-2
 get-u32-requires-2 c κs = search needs
@@ -71,11 +70,18 @@ returns-5 c = rw (c .before .before .match .keys5) (cc)
 
 returns-6 : tie.Need-returns-6
 unfolding unexpectedB
-returns-6 c = rw (c .before .before .match .keys6) (cc)
+returns-6 c = rw (c .match .keys6) (cc)
 
 returns-7 : tie.Need-returns-7
 unfolding unexpectedB
-returns-7 c = let k = kindOf (c .before .before .before .before .before .before .before .args .m .now) in let r = c .match .rest in simp (ne-eqb k 1 (r .0 .0 .0 .0 .0 .1), ne-eqb k 2 (r .0 .0 .0 .0 .1), ne-eqb k 3 (r .0 .0 .0 .1), ne-eqb k 4 (r .0 .0 .1), ne-eqb k 5 (r .0 .1), ne-eqb k 7 (r .1)) (cc)
+returns-7 c = rw (c .before .before .match .keys7) (cc)
+
+returns-8 : tie.Need-returns-8
+unfolding unexpectedB
+returns-8 c = rw (c .match .keys8) (cc)
+
+returns-9 : tie.Need-returns-9
+returns-9 c = let r = c .match .rest in absurd (no-other _ (c .before .before .before .before .before .before .before .pre .3) (r .0 .0 .0 .0 .0 .0 .0 .1) (r .0 .0 .0 .0 .0 .0 .1) (r .0 .0 .0 .0 .0 .1) (r .0 .0 .0 .0 .1) (r .0 .0 .0 .1) (r .0 .0 .1) (r .0 .1) (r .1))
 
 pub unexpected-spec : {M : Type 1} → statement M
 unexpected-spec =
@@ -101,4 +107,6 @@ unexpected-spec =
     returns-4
     returns-5
     returns-6
-    returns-7)
+    returns-7
+    returns-8
+    returns-9)

@@ -1,9 +1,11 @@
 -- `server_tests::unlocked` meets its contract. The loop's invariant: the answer is the definition's at the count of writes passed.
-use Prim.Native.Nat.{_≤_, _-_}
+use Prim.Native.Nat.{_≤_, _+_, _-_}
 use mathlib.Core.Path.{_≡_}
 use native.Mathlib.Numerals.{add-one}
 use native.Mathlib.Omega.{arith}
 use borrow.Author.Needs.{needs}
+use Rattle.message.specs.Commit.{recordAt}
+use Rattle.record.specs.Check.{writeCountFrom}
 use Rattle.server_tests.specs.Tests.{unlockedAt, unlockedB}
 use Rattle.cells.specs.Loops.{anyTo}
 use Rattle.le.specs.Le.{u16At}
@@ -11,10 +13,10 @@ use Rattle.server_tests.proofs.unlocked.Statement.{statement}
 use Rattle.server_tests.proofs.unlocked.Tie as tie
 
 abbrev Inv-loop : tie.InvT-loop
-Inv-loop s i m n r₀ k₀ r k = (k ≤ u16At m 242) × (r ≡ anyTo (unlockedAt s i m) k)
+Inv-loop s i m n r₀ k₀ r k = (k ≤ u16At m (recordAt + writeCountFrom)) × (r ≡ anyTo (unlockedAt s i m) k)
 
 abbrev μ-loop : tie.MeasureT-loop
-μ-loop s i m n r₀ k₀ r k = u16At m 242 - k
+μ-loop s i m n r₀ k₀ r k = u16At m (recordAt + writeCountFrom) - k
 
 get-u16-requires : tie.Need-get-u16-requires Inv-loop μ-loop
 get-u16-requires c κs = search needs
@@ -47,7 +49,7 @@ shared-slice-read-result c = search needs
 
 returns : tie.Need-returns Inv-loop μ-loop
 unfolding unlockedB
-returns c = let e : c .before .before .loop .k ≡ u16At (c .before .before .before .before .before .before .before .args .m .now) 242 = omega arith in cc
+returns c = let e : c .before .before .loop .k ≡ u16At (c .before .before .before .before .before .before .before .args .m .now) (recordAt + writeCountFrom) = omega arith in cc
 
 pub unlocked-spec : {M : Type 1} → statement M
 unlocked-spec =

@@ -1,7 +1,6 @@
 -- `station_delivery::fits` meets its contract.
 use Rattle.station_delivery.specs.Delivery.{fitsB}
-use Rattle.message.specs.Layout.{kindOf}
-use borrow.Author.Tests.{ne-eqb}
+use Rattle.station_delivery.specs.Laws.{no-other}
 use borrow.Author.Needs.{needs}
 use Rattle.station_delivery.proofs.fits.Statement.{statement}
 use Rattle.station_delivery.proofs.fits.Tie as tie
@@ -63,7 +62,10 @@ returns-7 c = rw (c .before .match .keys7) (c .fits-aborted .ensures)
 
 returns-8 : tie.Need-returns-8
 unfolding fitsB
-returns-8 c = let k = kindOf (c .before .before .before .before .before .args .m .now) in let r = c .before .match .rest in simp (ne-eqb k 16 (r .0 .0 .0 .0 .0 .0 .1), ne-eqb k 17 (r .0 .0 .0 .0 .0 .1), ne-eqb k 18 (r .0 .0 .0 .0 .1), ne-eqb k 19 (r .0 .0 .0 .1), ne-eqb k 20 (r .0 .0 .1), ne-eqb k 21 (r .0 .1), ne-eqb k 22 (r .1))
+returns-8 c = rw (c .before .match .keys8)
+
+returns-9 : tie.Need-returns-9
+returns-9 c = let r = c .match .rest in absurd (no-other _ (c .before .before .before .before .pre .2) (r .0 .0 .0 .0 .0 .0 .0 .1) (r .0 .0 .0 .0 .0 .0 .1) (r .0 .0 .0 .0 .0 .1) (r .0 .0 .0 .0 .1) (r .0 .0 .0 .1) (r .0 .0 .1) (r .0 .1) (r .1))
 
 pub fits-spec : {M : Type 1} → statement M
 fits-spec =
@@ -85,4 +87,5 @@ fits-spec =
     returns-5
     returns-6
     returns-7
-    returns-8)
+    returns-8
+    returns-9)

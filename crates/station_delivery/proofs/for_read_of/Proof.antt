@@ -4,6 +4,7 @@ use native.Mathlib.Omega.{arith}
 use borrow.Author.Needs.{needs}
 use Rattle.station_delivery.proofs.for_read_of.Statement.{statement}
 use Rattle.station_delivery.proofs.for_read_of.Tie as tie
+use Rattle.station_state.specs.Layout.{addressFrom}
 
 shared-slice-read-result : tie.Need-shared-slice-read-result
 shared-slice-read-result c = search needs
@@ -12,7 +13,7 @@ shared-slice-read-result-2 : tie.Need-shared-slice-read-result-2
 shared-slice-read-result-2 c = search needs
 
 cast-result : tie.Need-cast-result
-cast-result c = omega (arith, c .shared-slice-known2 .given 6712)
+cast-result c = omega (arith, c .shared-slice-known2 .given addressFrom)
 
 returns : tie.Need-returns
 unfolding forReadOf

@@ -1,8 +1,6 @@
 -- `station_delivery::on_down` meets its contract.
 use Rattle.station_delivery.specs.Delivery.{onDownB}
-use Rattle.station_delivery.specs.Laws.{page-kind}
-use Rattle.message.specs.Layout.{kindOf}
-use borrow.Author.Tests.{ne-eqb}
+use Rattle.station_delivery.specs.Laws.{no-other}
 use native.Mathlib.Omega.{arith}
 use borrow.Author.Needs.{needs}
 use Rattle.station_delivery.proofs.on_down.Statement.{statement}
@@ -11,11 +9,20 @@ use Rattle.station_delivery.proofs.on_down.Tie as tie
 shared-slice-read-match : tie.Need-shared-slice-read-match
 shared-slice-read-match c = search needs
 
+on-page-requires : tie.Need-on-page-requires
+on-page-requires c κs = (search needs, search needs, c .before .before .before .before .before .before .before .pre .4 .0 (λ e. omega (arith, c .before .before .match .keys1)), c .before .before .before .before .before .before .before .pre .4 .2 (omega (arith, c .before .before .match .keys1)))
+
+on-page-requires-2 : tie.Need-on-page-requires-2
+on-page-requires-2 c κs = (search needs, search needs, c .before .before .before .before .before .before .before .pre .4 .0 (λ e. omega (arith, c .before .before .match .keys2)), c .before .before .before .before .before .before .before .pre .4 .2 (omega (arith, c .before .before .match .keys2)))
+
+on-page-requires-3 : tie.Need-on-page-requires-3
+on-page-requires-3 c κs = (search needs, search needs, c .before .before .before .before .before .before .before .pre .4 .0 (λ e. omega (arith, c .before .before .match .keys3)), c .before .before .before .before .before .before .before .pre .4 .2 (omega (arith, c .before .before .match .keys3)))
+
 on-deescalate-requires : tie.Need-on-deescalate-requires
-on-deescalate-requires c κs = (search needs, search needs, search needs, c .before .before .before .before .before .before .before .pre .4 .0 (λ e. omega (arith, c .before .before .match .keys1)))
+on-deescalate-requires c κs = (search needs, search needs, search needs, c .before .before .before .before .before .before .before .pre .4 .0 (λ e. omega (arith, c .before .before .match .keys4)))
 
 on-callback-requires : tie.Need-on-callback-requires
-on-callback-requires c κs = (search needs, search needs, search needs, c .before .before .before .before .before .before .before .pre .4 .1 (c .before .before .match .keys2))
+on-callback-requires c κs = (search needs, search needs, search needs, c .before .before .before .before .before .before .before .pre .4 .1 (c .before .before .match .keys5))
 
 on-committed-requires : tie.Need-on-committed-requires
 on-committed-requires c κs = search needs
@@ -26,8 +33,8 @@ on-aborted-requires c κs = search needs
 on-invalidate-requires : tie.Need-on-invalidate-requires
 on-invalidate-requires c κs = search needs
 
-on-page-requires : tie.Need-on-page-requires
-on-page-requires c κs = let r = c .before .before .match .rest in (search needs, search needs, c .before .before .before .before .before .before .before .pre .4 .0 (r .0 .0 .0 .1), c .before .before .before .before .before .before .before .pre .4 .2 (page-kind _ (c .before .before .before .before .before .before .before .pre .4 .3) (r .0 .0 .0 .0 .1) (r .0 .0 .0 .1) (r .0 .0 .1) (r .0 .1) (r .1)))
+say-requires : tie.Need-say-requires
+say-requires c κs = search needs
 
 same-length : tie.Need-same-length
 same-length c = search needs
@@ -37,7 +44,7 @@ same-length-2 c = search needs
 
 returns : tie.Need-returns
 unfolding onDownB
-returns c = rw (c .before .before .before .before .before .before .before .match .keys1) (c .before .before .before .before .on-deescalate .ensures)
+returns c = rw (c .before .before .before .before .before .before .before .match .keys1) (c .before .before .before .before .on-page .ensures)
 
 same-length-3 : tie.Need-same-length-3
 same-length-3 c = search needs
@@ -47,7 +54,7 @@ same-length-4 c = search needs
 
 returns-2 : tie.Need-returns-2
 unfolding onDownB
-returns-2 c = rw (c .before .before .before .before .before .before .before .match .keys2) (c .before .before .before .before .on-callback .ensures)
+returns-2 c = rw (c .before .before .before .before .before .before .before .match .keys2) (c .before .before .before .before .on-page2 .ensures)
 
 same-length-5 : tie.Need-same-length-5
 same-length-5 c = search needs
@@ -57,7 +64,7 @@ same-length-6 c = search needs
 
 returns-3 : tie.Need-returns-3
 unfolding onDownB
-returns-3 c = rw (c .before .before .before .before .before .before .before .match .keys3) (c .before .before .before .before .on-committed .ensures)
+returns-3 c = rw (c .before .before .before .before .before .before .before .match .keys3) (c .before .before .before .before .on-page3 .ensures)
 
 same-length-7 : tie.Need-same-length-7
 same-length-7 c = search needs
@@ -67,7 +74,7 @@ same-length-8 c = search needs
 
 returns-4 : tie.Need-returns-4
 unfolding onDownB
-returns-4 c = rw (c .before .before .before .before .before .before .before .match .keys4) (c .before .before .before .before .on-aborted .ensures)
+returns-4 c = rw (c .before .before .before .before .before .before .before .match .keys4) (c .before .before .before .before .on-deescalate .ensures)
 
 same-length-9 : tie.Need-same-length-9
 same-length-9 c = search needs
@@ -77,7 +84,7 @@ same-length-10 c = search needs
 
 returns-5 : tie.Need-returns-5
 unfolding onDownB
-returns-5 c = rw (c .before .before .before .before .before .before .before .match .keys5) (c .before .before .before .before .on-invalidate .ensures)
+returns-5 c = rw (c .before .before .before .before .before .before .before .match .keys5) (c .before .before .before .before .on-callback .ensures)
 
 same-length-11 : tie.Need-same-length-11
 same-length-11 c = search needs
@@ -87,19 +94,45 @@ same-length-12 c = search needs
 
 returns-6 : tie.Need-returns-6
 unfolding onDownB
-returns-6 c = let k = kindOf (c .before .before .before .before .before .before .before .before .before .before .before .before .args .m .now) in let r = c .before .before .before .before .before .before .before .match .rest in simp (ne-eqb k 19 (r .0 .0 .0 .0 .1), ne-eqb k 20 (r .0 .0 .0 .1), ne-eqb k 21 (r .0 .0 .1), ne-eqb k 22 (r .0 .1), ne-eqb k 23 (r .1)) (c .before .before .before .before .on-page .ensures)
+returns-6 c = rw (c .before .before .before .before .before .before .before .match .keys6) (c .before .before .before .before .on-committed .ensures)
+
+same-length-13 : tie.Need-same-length-13
+same-length-13 c = search needs
+
+same-length-14 : tie.Need-same-length-14
+same-length-14 c = search needs
+
+returns-7 : tie.Need-returns-7
+unfolding onDownB
+returns-7 c = rw (c .before .before .before .before .before .before .before .match .keys7) (c .before .before .before .before .on-aborted .ensures)
+
+same-length-15 : tie.Need-same-length-15
+same-length-15 c = search needs
+
+same-length-16 : tie.Need-same-length-16
+same-length-16 c = search needs
+
+returns-8 : tie.Need-returns-8
+unfolding onDownB
+returns-8 c = rw (c .before .before .before .before .before .before .before .match .keys8) (c .before .before .before .before .on-invalidate .ensures)
+
+returns-9 : tie.Need-returns-9
+returns-9 c = let r = c .before .match .rest in absurd (no-other _ (c .before .before .before .before .before .before .pre .4 .3) (r .0 .0 .0 .0 .0 .0 .0 .1) (r .0 .0 .0 .0 .0 .0 .1) (r .0 .0 .0 .0 .0 .1) (r .0 .0 .0 .0 .1) (r .0 .0 .0 .1) (r .0 .0 .1) (r .0 .1) (r .1))
 
 pub on-down-spec : {M : Type 1} → statement M
 on-down-spec =
     tie.close
     (tie.spec
     shared-slice-read-match
+    on-page-requires
+    on-page-requires-2
+    on-page-requires-3
     on-deescalate-requires
     on-callback-requires
     on-committed-requires
     on-aborted-requires
     on-invalidate-requires
-    on-page-requires
+    say-requires
     same-length
     same-length-2
     returns
@@ -117,4 +150,11 @@ on-down-spec =
     returns-5
     same-length-11
     same-length-12
-    returns-6)
+    returns-6
+    same-length-13
+    same-length-14
+    returns-7
+    same-length-15
+    same-length-16
+    returns-8
+    returns-9)

@@ -4,6 +4,7 @@ use native.Mathlib.Omega.{arith}
 use borrow.Author.Needs.{needs}
 use Rattle.station_delivery.proofs.on_page.Statement.{statement}
 use Rattle.station_delivery.proofs.on_page.Tie as tie
+use Rattle.station_state.specs.Layout.{addressFrom}
 
 get-u32-requires : tie.Need-get-u32-requires
 get-u32-requires c κs = search needs
@@ -27,7 +28,7 @@ slice-read-a : tie.Need-slice-read-a
 slice-read-a c = search needs
 
 cast-a : tie.Need-cast-a
-cast-a c = omega (arith, c .slice-known4 .given 6712)
+cast-a c = omega (arith, c .slice-known4 .given addressFrom)
 
 get-u64-requires : tie.Need-get-u64-requires
 get-u64-requires c κs = search needs
@@ -36,7 +37,7 @@ arrived-requires : tie.Need-arrived-requires
 arrived-requires c κs = search needs
 
 answer-wait-requires : tie.Need-answer-wait-requires
-answer-wait-requires c κs = (search needs, omega (arith, c .before .before .before .before .before .before .before .before .slice-known4 .given 6712))
+answer-wait-requires c κs = (search needs, omega (arith, c .before .before .before .before .before .before .before .before .slice-known4 .given addressFrom))
 
 same-length-2 : tie.Need-same-length-2
 same-length-2 c = search needs

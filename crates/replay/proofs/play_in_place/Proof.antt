@@ -1,9 +1,9 @@
--- `replay::play_record` meets its contract.
+-- `replay::play_in_place` meets its contract.
 use mathlib.Core.Path.{sym, ap}
 use Rattle.replay.specs.Played.{recordPlayed, onRecord}
 use borrow.Author.Needs.{needs}
-use Rattle.replay.proofs.play_record.Statement.{statement}
-use Rattle.replay.proofs.play_record.Tie as tie
+use Rattle.replay.proofs.play_in_place.Statement.{statement}
+use Rattle.replay.proofs.play_in_place.Tie as tie
 
 replay-requires : tie.Need-replay-requires
 replay-requires c κs = search needs
@@ -29,7 +29,7 @@ returns-3 : tie.Need-returns-3
 unfolding recordPlayed
 returns-3 c = rw (← c .before .before .before .replay .ensures) (ap (onRecord _ _) (sym (c .before .number .given .1)))
 
-pub play-record-spec : {M : Type 1} → statement M
-play-record-spec =
+pub play-in-place-spec : {M : Type 1} → statement M
+play-in-place-spec =
     tie.close
     (tie.spec replay-requires enum-known-f enum-told enum-known-number returns returns-2 returns-3)
