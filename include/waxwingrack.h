@@ -195,6 +195,7 @@ uint32_t wax_playback_record(wax_playback *playback, const uint8_t *record, size
  * STATIONS
  *
  * A station's state is WAX_STATION_LENGTH bytes that the host keeps and lends to every call (docs/STATE.md has their meaning).
+ * Bytes that no call can leave and that a rule would trip over are no state: WAX_BUFFER. What is taken stays so.
  * Each call takes two more buffers and the place for what it tells:
  *
  *   messages  at least WAX_STATION_MESSAGES bytes: messages of WAX_MESSAGE_LENGTH bytes for the server, one behind the other
@@ -294,6 +295,8 @@ uint32_t wax_up_check(const uint8_t *kinds, size_t kinds_length, const uint8_t *
  * THE SERVER
  *
  * The server's state is WAX_SERVER_LENGTH bytes that the host keeps and lends to every step (docs/STATE.md has their meaning).
+ * Bytes that no step can leave and that a rule would trip over are no state: WAX_BUFFER. What is taken stays so, until 2^63
+ * requests have been made.
  * A step takes one message from a station, and two more buffers and the place for what it gives:
  *
  *   messages  at least WAX_SERVER_MESSAGES bytes: messages of WAX_MESSAGE_LENGTH bytes, one behind the other;

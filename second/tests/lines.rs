@@ -146,10 +146,10 @@ fn replies_agree() {
     no_difference(program, &[second, proved, "--runs", "20"]);
 }
 
-/// "Does a valid state of the server stay valid?" (docs/DECISIONS.md): the known state that no run reaches and that does
-/// not. Station 0 waits to write address 9, its written set names address 16, and station 1 holds page 1 whole.
+/// A waiter's request outside its sets, which led to a lock beside another's whole lock, is number 1: station 0 waits to
+/// write address 9, its written set names address 16, and station 1 holds page 1 whole. With 9 in the set it is asked for.
 #[test]
-fn a_valid_state_that_does_not_stay_valid() {
+fn a_request_outside_its_set() {
     let mut server = Compiled::fresh(&[0; 8]);
     let fields = [
         (Field::NextAge, 0, 3),
@@ -171,8 +171,10 @@ fn a_valid_state_that_does_not_stay_valid() {
     }
     let mut purge = [0; 112];
     purge[..3].copy_from_slice(&[5, 2, 31]);
-    assert_eq!(server.serves(&purge), [1, 0]);
-    assert_eq!(server.messages[0], 17);
-    assert_eq!(server.state[Field::Lock.start() + 9], 1);
     assert_eq!(server.number(&purge), 1);
+    server.state[Field::WrittenSet.start() + 2] = 0;
+    server.state[Field::WrittenSet.start() + 1] = 2;
+    assert_eq!(server.serves(&purge), [1, 0]);
+    assert_eq!(server.messages[0], 19);
+    assert_eq!(server.number(&purge), 0);
 }

@@ -106,18 +106,20 @@ fn number_1_lengths_and_ranges() {
         assert!(!valid(&good[..length]));
     }
     assert!(!valid(&[&good[..], &[0]].concat()));
-    // in a fresh state no field stands beside another
-    let fresh = encode(&Server::fresh([Kind::Locking; 8], 0, [1; 8]));
-    for (field, entries, most) in Field::RANGES {
-        assert_eq!(field.range().len(), entries);
-        let last = field.range().end - 1;
-        for at in [field.start(), last] {
-            for byte in 0..=255 {
-                // a want of 3 needs the transaction of a commit
-                let mut bytes = with(&fresh, at, byte);
-                bytes[Field::Work.range()].fill(1);
-                assert_eq!(valid(&bytes), byte <= most, "{field:?} {byte}");
+    for (field, most) in Field::RANGES {
+        assert_eq!(field.range().len(), 8);
+        for at in field.range() {
+            for byte in most + 1..=255 {
+                assert!(!valid(&with(&good, at, byte)), "{field:?} {byte}");
             }
+        }
+    }
+    for field in [Field::Lock, Field::Whole] {
+        for byte in 9..=255 {
+            assert!(
+                !valid(&with(&good, field.start(), byte)),
+                "{field:?} {byte}"
+            );
         }
     }
     for counter in [Field::NextAge, Field::NextArrival] {
@@ -129,7 +131,7 @@ fn number_1_lengths_and_ranges() {
     }
 }
 
-/// "below the next age while that is unfinished", "below the next arrival while it waits", and no two equal.
+/// "below the next age", "below the next arrival while it waits, else 0", and no two equal that count.
 #[test]
 fn number_1_ages_and_arrivals() {
     let good = busy();
@@ -140,9 +142,9 @@ fn number_1_ages_and_arrivals() {
     };
     assert!(put(Field::Age, 0, 0) && !put(Field::Age, 0, 6) && !put(Field::Age, 0, 2));
     // 7's transaction is none
-    assert!(put(Field::Age, 7, 6) && put(Field::Age, 7, 2));
+    assert!(put(Field::Age, 7, 5) && put(Field::Age, 7, 2) && !put(Field::Age, 7, 6));
     assert!(put(Field::Arrival, 2, 0) && !put(Field::Arrival, 2, 6));
-    assert!(!put(Field::Arrival, 2, 5) && put(Field::Arrival, 0, 5));
+    assert!(!put(Field::Arrival, 2, 5) && !put(Field::Arrival, 0, 1));
 }
 
 /// "two holders of one lock" cannot be written down; "a whole lock beside another's lock on that page" can.
@@ -151,24 +153,37 @@ fn number_1_locks_and_transactions() {
     let good = busy();
     let beside = Field::Lock.start() + 15;
     assert!(valid(&with(&good, beside, 1)));
-    assert!(!valid(&with(&good, beside, 2)));
+    assert!(!valid(&with(&good, beside, 3)));
     let word = |field: Field, station: usize| {
         let mut bytes = good.clone();
         field.put_word(&mut bytes, station, 0);
         valid(&bytes)
     };
-    // 0 holds page 1 whole, 1 and 2 wait, 3 has a lock on an object
-    assert!(!word(Field::Latest, 0) && !word(Field::Latest, 1) && !word(Field::Latest, 2));
-    assert!(word(Field::Latest, 3) && word(Field::Latest, 7));
+    // 0 to 4 have unfinished transactions, 7 has none; 1's commit waits
+    assert!((0..5).all(|station| !word(Field::Latest, station)));
+    assert!(word(Field::Latest, 7));
     assert!(!word(Field::Work, 1) && word(Field::Work, 2));
 }
 
-/// Valid, and more than a `Server` holds.
+/// "a locking station whose transaction is unfinished": of objects and of pages; a 19 is for a page that is locked whole.
 #[test]
-fn not_decoded() {
+fn number_1_holders() {
     let good = busy();
-    assert!(decode(&good).is_some());
-    let not_held = |bytes: Vec<u8>| valid(&bytes) && decode(&bytes).is_none();
+    for (field, at) in [(Field::Lock, 250), (Field::Whole, 31)] {
+        let held = |station: u8| valid(&with(&good, field.start() + at, station + 1));
+        // 1 is validating, 5 to 7 have no transaction
+        assert!([0, 2, 3, 4].into_iter().all(held), "{field:?}");
+        assert!(![1, 5, 6, 7].into_iter().any(held), "{field:?}");
+    }
+    // page 1 is 0's
+    assert!(!valid(&with(&good, Field::Asked.start(), 0b11)));
+    assert!(valid(&with(&good, Field::Asked.start(), 0)));
+}
+
+/// "a station that waits for nothing has an empty entry, one that waits has the entry that its message made"
+#[test]
+fn number_1_entries() {
+    let good = busy();
     // 7 does not wait
     for (field, width) in [
         (Field::Arrival, 8),
@@ -178,19 +193,71 @@ fn not_decoded() {
         (Field::Called, 1),
         (Field::Pend, 1),
         (Field::Busy, 1),
+        (Field::Want, 1),
     ] {
         let at = field.start() + 7 * width;
-        assert!(not_held(with(&good, at, 1)), "{field:?}");
+        assert!(!valid(&with(&good, at, 1)), "{field:?}");
     }
-    // 2 wants to read 9; its 20s are not sent
-    assert!(not_held(with(&good, Field::Request.start() + 2, 10)));
-    assert!(not_held(with(&good, Field::ReadSet.start() + 2 * 32, 1)));
-    assert!(not_held(with(&good, Field::WrittenSet.start() + 2 * 32, 1)));
-    assert!(not_held(with(&good, Field::Pend.start() + 2, 1)));
-    assert!(not_held(with(&good, Field::Unfinished.start() + 2, 0)));
-    // nobody holds page 0 whole
-    assert!(not_held(with(&good, Field::Asked.start(), 0b11)));
-    assert!(decode(&good[1..]).is_none());
+    // 2 wants to read 9, 1 to commit a read of 16 and a write of 24
+    for (field, at, byte) in [
+        (Field::Request, 2, 10),
+        (Field::ReadSet, 2 * 32, 1),
+        (Field::ReadSet, 2 * 32 + 1, 0),
+        (Field::WrittenSet, 2 * 32, 1),
+        (Field::Called, 2, 1),
+        (Field::Pend, 2, 1),
+        (Field::Busy, 2, 1),
+        (Field::Unfinished, 2, 0),
+        (Field::Kind, 2, 1),
+        (Field::Want, 2, 2),
+        (Field::Want, 2, 3),
+        (Field::Request, 1, 16),
+        (Field::Kind, 1, 0),
+        (Field::Want, 1, 1),
+        (Field::Unfinished, 1, 0),
+    ] {
+        assert!(
+            !valid(&with(&good, field.start() + at, byte)),
+            "{field:?} {at}"
+        );
+    }
+    // a commit may read and write anything
+    assert!(valid(&with(&good, Field::ReadSet.start() + 32, 255)));
+}
+
+/// "other, locking stations; 0 unless called is 1", "a part of pend"
+#[test]
+fn number_1_callbacks() {
+    let both = "begin 0; read 0 8; server 0; station 0; begin 2; read 2 8; server 2; station 2; ";
+    let called =
+        encode(&behind(&format!("{both}write 0 8 5; server 0; station 2; server 2")).server);
+    assert!(valid(&called));
+    let put = |field: Field, byte: u8| valid(&with(&called, field.start(), byte));
+    // 0 waits for 2; 1 is validating
+    assert!(put(Field::Pend, 0b1000_0100) && put(Field::Busy, 0));
+    assert!(!put(Field::Pend, 0b0000_0101) && !put(Field::Pend, 0b0000_0110));
+    assert!(!put(Field::Pend, 0) && !put(Field::Busy, 0b1000_0100) && !put(Field::Called, 0));
+}
+
+/// One byte of a busy state is another: number 1, or a state that is held as it is.
+#[test]
+fn every_valid_byte_is_held() {
+    let good = busy();
+    let mut taken = 0;
+    for at in Field::Age.start()..LENGTH {
+        for byte in [0, 1, 2, 3, 255, good[at] ^ 0x10] {
+            let bytes = with(&good, at, byte);
+            let Some(server) = decode(&bytes) else {
+                assert!(!valid(&bytes));
+                continue;
+            };
+            let mut laid = bytes.clone();
+            lay(&server, &mut laid);
+            assert_eq!(laid, bytes, "{at} {byte}");
+            taken += 1;
+        }
+    }
+    assert!(taken > 1_000, "{taken}");
 }
 
 /// Each state of many runs comes back from its bytes, whatever the leftovers.

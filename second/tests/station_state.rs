@@ -87,16 +87,16 @@ fn number_1() {
         assert!(!valid(&good[..length]));
     }
     assert!(!valid(&[&good[..], &[0]].concat()));
-    for (field, most) in [
-        (Field::Kind, 1),
-        (Field::Open, 1),
-        (Field::Wait, 3),
-        (Field::Address, 255),
-    ] {
-        for byte in 0..=255 {
-            let bytes = with(&good, field.start(), byte);
-            assert_eq!(valid(&bytes), byte <= most, "{field:?} {byte}");
+    for (field, most) in [(Field::Kind, 1), (Field::Open, 1), (Field::Wait, 3)] {
+        for byte in most + 1..=255 {
+            assert!(
+                !valid(&with(&good, field.start(), byte)),
+                "{field:?} {byte}"
+            );
         }
+    }
+    for wait in 0..=3 {
+        assert!(valid(&with(&good, Field::Wait.start(), wait)));
     }
     for station in 0..=255 {
         let bytes = with(&good, Field::Station.start(), station);
@@ -115,26 +115,57 @@ fn number_0_is_closed() {
     let mut bytes = busy();
     Field::Number.put_word(&mut bytes, 0, 0);
     assert!(!valid(&bytes));
-    Field::Open.put_byte(&mut bytes, 0);
-    assert!(valid(&bytes));
     assert!(valid(&encode(&Station::fresh(0, Kind::Locking, 0))));
+}
+
+/// "0 while no transaction is open", "and at a validating station"
+#[test]
+fn number_1_of_a_transaction() {
+    let (_, closed) = behind("begin 0; read 0 8; server 0; station 0; abort 0");
+    assert!(decode(&closed).is_some());
+    let of_locks = Field::OF_LOCKS;
+    for field in Field::OF_TRANSACTION.into_iter().chain(of_locks) {
+        // its own callback is another matter
+        let at = field.range().end - 1;
+        assert!(!valid(&with(&closed, at, 1)), "{field:?}");
+    }
+    let open = busy();
+    assert!(!valid(&with(&open, Field::Open.start(), 0)));
+    let mut validating = with(&open, Field::Kind.start(), 1);
+    assert!(!valid(&validating));
+    for field in of_locks {
+        validating[field.range()].fill(0);
+    }
+    assert!(valid(&validating));
+    for field in of_locks {
+        let at = field.range().end - 1;
+        assert!(valid(&with(&open, at, 1)), "{field:?}");
+        assert!(!valid(&with(&validating, at, 1)), "{field:?}");
+    }
+}
+
+/// "A read that is out is of an object that is in neither set"
+#[test]
+fn number_1_of_a_read() {
+    // its read of 40 is out
+    let open = busy();
+    for field in [Field::ReadSet, Field::WrittenSet] {
+        assert!(!valid(&with(&open, field.start() + 5, 1)), "{field:?}");
+        assert!(valid(&with(&open, field.start() + 5, 2)), "{field:?}");
+        let mut writes = with(&open, field.start() + 5, 1);
+        Field::Wait.put_byte(&mut writes, 2);
+        assert!(valid(&writes), "{field:?}");
+    }
 }
 
 /// Valid, and more than a `Station` holds.
 #[test]
 fn not_decoded() {
-    let (_, closed) = behind("begin 0; read 0 8; server 0; station 0; abort 0");
-    assert!(decode(&closed).is_some());
-    for field in Field::OF_TRANSACTION {
-        let bytes = with(&closed, field.start(), 1);
-        assert!(valid(&bytes) && near(&bytes).is_none(), "{field:?}");
+    let mut open = busy();
+    assert!(decode(&open).is_some() && decode(&open[1..]).is_none());
+    for field in Field::OF_LOCKS {
+        open[field.range()].fill(0);
     }
-    assert!(decode(&closed[1..]).is_none());
-    let open = busy();
-    assert!(decode(&open).is_some());
-    // its read of 40 is out, though 40 was read before
-    let asked_again = with(&open, Field::ReadSet.start() + 5, 1);
-    assert!(valid(&asked_again) && near(&asked_again).is_none());
     // page 4 is used and not cached
     let mut versioned = with(&open, Field::ReadSet.start() + 4, 1);
     Field::Version.put_word(&mut versioned, 4, 1);
@@ -155,12 +186,10 @@ fn nearly_decoded() {
     // 17 was written, and stands in the copy
     let own = Field::Copy.start() + 8 * 17;
     assert!(nearly(with(&open, own, 6)));
-    // a lock on page 0, of the object or whole; a validating station has none
+    // a lock on page 0, of the object or whole
     for field in [Field::Locks, Field::Whole] {
-        let mut locked = with(&open, field.start(), open[field.start()] | 1);
-        assert!(nearly(locked.clone()), "{field:?}");
-        Field::Kind.put_byte(&mut locked, 1);
-        assert!(decode(&locked).is_some(), "{field:?}");
+        let locked = with(&open, field.start(), open[field.start()] | 1);
+        assert!(nearly(locked), "{field:?}");
     }
 }
 

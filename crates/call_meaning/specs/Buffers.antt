@@ -11,25 +11,26 @@ use Rattle.lists.specs.Stores.{sets-front}
 use Rattle.station_callbacks.specs.Callbacks.{flat}
 use Rattle.station_callbacks.specs.Posting.{Whole}
 use Rattle.station_answer.specs.Did.{Outcome}
+use Rattle.message.specs.Layout.{messageLength}
 
 -- "Messages, 112 bytes": the first n, one behind the other
 unfoldable pub messagesIn : List ℕ → ℕ → List (List ℕ)
 messagesIn o zero = []
-messagesIn o (suc n) = take 112 o ∷ messagesIn (drop 112 o) n
+messagesIn o (suc n) = take messageLength o ∷ messagesIn (drop messageLength o) n
 
 -- so message k stands at byte k × 112
-pub message-at : (o : List ℕ) (n k : ℕ) → k < n → getD (messagesIn o n) k [] ≡ take 112 (drop (k * 112) o)
+pub message-at : (o : List ℕ) (n k : ℕ) → k < n → getD (messagesIn o n) k [] ≡ take messageLength (drop (k * messageLength) o)
 unfolding messagesIn
 message-at o zero k l = absurd (omega arith)
 message-at o (suc n) zero l = refl
 message-at o (suc n) (suc k) l =
-    let next : 112 + k * 112 ≡ suc k * 112 = omega arith in
-    message-at (drop 112 o) n k (omega arith) ∙ ap (take 112) (drop-drop (k * 112) 112 o ∙ ap (λ (a : ℕ). drop a o) next)
+    let next : messageLength + k * messageLength ≡ suc k * messageLength = omega arith in
+    message-at (drop messageLength o) n k (omega arith) ∙ ap (take messageLength) (drop-drop (k * messageLength) messageLength o ∙ ap (λ (a : ℕ). drop a o) next)
 
 -- each has 112 bytes
 abbrev pub Sized : List (List ℕ) → Type 0
 Sized [] = Unit {0}
-Sized (m ∷ ms) = (length m ≡ 112) × Sized ms
+Sized (m ∷ ms) = (length m ≡ messageLength) × Sized ms
 
 pub sized-whole : (ms : List (List ℕ)) → Sized ms → Whole ms
 unfolding flat
@@ -40,19 +41,19 @@ flat-read : (ms : List (List ℕ)) (rest : List ℕ) → Sized ms → messagesIn
 unfolding messagesIn flat
 flat-read [] rest h = refl
 flat-read (m ∷ ms) rest h =
-    rw (append-assoc m (flat ms) rest, take-at m (flat ms ++ rest) 112 (h .0), drop-at m (flat ms ++ rest) 112 (h .0), flat-read ms rest (h .1))
+    rw (append-assoc m (flat ms) rest, take-at m (flat ms ++ rest) messageLength (h .0), drop-at m (flat ms ++ rest) messageLength (h .0), flat-read ms rest (h .1))
 
-module _ (o : List ℕ) (ms : List (List ℕ)) (h : Sized ms) (l : length ms * 112 ≤ length o) where
-  laid-front : sets o 0 (flat ms) ≡ flat ms ++ drop (length ms * 112) o
-  laid-front = sets-front (flat ms) o (length ms * 112) (sym (sized-whole ms h)) l
+module _ (o : List ℕ) (ms : List (List ℕ)) (h : Sized ms) (l : length ms * messageLength ≤ length o) where
+  laid-front : sets o 0 (flat ms) ≡ flat ms ++ drop (length ms * messageLength) o
+  laid-front = sets-front (flat ms) o (length ms * messageLength) (sym (sized-whole ms h)) l
 
   -- messages put from the start of a buffer that has room for them are read there
   pub laid-read : messagesIn (sets o 0 (flat ms)) (length ms) ≡ ms
-  laid-read = rw laid-front (flat-read ms (drop (length ms * 112) o) h)
+  laid-read = rw laid-front (flat-read ms (drop (length ms * messageLength) o) h)
 
   -- .. and behind them it is as it was
-  pub laid-behind : drop (length ms * 112) (sets o 0 (flat ms)) ≡ drop (length ms * 112) o
-  laid-behind = rw laid-front (drop-at (flat ms) (drop (length ms * 112) o) (length ms * 112) (sized-whole ms h))
+  pub laid-behind : drop (length ms * messageLength) (sets o 0 (flat ms)) ≡ drop (length ms * messageLength) o
+  laid-behind = rw laid-front (drop-at (flat ms) (drop (length ms * messageLength) o) (length ms * messageLength) (sized-whole ms h))
 
 -- the commit, if there is one: the first n bytes of those lent for it
 abbrev pub commitIn : List ℕ → ℕ → List (List ℕ)

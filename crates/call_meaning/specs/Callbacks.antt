@@ -29,6 +29,7 @@ use Rattle.station_meaning.specs.Tests.{has-if, kind-at, kept-at, kept-lt, wrot
 use Rattle.station_meaning.specs.Changes.{unkeep-is, closed-is}
 use Rattle.station_meaning.specs.Pages.{drop-as, mark-is}
 use Rattle.call_meaning.specs.Relation.{answerOf, Sound, ReadAs, all-snoc, Sending, Means}
+use Rattle.message.specs.Layout.{messageLength}
 
 -- WHAT KEEPS A STATION SOUND
 
@@ -109,7 +110,7 @@ callback-means i {b} {d} r t x h hx hr h0 ht =
     let y = droppedB x s in
     let read : ReadAs i (doneB i r t y) (Done r t (drops (named x) m)) =
     λ kinds ok.
-    subst (λ (f : ℕ → Bool). Reads kinds i 112 (doneB i r t y) (Done r t f)) (drops-is (h .state) x hx)
+    subst (λ (f : ℕ → Bool). Reads kinds i messageLength (doneB i r t y) (Done r t f)) (drops-is (h .state) x hx)
     (done-sent kinds ok i (h .sound .own) r t y hr h0 ht (dropped-lt x s)) in
     record {
       state = drop-as (mark-is (h .state) x hx) y (dropped-lt x s) (drops (named x) m) (drops-at (h .state) x hx);
@@ -193,9 +194,9 @@ written-named {i} {s} {m} h =
       e,
       wrote-at h a (omega arith),
       has-if (member s writtenSetFrom a) (writtenValue s a),
-      tb-test (a % 8) (getD s (6388 + a / 8) 0),
-      getD-take 32 (drop 6388 s) (a / 8) 0 l,
-      getD-drop 6388 s (a / 8) 0,
+      tb-test (a % 8) (getD s (writtenSetFrom + a / 8) 0),
+      getD-take 32 (drop writtenSetFrom s) (a / 8) 0 l,
+      getD-drop writtenSetFrom s (a / 8) 0,
     ))
     (λ e.
     let l = ltb-no (a / 8) 32 e in

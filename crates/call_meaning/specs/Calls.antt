@@ -17,7 +17,9 @@ use Rattle.line.specs.Station.{Station, freshStation, stationStep}
 use Rattle.line.specs.Station as Model
 use Rattle.line.specs.Line.{Op, Begin, Read, Write, Commits, Aborts, Purges, perform}
 use Rattle.line.specs.Bounds.{owner-bound, station-bound}
-use Rattle.message.specs.Layout.{kindOf, stationOf, transactionOf, pagesOf}
+use Rattle.line.specs.Fit.{FitStation}
+use Rattle.line.specs.FitCalls.{FitDid, owner-fit, station-fit}
+use Rattle.message.specs.Layout.{setsFrom, kindOf, stationOf, transactionOf, pagesOf}
 use Rattle.message.specs.Number.{lengthOk, downNumber, kindOk, kindsOk, upNumber}
 use Rattle.message_meaning.specs.Meant.{downOf}
 use Rattle.message_meaning.specs.Sent.{Reads}
@@ -38,8 +40,10 @@ use Rattle.call_meaning.specs.Relation.{answerOf, Sound, AllRead, Means}
 use Rattle.call_meaning.specs.Valid.{valid-means, valid-kept, means-valid, fresh-means, fresh-valid}
 use Rattle.call_meaning.specs.Owner.{begin-means, read-means, write-means, abort-means, purge-means}
 use Rattle.call_meaning.specs.Delivery.{step-means}
+use Rattle.call_meaning.specs.Names.{down-names}
 use Rattle.call_meaning.specs.Commit.{CommitRead, CommitMeans, commit-called-means}
 use Rattle.call_meaning.specs.Buffers.{messagesIn, Sized, laid-read, commitIn, sentBy}
+use Rattle.message.specs.Commit.{stationRoom, commitRoom}
 
 -- WHAT A HOST FINDS
 
@@ -56,15 +60,17 @@ pub record Told (i : ℕ) (b : Outcome) (d : Model.Did) : Type 0 where
   pub state : Is i (b .state) (d .station)
   pub valid : valid (b .state) ≡ true
   pub sent : (kinds : List ℕ) → kindsOk kinds ≡ true → getD kinds i 0 ≡ d .station .kind → AllReads kinds i (sentBy b) (d .sent)
+  -- the station left, and what it sends, fit as number 1 asks
+  pub fits : FitDid i d
 
 -- "Each call gets the state its end's last call left": what the theorems below ask of it
 pub told-next : {i : ℕ} {b : Outcome} {d : Model.Did} → Told i b d → AllBytes (b .state) × (station (b .state) ≡ i) × (meant (b .state) ≡ d .station)
 told-next h = (h .state .bytes, station-at (h .state), h .state .is)
 
 -- .. and number 1 lets it pass, with any output that is long enough
-pub ready-next : {i : ℕ} {b : Outcome} {d : Model.Did} → Told i b d → (o c : List ℕ) → 896 ≤ length o → 4864 ≤ length c → ready (b .state) o c ≡ true
+pub ready-next : {i : ℕ} {b : Outcome} {d : Model.Did} → Told i b d → (o c : List ℕ) → stationRoom ≤ length o → commitRoom ≤ length c → ready (b .state) o c ≡ true
 unfolding ready
-ready-next h o c lo lc = rw (h .valid, le-leb 896 (length o) lo, le-leb 4864 (length c) lc)
+ready-next h o c lo lc = rw (h .valid, le-leb stationRoom (length o) lo, le-leb commitRoom (length c) lc)
 
 -- "Refused calls answer the number, send nothing and change no state or lent buffer."
 pub refused-unchanged : (n : ℕ) (s o c : List ℕ) → laid o c (refuses n s) ≡ outcome s o c (said (Refused n) 0 0)
@@ -100,15 +106,16 @@ read-all i (m ∷ ms) [] h kinds ok = absurd h
 read-all i (m ∷ ms) (u ∷ us) h kinds ok = (reads-any (h .0 kinds ok), read-all i ms us (h .1) kinds ok)
 
 -- "8 messages": there is room for what an operation or a step sends
-laid-told : {i : ℕ} {b : Did} {d : Model.Did} (o c : List ℕ) → 896 ≤ length o → length (d .sent) ≤ 8 → Means i b d → Told i (laid o c b) d
-laid-told {i} {b} {d} o c l most h =
+laid-told : {i : ℕ} {b : Did} {d : Model.Did} (o c : List ℕ) → stationRoom ≤ length o → length (d .sent) ≤ 8 → Means i b d → FitDid i d → Told i (laid o c b) d
+laid-told {i} {b} {d} o c l most h f =
     let count = read-count i (b .sent) (d .sent) (h .sent) in
     let read = laid-read o (b .sent) (read-sized i (b .sent) (d .sent) (h .sent)) (omega (arith, count)) in
     record {
       answer = h .answer;
       state = h .state;
-      valid = means-valid h;
+      valid = means-valid h (f .station);
       sent = λ kinds ok k. rw (read, append-nil (b .sent)) (read-all i (b .sent) (d .sent) (h .sent) kinds ok);
+      fits = f;
     }
 
 -- no bytes are no message
@@ -127,14 +134,15 @@ commit-read i k n c (u ∷ []) h kinds ok e =
     rw (eqb-diff n 0 (commit-some kinds c n ok (r .accepted))) (reads-any r, tt)
 commit-read i k n c (u ∷ v ∷ us) h kinds ok e = absurd h
 
-commit-told : {i : ℕ} {b : Outcome} {d : Model.Did} → CommitMeans i b d → Told i b d
+commit-told : {i : ℕ} {b : Outcome} {d : Model.Did} → CommitMeans i b d → FitDid i d → Told i b d
 unfolding messagesIn
-commit-told {i} {b} {d} h =
+commit-told {i} {b} {d} h f =
     record {
       answer = h .answer;
       state = h .state;
-      valid = valid-kept (h .state) (h .sound);
+      valid = valid-kept (h .state) (h .sound) (f .station);
       sent = λ kinds ok k. rw (h .no-messages) (commit-read i (d .station .kind) (b .said .commit) (b .commit) (d .sent) (h .sent) kinds ok k);
+      fits = f;
     }
 
 -- THE OWNER'S OPERATIONS
@@ -157,31 +165,31 @@ OpFits Commits = Unit {0}
 OpFits Aborts = Unit {0}
 OpFits (Purges p) = Unit {0}
 
-ready-valid : (s o c : List ℕ) → ready s o c ≡ true → valid s ≡ true
+pub ready-valid : (s o c : List ℕ) → ready s o c ≡ true → valid s ≡ true
 unfolding ready
-ready-valid s o c r = and-l (valid s) (leb 896 (length o)) (and-l (valid s && leb 896 (length o)) (leb 4864 (length c)) r)
+ready-valid s o c r = and-l (valid s) (leb stationRoom (length o)) (and-l (valid s && leb stationRoom (length o)) (leb commitRoom (length c)) r)
 
-module _ {i : ℕ} {s : List ℕ} {m : Station} (h : Is i s m) (q : Sound i m) (o c : List ℕ) (r : ready s o c ≡ true) where
-  called-told : (b : Did) (d : Model.Did) → length (d .sent) ≤ 8 → Means i b d → Told i (called s o c b) d
-  called-told b d l k = rw r (laid-told o c ((ready-is s o c r) .messages-fit) l k)
+module _ {i : ℕ} {s : List ℕ} {m : Station} (h : Is i s m) (q : Sound i m) (z : FitStation i m) (o c : List ℕ) (r : ready s o c ≡ true) where
+  called-told : (b : Did) (d : Model.Did) → length (d .sent) ≤ 8 → Means i b d → FitDid i d → Told i (called s o c b) d
+  called-told b d l k f = rw r (laid-told o c ((ready-is s o c r) .messages-fit) l k f)
 
   perform-told : (op : Op) → OpFits op → Told i (performB op s o c) (perform op m)
   unfolding perform
-  perform-told op f = go op f (owner-bound i op m (q .own) (q .not-own))
+  perform-told op f = go op f (owner-bound i op m (q .own) (q .not-own)) (owner-fit i m z op)
     where
-      go : (op : Op) → OpFits op → length ((perform op m) .sent) ≤ 8 → Told i (performB op s o c) (perform op m)
-      go Begin f l = called-told _ _ l (begin-means h q)
-      go (Read a) f l = called-told _ _ l (read-means h q a)
-      go (Write a v) f l = called-told _ _ l (write-means h q a v f)
-      go Commits f l = commit-told (commit-called-means h q o c r)
-      go Aborts f l = called-told _ _ l (abort-means h q)
-      go (Purges p) f l = called-told _ _ l (purge-means h q p)
+      go : (op : Op) → OpFits op → length ((perform op m) .sent) ≤ 8 → FitDid i (perform op m) → Told i (performB op s o c) (perform op m)
+      go Begin f l k = called-told _ _ l (begin-means h q) k
+      go (Read a) f l k = called-told _ _ l (read-means h q a) k
+      go (Write a v) f l k = called-told _ _ l (write-means h q a v f) k
+      go Commits f l k = commit-told (commit-called-means h q o c r) k
+      go Aborts f l k = called-told _ _ l (abort-means h q) k
+      go (Purges p) f l k = called-told _ _ l (purge-means h q p) k
 
 -- every operation of document 01, on every state and output that passes number 1
 pub owner-means : (op : Op) (s o c : List ℕ) → AllBytes s → OpFits op → ready s o c ≡ true → Told (station s) (performB op s o c) (perform op (meant s))
 owner-means op s o c b f r =
     let p = valid-means s b (ready-valid s o c r) in
-    perform-told (p .0) (p .1) o c r op f
+    perform-told (p .0) (p .1) (p .2) o c r op f
 
 -- number 1
 pub owner-unready : (op : Op) (s o c : List ℕ) → ready s o c ≡ false → performB op s o c ≡ laid o c (refuses 1 s)
@@ -204,7 +212,8 @@ pub step-told : (x s o c : List ℕ) → AllBytes x → AllBytes s → ready s o
     → Told (station s) (stepB x s o c) (stationStep (downOf x) (meant s))
 step-told x s o c bx bs r n own =
     let p = valid-means s bs (ready-valid s o c r) in
-    called-told (p .0) (p .1) o c r (stationStepB x s) (stationStep (downOf x) (meant s)) (station-bound (downOf x) (meant s)) (step-means (p .0) (p .1) x bx n own)
+    called-told (p .0) (p .1) (p .2) o c r (stationStepB x s) (stationStep (downOf x) (meant s)) (station-bound (downOf x) (meant s)) (step-means (p .0) (p .1) x bx n own)
+    (station-fit (station s) (meant s) (p .2) (downOf x) (down-names (station s) x n))
 
 -- number 1
 pub step-unready : (x s o c : List ℕ) → ready s o c ≡ false → stepB x s o c ≡ laid o c (refuses 1 s)
@@ -222,7 +231,7 @@ step-not-own x s o c r n own = rw (r, n, eqb-diff (stationOf x) (station s) own)
 
 -- A FRESH STATE
 
-module _ (i k : ℕ) (s : List ℕ) (e : length s ≡ 6713) (l : i < 8) (q : k ≤ 1) where
+module _ (i k : ℕ) (s : List ℕ) (e : length s ≡ stateLength) (l : i < 8) (q : k ≤ 1) where
   pub fresh-told : freshOf i k s ≡ freshened (freshState i k) 0
   unfolding freshOf
   fresh-told = rw (eq-eqb (length s) stateLength e, le-leb i 7 (omega arith), le-leb k 1 q)
@@ -306,7 +315,7 @@ module _ (s : List ℕ) where
 
   callback-still : (x : List ℕ) → Still s (onCallbackB x s)
   unfolding onCallbackB
-  callback-still x = either (inUseB (setsAt x 16) s) (taken refl) (taken refl)
+  callback-still x = either (inUseB (setsAt x setsFrom) s) (taken refl) (taken refl)
 
   invalidate-still : (x : List ℕ) → Still s (onInvalidateB x s)
   unfolding onInvalidateB

@@ -36,6 +36,7 @@ use Rattle.station_meaning.specs.Changes.{forCommit-is}
 use Rattle.call_meaning.specs.Relation.{answerOf, Sound}
 use Rattle.call_meaning.specs.Callbacks.{sound-wait}
 use Rattle.call_meaning.specs.Owner.{checkOpen-at, open-passed}
+use Rattle.message.specs.Commit.{versionWidth, stationRoom, commitRoom}
 
 -- THE BYTES
 
@@ -140,7 +141,7 @@ module _ {i : ℕ} {s : List ℕ} {m : Station} (h : Is i s m) where
       (record { length-is = refl; bytes-are = r .bytes-are; accepted = r .accepted; station-is = r .station-is; meant = r .meant })
 
   -- "8 messages and 4,864 commit bytes (station)"
-  commit-most : length (commitBytes s) ≤ 4864
+  commit-most : length (commitBytes s) ≤ commitRoom
   commit-most =
       let r = recordUp i (m .kind) (workOf m) in
       rw (
@@ -148,12 +149,12 @@ module _ {i : ℕ} {s : List ℕ} {m : Station} (h : Is i s m) where
         length-append,
         length-append,
         length-up 3 i 0 0 (m .num) (usedPagesB s) 0,
-        length-numbers 4 ((workOf m) .versions) 32 0,
+        length-numbers versionWidth ((workOf m) .versions) 32 0,
         length-bytesOf r,
       )
       (omega (arith, entries-count (m .rd), entries-count (m .wr)))
 
-  commit-front : (c : List ℕ) → 4864 ≤ length c → take (length (commitBytes s)) (sets c 0 (commitBytes s)) ≡ commitBytes s
+  commit-front : (c : List ℕ) → commitRoom ≤ length c → take (length (commitBytes s)) (sets c 0 (commitBytes s)) ≡ commitBytes s
   commit-front c l =
       let x = commitBytes s in
       rw (sets-front x c (length x) refl (omega (arith, commit-most))) (take-at x (drop (length x) c) (length x) refl)
@@ -175,13 +176,13 @@ pub record CommitMeans (i : ℕ) (b : Outcome) (d : Model.Did) : Type 0 where
   pub no-messages : b .said .messages ≡ 0
   pub sent : CommitRead i (d .station .kind) (b .said .commit) (b .commit) (d .sent)
 
-commit-room : (s o c : List ℕ) → ready s o c ≡ true → 4864 ≤ length c
+commit-room : (s o c : List ℕ) → ready s o c ≡ true → commitRoom ≤ length c
 unfolding ready
-commit-room s o c r = leb-true 4864 (length c) (and-r (valid s && leb 896 (length o)) (leb 4864 (length c)) r)
+commit-room s o c r = leb-true commitRoom (length c) (and-r (valid s && leb stationRoom (length o)) (leb commitRoom (length c)) r)
 
 module _ {i : ℕ} {s : List ℕ} {m : Station} (h : Is i s m) (q : Sound i m) (o c : List ℕ) where
   -- "Commit sends 3 and waits for 21 or 22."
-  pub commit-means : 4864 ≤ length c → checkOpenB s ≡ 0 → CommitMeans i (commits s o c) (ownCommit m)
+  pub commit-means : commitRoom ≤ length c → checkOpenB s ≡ 0 → CommitMeans i (commits s o c) (ownCommit m)
   unfolding ownCommit
   commit-means l e =
       let n : checkOpen m ≡ 0 = sym (checkOpen-at h) ∙ e in

@@ -15,7 +15,7 @@ use Rattle.line.specs.Messages.{locking, Lock, NoLock, ObjectLock, WholeLock}
 use Rattle.line.specs.Messages as Line
 use Rattle.line.specs.Station.{Station, Idle, KeptCall, setWait, wrotePage, inUse, touched, doCallback, live, ended, waiting, forRead, forWrite, forCommit, fits, arrive, takeLock, answerWait, onPage, writtenOn, loosen, onDeescalate, onCallback, onCommitted, onAborted, onInvalidate, onDown, stationStep}
 use Rattle.line.specs.Station as Model
-use Rattle.message.specs.Layout.{kindOf, stationOf, pageOf, requesterOf, objectOf, causeOf, transactionOf, pagesOf, versionOf, setOf, upMessage}
+use Rattle.message.specs.Layout.{setsFrom, messageLength, kindOf, stationOf, pageOf, requesterOf, objectOf, causeOf, transactionOf, pagesOf, versionOf, setOf, upMessage}
 use Rattle.message.specs.Number.{downNumber}
 use Rattle.message_meaning.specs.Meant.{objectsOn, objectsIn, setsOf, valuesOn, pageAt, downOf}
 use Rattle.message_meaning.specs.Kinds.{down-16, down-17, down-18, down-19, down-20, down-21, down-22, down-23, sets-at}
@@ -66,7 +66,7 @@ or-more : {G : Type 0} (n k : ℕ) → n ≤ k → (k ≡ n → G) → (suc n �
 or-more n k l f g = byEq k n (λ e. f (eqb-yes k n e)) (λ e. g (omega (arith, eqb-no k n e)))
 
 -- the kinds that a station takes
-by-kind : {G : Type 0} (k : ℕ) → 16 ≤ k → k ≤ 23 → (k ≡ 16 → G) → (k ≡ 17 → G) → (k ≡ 18 → G) → (k ≡ 19 → G) → (k ≡ 20 → G) → (k ≡ 21 → G) → (k ≡ 22 → G) → (k ≡ 23 → G) → G
+pub by-kind : {G : Type 0} (k : ℕ) → 16 ≤ k → k ≤ 23 → (k ≡ 16 → G) → (k ≡ 17 → G) → (k ≡ 18 → G) → (k ≡ 19 → G) → (k ≡ 20 → G) → (k ≡ 21 → G) → (k ≡ 22 → G) → (k ≡ 23 → G) → G
 by-kind k from to f16 f17 f18 f19 f20 f21 f22 f23 =
     or-more 16 k from f16
     (λ l. or-more 17 k l f17
@@ -185,7 +185,7 @@ module _ {i : ℕ} {s : List ℕ} {m : Station} (h : Is i s m) where
       either false b = byEq (b / 8) p (λ e. rw e (tb-zero (b % 8))) (λ e. rw e)
 
   written-lt : (p t : ℕ) → cond (liveB s t) (writtenSet s p) 0 < 256
-  written-lt p t = byB (liveB s t) (λ e. rw e (h .bytes (6388 + p))) (λ e. rw e (omega arith))
+  written-lt p t = byB (liveB s t) (λ e. rw e (h .bytes (writtenSetFrom + p))) (λ e. rw e (omega arith))
 
   -- "if it is open, the whole lock becomes locks on those objects"
   loosened-is : (p t : ℕ) → p < 32 → Is i (cond (liveB s t && hasBit (whole s) p) (loosenB p s) s) (cond (live m t && m .wl p) (loosen p (writtenOn p t m) m) m)
@@ -205,13 +205,13 @@ written-set-read : {i : ℕ} {s : List ℕ} {m : Station} → Is i s m → Sound
 written-set-read {i} {s} {m} h q p t l n lt kinds ok =
     let x = cond (liveB s t) (writtenSet s p) 0 in
     rw (station-at h)
-    (subst (λ (f : ℕ → Bool). Reads kinds i 112 (upMessage 8 i p 0 t 0 x) (Line.WrittenSet p t f)) (written-is h p t l)
+    (subst (λ (f : ℕ → Bool). Reads kinds i messageLength (upMessage 8 i p 0 t 0 x) (Line.WrittenSet p t f)) (written-is h p t l)
     (written-set-sent kinds ok i (q .own) p t x l n lt (written-lt h p t)))
 
 -- A CALLBACK
 
 -- there are 32 sets: none names an object past the last page
-pub sets-named : (x : List ℕ) → objectsIn (setsOf x) ≡ named (setsAt x 16)
+pub sets-named : (x : List ℕ) → objectsIn (setsOf x) ≡ named (setsAt x setsFrom)
 sets-named x = fun-ext (λ a. byB (ltb (a / 8) 32) (λ e. rw e) (λ e. rw (e, sets-at x (a / 8), e) (tb-zero (a % 8))))
 
 -- nothing was sent before
@@ -255,8 +255,8 @@ module _ {i : ℕ} {s : List ℕ} {m : Station} (h : Is i s m) (q : Sound i m) (
       let f = a .callback e in
       let r = requesterOf x in
       let t = transactionOf x in
-      let y = setsAt x 16 in
-      let c = sets-bytes x 16 b in
+      let y = setsAt x setsFrom in
+      let c = sets-bytes x setsFrom b in
       rw (down-20 x e, sets-named x, station-at h)
       (cond-rel (Means i) (inUseB y s) (inUse (named y) m) (inUse-at h y c)
       (record {

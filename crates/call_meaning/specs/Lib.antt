@@ -4,6 +4,8 @@ pub mod Callbacks
 pub mod Valid
 pub mod Owner
 pub mod Delivery
+pub mod Names
 pub mod Commit
 pub mod Buffers
 pub mod Calls
+pub mod Stays

@@ -17,6 +17,7 @@ use Rattle.station_answer.specs.declared.Answer.{Answer}
 use Rattle.station_answer.specs.declared.Answer.the-variants.{Refused, Begun, Value, Waits, Written, Committed, Aborted, Purged, Nothing}
 use Rattle.station_answer.specs.Did.{Did}
 use Rattle.station_meaning.specs.Meant.{Is}
+use Rattle.message.specs.Layout.{messageLength}
 
 -- "Where an answer is an enum, the promises use a definition that gives this paper's number and values for each of its cases."
 abbrev pub answerOf : Answer → Line.Answer
@@ -39,7 +40,7 @@ pub record Sound (i : ℕ) (m : Station) : Type 0 where
 
 -- station i's message m is read by every server as u
 abbrev pub ReadAs : ℕ → List ℕ → Up → Type 0
-ReadAs i m u = (kinds : List ℕ) → kindsOk kinds ≡ true → Reads kinds i 112 m u
+ReadAs i m u = (kinds : List ℕ) → kindsOk kinds ≡ true → Reads kinds i messageLength m u
 
 -- each is read as the one beside it
 abbrev pub AllRead : ℕ → List (List ℕ) → List Up → Type 0

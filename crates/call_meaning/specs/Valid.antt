@@ -1,86 +1,171 @@
--- Number 1 of a station's state: a state that passes means a sound station, a state that means one passes; and a fresh one.
-use Prim.Native.Nat.{ℕ, zero, suc, _≤_, _<_, _%_}
+-- Number 1 of a station's state: a state that passes means a station that fits, a state that means one passes; and a fresh one.
+use Prim.Native.Nat.{ℕ, zero, suc, _≤_, _<_, _/_, _%_, _^_}
 use mathlib.Core.Path.{_≡_, refl, sym, ap, subst, _∙_, fun-ext}
 use mathlib.Core.Bool.{Bool, true, false, not, _&&_, _||_, false≢true}
 use mathlib.Core.List.{List}
 use mathlib.Core.Logic.{_≢_}
 use native.Mathlib.Omega.{arith}
-use lib.Dec.{eqb, leb}
+use lib.Dec.{eqb, ltb}
 use lib.ListN.{length, getD, set, replicate, length-replicate}
-use borrow.Author.Tests.{eq-eqb, ne-eqb, le-leb, not-false, not-true}
+use borrow.Author.Tests.{eqb-true, eqb-false, eq-eqb, ne-eqb, le-leb, not-false, not-true}
 use Rattle.lists.specs.Tests.{and-l, and-r}
-use Rattle.sets.specs.Base.{Val, noneAt, nowhere, zeros}
-use Rattle.sets.specs.Laws.{byEq, or-yes}
+use Rattle.sets.specs.Base.{Val, none, has, noneAt, nowhere, zeros}
+use Rattle.sets.specs.Laws.{byB, byEq, eqb-same, eqb-yes, eqb-no, ltb-yes, ltb-no}
 use Rattle.cells.specs.Num.{AllBytes}
-use Rattle.cells.specs.Bits.{tb, tb-zero}
-use Rattle.cells.specs.Cells.{Cells, view, view-zero, upd3, Holds, begin, put8, get8}
-use Rattle.line.specs.Station.{Station, Kept, NotKept, KeptCall, setCached, setUnav, setRd, setWr, setOl, setWl, freshStation}
+use Rattle.cells.specs.Bits.{tb, tb-zero, tb-test, tb-tells}
+use Rattle.cells.specs.Cells.{Cells, view, view-zero, view-col, view-row, cell-lt, upd3, Holds, begin, put8, get8, get32}
+use Rattle.line.specs.Messages.{locking}
+use Rattle.line.specs.Station.{Station, Wait, ForRead, waiting, forRead, Kept, NotKept, KeptCall, setCached, setUnav, setRd, setWr, setOl, setWl, freshStation}
 use Rattle.line.specs.Station as Model
-use Rattle.station_state.specs.Layout.{stateLength, keptOf, number, station, kind, opened, wait, namedFrom}
-use Rattle.station_state.specs.Valid.{fieldsOk, ownKept, valid, freshState}
-use Rattle.station_state.specs.Facts.{Ranged, valid-ranged}
+use Rattle.line.specs.Fit.{Works, Locked, KeptFits, Callbacks, FitStation}
+use Rattle.line.specs.FitCalls.{fit-new}
+use Rattle.station_state.specs.Layout.{keptFrom, wholeFrom, readSetFrom, writtenSetFrom, locksFrom, stationFrom, kindFrom, openFrom, waitFrom, keptCell, wholeCell, locksCell, stationCell, kindCell, openCell, waitCell, table, stateLength, keptOf, number, whole, station, kind, opened, wait, address, namedFrom, readValue, writtenValue, hasBit, member, noneIn}
+use Rattle.station_state.specs.Valid.{fieldsOk, ownKept, closedOk, firstOk, worksOk, locklessOk, holdsOk, valid, freshState}
+use Rattle.station_state.specs.Facts.{Lockless, Ranged, valid-ranged}
+use Rattle.station_state.specs.Sets.{none-member, members-none, none-numbers, numbers-none}
 use Rattle.station_callbacks.specs.Callbacks.{setsAt}
 use Rattle.station_answer.specs.Did.{Did}
-use Rattle.station_meaning.specs.Meant.{table, within, valueIf, keptIf, meantC, meant, Is}
+use Rattle.station_meaning.specs.Meant.{within, valueIf, keptIf, meantC, meant, Is, start}
 use Rattle.station_meaning.specs.Named.{named}
-use Rattle.station_meaning.specs.Tests.{station-at, kind-at, number-at, open-at, open-le, wait-le, kept-at}
+use Rattle.station_meaning.specs.Tests.{has-if, station-at, kind-at, number-at, open-at, open-le, wait-le, address-lt, wait-is, waiting-at, forRead-at, whole-at, lock-at, read-at, wrote-at, kept-at, read-high, wrote-high}
 use Rattle.call_meaning.specs.Relation.{Sound, Means}
 
 -- A STATE THAT PASSES
 
--- "A station numbers its transactions from 1"
-valid-counted : (s : List ℕ) → valid s ≡ true → (eqb (opened s) 0 || not (eqb (number s) 0)) ≡ true
-unfolding valid fieldsOk
-valid-counted s h =
-    let front = eqb (length s) stateLength && leb (station s) 7 in
-    let three = leb (kind s) 1 && leb (opened s) 1 && leb (wait s) 3 in
-    let counted = eqb (opened s) 0 || not (eqb (number s) 0) in
-    and-r three counted (and-l (three && counted) (not (ownKept s)) (and-r front (three && counted && not (ownKept s)) h))
-
--- "a kept callback from the station itself"
-valid-others : (s : List ℕ) → valid s ≡ true → eqb (keptOf s (station s)) 0 ≡ true
-unfolding valid ownKept
-valid-others s h =
-    let front = eqb (length s) stateLength && leb (station s) 7 in
-    not-false (eqb (keptOf s (station s)) 0)
-    (not-true (not (eqb (keptOf s (station s)) 0)) (and-r (fieldsOk s) (not (ownKept s)) (and-r front (fieldsOk s && not (ownKept s)) h)))
-
 valid-is : (s : List ℕ) → AllBytes s → Ranged s → Is (station s) s (meant s)
 valid-is s b r =
     let h : Holds table 0 s s (view table 0 s) = begin table 0 s (omega (arith, r .size)) b in
-    let flag : getD s 6710 0 ≡ view table 0 s 16 0 0 = get8 h 16 0 0 6710 refl refl (omega arith) (omega arith) in
-    let out : getD s 6711 0 ≡ view table 0 s 17 0 0 = get8 h 17 0 0 6711 refl refl (omega arith) (omega arith) in
+    let flag : getD s openFrom 0 ≡ view table 0 s openCell 0 0 = get8 h openCell 0 0 openFrom refl refl (omega arith) (omega arith) in
+    let out : getD s waitFrom 0 ≡ view table 0 s waitCell 0 0 = get8 h waitCell 0 0 waitFrom refl refl (omega arith) (omega arith) in
     record {
       len = r .size;
       bytes = b;
-      own = sym (get8 h 14 0 0 6708 refl refl (omega arith) (omega arith));
+      own = sym (get8 h stationCell 0 0 stationFrom refl refl (omega arith) (omega arith));
       open-flag = rw (← flag) (r .open-fits);
       wait-flag = rw (← out) (r .wait-fits);
       is = refl;
     }
 
-valid-sound : (s : List ℕ) → valid s ≡ true → Ranged s → Is (station s) s (meant s) → Sound (station s) (meant s)
-valid-sound s v r h =
-    record {
-      own = omega (arith, r .station-fits);
-      kind-is = rw (← kind-at h) (r .kind-fits);
-      counted = counted;
-      not-own = kept-at h (station s) (omega (arith, r .station-fits)) ∙ rw (valid-others s v);
-    }
-  where
-    counted : (meant s) .opened ≡ true → (meant s) .num ≢ 0
-    counted e n =
-        or-yes (eqb (opened s) 0) (not (eqb (number s) 0)) (valid-counted s v)
-        (λ z. false≢true (sym (ap not z) ∙ open-at h ∙ e))
-        (λ z. false≢true (sym (ap not (eq-eqb (number s) 0 (number-at h ∙ n))) ∙ z))
+-- below 256 by its bytes, from there on nothing
+by-address : {G : ℕ → Type 0} → ((a : ℕ) → a < 256 → G a) → ((a : ℕ) → 256 ≤ a → G a) → (a : ℕ) → G a
+by-address f g a = byB (ltb a 256) (λ e. f a (ltb-yes a 256 e)) (λ e. g a (ltb-no a 256 e))
 
-pub valid-means : (s : List ℕ) → AllBytes s → valid s ≡ true → Is (station s) s (meant s) × Sound (station s) (meant s)
+-- a value that is there stands in its set
+value-none : (b : Bool) (v : ℕ) → b ≡ false → valueIf b v ≡ none
+value-none b v e = rw e refl
+
+none-bit : (k : ℕ) → hasBit 0 k ≡ false
+unfolding hasBit
+none-bit k = refl
+
+module _ {i : ℕ} {s : List ℕ} {m : Station} (h : Is i s m) where
+  lock-high : (a : ℕ) → 256 ≤ a → m .ol a ≡ false
+  lock-high a l = sym (ap (λ (n : Station). n .ol a) (h .is)) ∙ rw (view-col table 0 s locksCell 0 (a / 8) (omega arith), tb-zero (a % 8))
+
+  kept-high : (r : ℕ) → 8 ≤ r → m .kept r ≡ NotKept
+  kept-high r l = sym (ap (λ (n : Station). n .kept r) (h .is)) ∙ rw (view-row table 0 s keptCell r 0 (omega arith))
+
+  whole-lt : whole s < 2 ^ 32
+  whole-lt = rw (get32 (start h) wholeCell 0 0 wholeFrom refl refl (omega arith) (omega arith)) (cell-lt (start h) wholeCell 0 0)
+
+  -- the two tests of the bytes are the model's
+  closed-at : m .opened ≡ false → opened s ≡ 0
+  closed-at e = eqb-true (opened s) 0 (not-false (eqb (opened s) 0) (open-at h ∙ e))
+
+  open-not : m .opened ≡ true → opened s ≢ 0
+  open-not e = eqb-false (opened s) 0 (not-true (eqb (opened s) 0) (open-at h ∙ e))
+
+  holds-at : (eqb (kind s) 0 && not (eqb (opened s) 0)) ≡ (locking (m .kind) && m .opened)
+  holds-at = rw (kind-at h, open-at h)
+
+  module _ (r : Ranged s) where
+    sound-of : Sound i m
+    sound-of =
+        record {
+          own = omega (arith, r .station-fits, station-at h);
+          kind-is = rw (← kind-at h) (r .kind-fits);
+          counted = λ e n. r .numbered (open-not e) (number-at h ∙ n);
+          not-own = rw (← station-at h) (kept-at h (station s) (omega (arith, r .station-fits)) ∙ rw (r .not-own));
+        }
+
+    -- a read that is out
+    read-out : (a : ℕ) → m .wait ≡ ForRead a → (m .rd a ≡ none) × (m .wr a ≡ none)
+    read-out a e =
+        let both : (eqb (wait s) 1 && eqb a (address s)) ≡ true = forRead-at h a ∙ ap (λ (w : Wait). forRead w a) e ∙ eqb-same a in
+        let out : wait s ≡ 1 = eqb-true (wait s) 1 (and-l (eqb (wait s) 1) _ both) in
+        let here : a ≡ address s = eqb-true a (address s) (and-r (eqb (wait s) 1) _ both) in
+        let first = r .first (λ z. omega (arith, r .closed z .nothing-out, out)) out in
+        let small : a < 256 = omega (arith, here, address-lt h) in
+        (read-at h a small ∙ value-none (member s readSetFrom a) (readValue s a) (rw here (first .0)), wrote-at h a small ∙ value-none (member s writtenSetFrom a) (writtenValue s a) (rw here (first .1)))
+
+    works-of : Works (m .opened) (m .num) (m .rd) (m .wr) (m .wait)
+    works-of =
+        record {
+          numbered = sound-of .counted;
+          idle = λ e. wait-is h ∙ rw (r .closed (closed-at e) .nothing-out) refl;
+          unread = λ e.
+              by-address (λ a l. read-at h a l ∙ value-none _ _ (none-member s (h .bytes) readSetFrom (r .closed (closed-at e) .nothing-read) a l)) (read-high h);
+          unwritten = λ e.
+              by-address (λ a l. wrote-at h a l ∙ value-none _ _ (none-member s (h .bytes) writtenSetFrom (r .closed (closed-at e) .nothing-written) a l)) (wrote-high h);
+          first = read-out;
+        }
+
+    -- whoever holds something is an open locking station
+    holding : {b : Bool} → ((locking (m .kind) && m .opened) ≡ false → b ≡ false) → b ≡ true → (locking (m .kind) && m .opened) ≡ true
+    holding {b} f e = byB (locking (m .kind) && m .opened) (λ t. t) (λ t. absurd (false≢true (sym (f t) ∙ e)))
+
+    lockless-of : (locking (m .kind) && m .opened) ≡ false → Lockless s
+    lockless-of e = r .lockless (holds-at ∙ e)
+
+    object-free : (a : ℕ) → (locking (m .kind) && m .opened) ≡ false → m .ol a ≡ false
+    object-free a e = by-address {G = λ a. m .ol a ≡ false} (λ a l. sym (lock-at h a l) ∙ none-member s (h .bytes) locksFrom (lockless-of e .no-object) a l) lock-high a
+
+    page-free : (p : ℕ) → (locking (m .kind) && m .opened) ≡ false → m .wl p ≡ false
+    page-free p e = sym (whole-at h p) ∙ rw (lockless-of e .no-page) (none-bit p)
+
+    locked-of : Locked (m .kind) (m .opened) (m .ol) (m .wl)
+    locked-of =
+        record {
+          object-opened = λ a e. and-r (locking (m .kind)) _ (holding (object-free a) e);
+          object-locks = λ a e. and-l (locking (m .kind)) _ (holding (object-free a) e);
+          whole-opened = λ p e. and-r (locking (m .kind)) _ (holding (page-free p) e);
+          whole-locks = λ p e. and-l (locking (m .kind)) _ (holding (page-free p) e);
+        }
+
+    -- a callback that is kept
+    unkept : (q : ℕ) → q < 8 → (locking (m .kind) && m .opened) ≡ false → keptOf s q ≡ 0
+    unkept q l e = none-numbers s keptFrom (lockless-of e .nothing-kept) q l
+
+    kept-fits : (q : ℕ) → q < 8 → KeptFits (m .kind) (m .kept q)
+    kept-fits q l =
+        byEq (keptOf s q) 0 (λ e. rw (kept-at h q l, e) tt)
+        (λ e.
+        let n : keptOf s q ≢ 0 = eqb-no (keptOf s q) 0 e in
+        rw (kept-at h q l, e)
+        (byB (locking (m .kind) && m .opened) (λ t. (and-l (locking (m .kind)) _ t, n)) (λ t. absurd (n (unkept q l t)))))
+
+    callbacks-of : Callbacks i (m .kind) (m .opened) (m .kept)
+    callbacks-of =
+        record {
+          not-own = sound-of .not-own;
+          done = λ e q l. kept-at h q l ∙ rw (unkept q l (rw e (and-false (locking (m .kind)))));
+          fit = λ q. byB (ltb q 8) (λ e. kept-fits q (ltb-yes q 8 e)) (λ e. rw (kept-high q (ltb-no q 8 e)) tt);
+        }
+      where
+        and-false : (b : Bool) → (b && false) ≡ false
+        and-false true = refl
+        and-false false = refl
+
+    fit-of : FitStation i m
+    fit-of = record { works = works-of; locked = locked-of; callbacks = callbacks-of }
+
+pub valid-means : (s : List ℕ) → AllBytes s → valid s ≡ true → Is (station s) s (meant s) × Sound (station s) (meant s) × FitStation (station s) (meant s)
 valid-means s b v =
     let r = valid-ranged s v in
     let h = valid-is s b r in
-    (h, valid-sound s v r h)
+    (h, sound-of h r, fit-of h r)
 
--- A STATE THAT MEANS A SOUND STATION
+-- A STATE THAT MEANS A STATION THAT FITS
 
 abbrev isKept : Kept → Bool
 isKept NotKept = false
@@ -89,32 +174,101 @@ isKept (KeptCall t x) = true
 is-kept : (t : ℕ) (x : ℕ → Bool) → not (eqb t 0) ≡ isKept (keptIf t x)
 is-kept t x = byEq t 0 (λ e. rw e) (λ e. rw e)
 
-pub valid-kept : {i : ℕ} {s : List ℕ} {m : Station} → Is i s m → Sound i m → valid s ≡ true
-unfolding valid fieldsOk ownKept
-valid-kept {i} {s} {m} h q =
-    rw (
-      eq-eqb (length s) stateLength (h .len),
-      le-leb (station s) 7 (omega (arith, station-at h, q .own)),
-      le-leb (kind s) 1 (rw (kind-at h) (q .kind-is)),
-      le-leb (opened s) 1 (open-le h),
-      le-leb (wait s) 3 (wait-le h),
-      counted,
-      others,
-    )
-  where
-    counted : (eqb (opened s) 0 || not (eqb (number s) 0)) ≡ true
-    counted =
-        byEq (opened s) 0 (λ e. rw e)
-        (λ e. rw (e, ne-eqb (number s) 0 (λ z. q .counted (sym (open-at h) ∙ ap not e) (sym (number-at h) ∙ z))))
+member-of : (b : Bool) (v : ℕ) {x : Val} → x ≡ valueIf b v → x ≡ none → b ≡ false
+member-of b v e f = sym (has-if b v) ∙ ap has (sym e ∙ f)
 
-    others : not (eqb (keptOf s (station s)) 0) ≡ false
-    others =
-        rw (station-at h)
-        (is-kept (keptOf s i) (named (setsAt s (namedFrom i))) ∙ ap isKept (sym (kept-at h i (q .own))) ∙ ap isKept (q .not-own))
+not-kept : (k : Kept) (kind : ℕ) → KeptFits kind k → locking kind ≡ false → isKept k ≡ false
+not-kept NotKept kind f e = refl
+not-kept (KeptCall t x) kind f e = absurd (false≢true (sym e ∙ f .0))
+
+module _ {i : ℕ} {s : List ℕ} {m : Station} (h : Is i s m) (q : Sound i m) (f : FitStation i m) where
+  unread-none : m .opened ≡ false → noneIn s readSetFrom ≡ true
+  unread-none e = members-none s (h .bytes) readSetFrom (λ a l. member-of _ _ (read-at h a l) (f .works .unread e a))
+
+  unwritten-none : m .opened ≡ false → noneIn s writtenSetFrom ≡ true
+  unwritten-none e = members-none s (h .bytes) writtenSetFrom (λ a l. member-of _ _ (wrote-at h a l) (f .works .unwritten e a))
+
+  works-ok : worksOk s ≡ true
+  unfolding worksOk closedOk firstOk
+  works-ok =
+      byEq (opened s) 0
+      (λ e.
+      let shut : m .opened ≡ false = sym (open-at h) ∙ rw e refl in
+      let idle : eqb (wait s) 0 ≡ true = not-false (eqb (wait s) 0) (waiting-at h ∙ ap waiting (f .works .idle shut)) in
+      rw (e, idle, unread-none shut, unwritten-none shut))
+      (λ e.
+      byEq (wait s) 1
+      (λ w.
+      let k = eqb-yes (wait s) 1 w in
+      let out : m .wait ≡ ForRead (address s) = wait-is h ∙ rw k refl in
+      let u = f .works .first (address s) out in
+      let l = address-lt h in
+      let read : member s readSetFrom (address s) ≡ false = member-of _ _ (read-at h (address s) l) (u .0) in
+      let written : member s writtenSetFrom (address s) ≡ false = member-of _ _ (wrote-at h (address s) l) (u .1) in
+      rw (e, w, read, written))
+      (λ w. rw (e, w)))
+
+  module _ (e : (locking (m .kind) && m .opened) ≡ false) where
+    neither : {b : Bool} → (b ≡ true → m .opened ≡ true) → (b ≡ true → locking (m .kind) ≡ true) → b ≡ false
+    neither {b} o k = byB b (λ t. absurd (false≢true (sym e ∙ rw (k t, o t) refl))) (λ t. t)
+
+    no-page : whole s ≡ 0
+    unfolding hasBit
+    no-page =
+        tb-tells 32 (whole s) 0 (whole-lt h) (omega arith)
+        (λ p l. sym (tb-test p (whole s)) ∙ whole-at h p ∙ neither (f .locked .whole-opened p) (f .locked .whole-locks p) ∙ sym (tb-zero p))
+
+    no-object : noneIn s locksFrom ≡ true
+    no-object = members-none s (h .bytes) locksFrom (λ a l. lock-at h a l ∙ neither (f .locked .object-opened a) (f .locked .object-locks a))
+
+    no-kept : (r : ℕ) → r < 8 → isKept (m .kept r) ≡ false
+    no-kept r l =
+        byB (m .opened) (λ o. not-kept (m .kept r) (m .kind) (f .callbacks .fit r) (validates (locking (m .kind)) (rw o at e))) (λ o. ap isKept (f .callbacks .done o r l))
+      where
+        validates : (b : Bool) → (b && true) ≡ false → b ≡ false
+        validates true z = z
+        validates false z = refl
+
+    nothing-kept : noneIn s keptFrom ≡ true
+    nothing-kept =
+        numbers-none s keptFrom
+        (λ r l. eqb-true (keptOf s r) 0 (not-false (eqb (keptOf s r) 0) (is-kept (keptOf s r) (named (setsAt s (namedFrom r))) ∙ ap isKept (sym (kept-at h r l)) ∙ no-kept r l)))
+
+  holds-ok : holdsOk s ≡ true
+  unfolding holdsOk locklessOk
+  holds-ok =
+      byB (locking (m .kind) && m .opened) (λ e. rw (holds-at h, e))
+      (λ e. rw (holds-at h, e, eq-eqb (whole s) 0 (no-page e), no-object e, nothing-kept e))
+
+  -- number 1 lets it pass
+  pub valid-kept : valid s ≡ true
+  unfolding valid fieldsOk ownKept
+  valid-kept =
+      rw (
+        eq-eqb (length s) stateLength (h .len),
+        le-leb (station s) 7 (omega (arith, station-at h, q .own)),
+        le-leb (kind s) 1 (rw (kind-at h) (q .kind-is)),
+        le-leb (opened s) 1 (open-le h),
+        le-leb (wait s) 3 (wait-le h),
+        counted,
+        others,
+        works-ok,
+        holds-ok,
+      )
+    where
+      counted : (eqb (opened s) 0 || not (eqb (number s) 0)) ≡ true
+      counted =
+          byEq (opened s) 0 (λ e. rw e)
+          (λ e. rw (e, ne-eqb (number s) 0 (λ z. q .counted (sym (open-at h) ∙ ap not e) (sym (number-at h) ∙ z))))
+
+      others : not (eqb (keptOf s (station s)) 0) ≡ false
+      others =
+          rw (station-at h)
+          (is-kept (keptOf s i) (named (setsAt s (namedFrom i))) ∙ ap isKept (sym (kept-at h i (q .own))) ∙ ap isKept (q .not-own))
 
 -- so validity is kept by every call that means one of the model's
-pub means-valid : {i : ℕ} {b : Did} {d : Model.Did} → Means i b d → valid (b .state) ≡ true
-means-valid h = valid-kept (h .state) (h .sound)
+pub means-valid : {i : ℕ} {b : Did} {d : Model.Did} → Means i b d → FitStation i (d .station) → valid (b .state) ≡ true
+means-valid h f = valid-kept (h .state) (h .sound) f
 
 -- A FRESH STATE
 
@@ -127,7 +281,7 @@ abbrev noCells : Cells
 noCells k i j = 0
 
 -- all 0 but for station and kind
-fresh-cells : (i k : ℕ) → meantC (upd3 (upd3 noCells 14 0 0 i) 15 0 0 k) ≡ freshStation k
+fresh-cells : (i k : ℕ) → meantC (upd3 (upd3 noCells stationCell 0 0 i) kindCell 0 0 k) ≡ freshStation k
 fresh-cells i k =
     let pages : _≡_ {A = ℕ → Bool} (tb 0) nowhere = fun-ext tb-zero in
     let objects : _≡_ {A = ℕ → Bool} (within zeros) nowhere = fun-ext (λ a. tb-zero (a % 8)) in
@@ -138,21 +292,21 @@ fresh-cells i k =
     (pages t)
 
 -- n is the state's length: a variable, so that nothing computes the zeros
-fresh-is : (n i k : ℕ) → n ≡ stateLength → i < 8 → k ≤ 1 → Is i (set (set (replicate n 0) 6708 i) 6709 k) (freshStation k)
+fresh-is : (n i k : ℕ) → n ≡ stateLength → i < 8 → k ≤ 1 → Is i (set (set (replicate n 0) stationFrom i) kindFrom k) (freshStation k)
 fresh-is n i k e l q =
     let z : List ℕ = replicate n 0 in
     let size : length z ≡ stateLength = length-replicate n 0 ∙ e in
     let blank : Holds table 0 z z noCells =
     subst (Holds table 0 z z) (fun-ext (λ r. fun-ext (λ x. fun-ext (λ y. view-zero table 0 z (zeros-at n) r x y))))
     (begin table 0 z (omega (arith, size)) (λ j. rw (zeros-at n j) (omega arith))) in
-    let h = put8 (put8 blank 14 0 0 i 6708 refl refl (omega arith) (omega arith) (omega arith)) 15 0 0 k 6709 refl refl (omega arith) (omega arith) (omega arith) in
-    let cell : (r : ℕ) → view table 0 (set (set z 6708 i) 6709 k) r 0 0 ≡ upd3 (upd3 noCells 14 0 0 i) 15 0 0 k r 0 0 = λ r. ap (λ (D : Cells). D r 0 0) (h .is) in
+    let h = put8 (put8 blank stationCell 0 0 i stationFrom refl refl (omega arith) (omega arith) (omega arith)) kindCell 0 0 k kindFrom refl refl (omega arith) (omega arith) (omega arith) in
+    let cell : (r : ℕ) → view table 0 (set (set z stationFrom i) kindFrom k) r 0 0 ≡ upd3 (upd3 noCells stationCell 0 0 i) kindCell 0 0 k r 0 0 = λ r. ap (λ (D : Cells). D r 0 0) (h .is) in
     record {
       len = h .len ∙ size;
       bytes = h .bytes;
-      own = cell 14;
-      open-flag = rw (cell 16) (omega arith);
-      wait-flag = rw (cell 17) (omega arith);
+      own = cell stationCell;
+      open-flag = rw (cell openCell) (omega arith);
+      wait-flag = rw (cell waitCell) (omega arith);
       is = ap meantC (h .is) ∙ fresh-cells i k;
     }
 
@@ -164,4 +318,4 @@ pub fresh-sound : (i k : ℕ) → i < 8 → k ≤ 1 → Sound i (freshStation k)
 fresh-sound i k l q = record { own = l; kind-is = q; counted = λ e. absurd (false≢true e); not-own = refl }
 
 pub fresh-valid : (i k : ℕ) → i < 8 → k ≤ 1 → valid (freshState i k) ≡ true
-fresh-valid i k l q = valid-kept (fresh-means i k l q) (fresh-sound i k l q)
+fresh-valid i k l q = valid-kept (fresh-means i k l q) (fresh-sound i k l q) (fit-new i k)

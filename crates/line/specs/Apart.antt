@@ -72,7 +72,7 @@ pub or-r : (a b : Bool) → (a || b) ≡ false → b ≡ false
 or-r true b e = absurd (false≢true (sym e))
 or-r false b e = e
 
-not-no : (b : Bool) → not b ≡ false → b ≡ true
+pub not-no : (b : Bool) → not b ≡ false → b ≡ true
 not-no true e = refl
 not-no false e = absurd (false≢true (sym e))
 
@@ -84,9 +84,6 @@ other-no : (x h i : ℕ) → other x i ≡ false → x ≡ suc h → h ≡ i
 other-no x h i o e =
     byEq x 0 (λ u. absurd (omega (arith, eqb-yes x 0 u)))
     (λ u. byEq x (suc i) (λ v. omega (arith, eqb-yes x (suc i) v)) (λ v. absurd (false≢true (sym (rw (u, v) at o)))))
-
-other-held : (x i : ℕ) → other x i ≡ true → x ≢ 0
-other-held x i o e = both (eqb x 0) (rw e (eqb-same 0)) (not-yes (eqb x 0) (and-l (not (eqb x 0)) _ o))
 
 -- a lock left by `finish` was there, and is not the finished station's
 left-lock : (x i h : ℕ) → cond (eqb x (suc i)) 0 x ≡ suc h → (x ≡ suc h) × (eqb h i ≡ false)
@@ -391,7 +388,7 @@ atomic-apart =
     record {
       aborts = λ i c x b t k. abort-apart i c x k;
       asks = λ i h p x b t u k.
-          record { locks = asked-locks (k .locks) p (other-held (x .server .wl p) i (and-r (wantsPage (x .server) i p) _ t)); aged = k .aged; waiting = k .waiting };
+          record { locks = asked-locks (k .locks) p (λ z. omega (arith, z, t .held)); aged = k .aged; waiting = k .waiting };
       reads = λ i x b w c k. leave-apart i x k;
       calls = λ i x b t u w c k.
           record {
@@ -429,15 +426,15 @@ good-number s i t e =
     record { next = ltb-false t (s .latest i) (u .0); unended = λ q. rw q at (u .1); idle = u .3 }
 
 module _ (i t : ℕ) (x : Serving) where
-  noticed-open : badNumber (x .server) i t ≡ false → (notice i t x) .server .fin i ≡ false
+  pub noticed-open : badNumber (x .server) i t ≡ false → (notice i t x) .server .fin i ≡ false
   unfolding notice
   noticed-open e = byEq t (x .server .latest i) (λ q. rw q (good-number (x .server) i t e .unended q)) (λ q. rw (q, eqb-same i) refl)
 
-  noticed-kind : (notice i t x) .server .kind ≡ x .server .kind
+  pub noticed-kind : (notice i t x) .server .kind ≡ x .server .kind
   unfolding notice
   noticed-kind = byEq t (x .server .latest i) (λ q. rw q refl) (λ q. rw q refl)
 
-  noticed-queue : (notice i t x) .server .queue ≡ x .server .queue
+  pub noticed-queue : (notice i t x) .server .queue ≡ x .server .queue
   unfolding notice
   noticed-queue = byEq t (x .server .latest i) (λ q. rw q refl) (λ q. rw q refl)
 

@@ -207,7 +207,7 @@ atomic-total : (k : ℕ) → Atomic (λ x. total x ≤ k)
 atomic-total k =
     record {
       aborts = λ i c x b t h. let l = abort-total i c x b t in omega arith;
-      asks = λ i g p x b t u h. let l = ask-total i g p x b t u in omega arith;
+      asks = λ i g p x b t u h. let l = ask-total i g p x b (t .page) u in omega arith;
       reads = λ i x b w c h. let l = read-total i x b (ap isWant w) in omega arith;
       calls = λ i x b t u w c h. let l = call-total i x b t u in omega arith;
       objects = λ i x b w r h. let l = object-total i x b (ap isWant w) in omega arith;

@@ -269,8 +269,23 @@ staleCommit =
     ∷ serves 0 []
     ∷ []))
 
+-- 2's read of 8 waits, then 1's commit, which read 8; both go on when 0 ends
+unfoldable pub byArrival : Row
+byArrival =
+    row "The list is passed by arrival, not by station." line
+    (reads 1 0
+    ++ holdsWhole
+    ++ (answers (Owner 2 Begin) (Begun 1)
+    ∷ sends (Owner 2 (Read 8)) Waits (readRequest 2 1 0 1 ∷ [])
+    ∷ sends (Owner 1 Commits) Waits (commit 1 1 (only 1) noVersions (recorded 0 1 1 1 ((8, 0) ∷ []) []) ∷ [])
+    ∷ serves 2 (deescalate 0 1 1 ∷ [])
+    ∷ serves 1 []
+    ∷ sends (Owner 0 Aborts) (AbortedFor 0) (abort 0 1 ∷ [])
+    ∷ step (ServerTakes 0) Nothing (page 2 1 0 1 0 0 noValues ∷ committed 1 1 1 ∷ []) (recorded 1 1 1 1 ((8, 0) ∷ []) [] ∷ [])
+    ∷ []))
+
 unfoldable pub table : List Row
-table = C1 ∷ C2 ∷ C3 ∷ C4 ∷ C5 ∷ C6 ∷ C7 ∷ C8 ∷ C9 ∷ lastCommit ∷ spent ∷ turnedBack ∷ requestOut ∷ pageUnderWay ∷ staleCommit ∷ []
+table = C1 ∷ C2 ∷ C3 ∷ C4 ∷ C5 ∷ C6 ∷ C7 ∷ C8 ∷ C9 ∷ lastCommit ∷ spent ∷ turnedBack ∷ requestOut ∷ pageUnderWay ∷ staleCommit ∷ byArrival ∷ []
 
 C1-holds : Holds C1
 unfolding Holds seen C1
@@ -332,6 +347,10 @@ staleCommit-holds : Holds staleCommit
 unfolding Holds seen staleCommit
 staleCommit-holds = refl
 
+byArrival-holds : Holds byArrival
+unfolding Holds seen byArrival
+byArrival-holds = refl
+
 pub table-holds : AllHold table
 unfolding AllHold table
-table-holds = (C1-holds, (C2-holds, (C3-holds, (C4-holds, (C5-holds, (C6-holds, (C7-holds, (C8-holds, (C9-holds, (lastCommit-holds, (spent-holds, (turnedBack-holds, (requestOut-holds, (pageUnderWay-holds, (staleCommit-holds, tt)))))))))))))))
+table-holds = (C1-holds, (C2-holds, (C3-holds, (C4-holds, (C5-holds, (C6-holds, (C7-holds, (C8-holds, (C9-holds, (lastCommit-holds, (spent-holds, (turnedBack-holds, (requestOut-holds, (pageUnderWay-holds, (staleCommit-holds, (byArrival-holds, tt))))))))))))))))

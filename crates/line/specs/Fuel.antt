@@ -193,7 +193,7 @@ unfolding installWaiter
 atomic-falls x =
     record {
       aborts = λ i c y b t h. let l = abort-less i c y b t in falls x y (abort i c y) h (omega arith);
-      asks = λ i g p y b t u h. falls x y (ask g p y) h (ask-less i g p y b t u);
+      asks = λ i g p y b t u h. falls x y (ask g p y) h (ask-less i g p y b (t .page) u);
       reads = λ i y b w c h. let l = read-less i y b (ap isWant w) in falls x y (serveRead i y) h (omega arith);
       calls = λ i y b t u w c h. falls x y (call i y) h (call-less i y b t u);
       objects = λ i y b w r h. let l = object-less i y b (ap isWant w) in falls x y (grantObject i y) h (omega arith);

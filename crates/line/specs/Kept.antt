@@ -21,7 +21,7 @@ abbrev pub KeepsOthers : ℕ → Did → Type 0
 KeepsOthers own d = d .station .kept own ≡ NotKept
 
 module _ (own : ℕ) where
-  all-kept : (n r : ℕ) (d : Did) → KeepsOthers own d → KeepsOthers own (doAllKept n r d)
+  pub all-kept : (n r : ℕ) (d : Did) → KeepsOthers own d → KeepsOthers own (doAllKept n r d)
   unfolding doAllKept
   all-kept zero r d e = e
   all-kept (suc n) r d e = all-kept n (suc r) (doKept r (d .station .kept r) d) (kept-stays own r (d .station .kept r) d e)

@@ -24,3 +24,8 @@ pub mod Counters
 pub mod Says
 pub mod Kept
 pub mod Ordered
+-- number 1 asks it, every call keeps it, and what is sent fits
+pub mod Fit
+pub mod FitServer
+pub mod FitCalls
+pub mod Turns

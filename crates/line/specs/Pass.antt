@@ -8,7 +8,7 @@ use lib.Dec.{eqb, ltb}
 use native.Mathlib.Omega.{arith}
 use Rattle.sets.specs.Base.{any}
 use Rattle.line.specs.Messages.{Up}
-use Rattle.line.specs.Server.{isWant, firstFrom, youngest, edges, lockedAt, locked, blockedAt, wants, waits, blocks, Server, Serving, Want, NoWant, WantRead, WantWrite, WantCommit, abort, ask, askFrom, holder, call, callOnce, serveRead, grantObject, grantPage, grant, hinders, installWaiter, blocked, shut, fault, allAnswered, afterCalls, proceed, gates, visit, pass, order, victim, moved, settle, fuel, accept, start, serverStep}
+use Rattle.line.specs.Server.{isWant, firstFrom, youngest, edges, lockedAt, locked, blockedAt, other, wants, wantsPage, waits, blocks, Server, Serving, Want, NoWant, WantRead, WantWrite, WantCommit, abort, ask, askFrom, holder, call, callOnce, serveRead, grantObject, grantPage, grant, hinders, installWaiter, blocked, shut, fault, allAnswered, afterCalls, proceed, gates, visit, pass, order, victim, moved, settle, fuel, accept, start, serverStep}
 use Rattle.line.specs.Messages.{pageOf, address}
 use Rattle.sets.specs.Laws.{byB, byEq, eqb-same, eqb-yes, any-ext, not-yes, and-l, and-r}
 use Rattle.sets.specs.Reach.{onCycle}
@@ -24,10 +24,15 @@ pub record Ready (i : ℕ) (x : Serving) : Type 0 where
   pub called : x .server .queue i .called ≡ true
   pub answered : allAnswered (x .server) i ≡ true
 
+-- a page that it wants is locked whole by another, station h
+pub record Shut (i h p : ℕ) (x : Serving) : Type 0 where
+  pub page : shut (x .server) i p ≡ true
+  pub held : x .server .wl p ≡ suc h
+
 -- P is kept by every action of the pass
 pub record Atomic (P : Serving → Type 0) : Type 0 where
   pub aborts : (i c : ℕ) (x : Serving) → i < 8 → waits (x .server) i ≡ true → P x → P (abort i c x)
-  pub asks : (i h p : ℕ) (x : Serving) → p < 32 → shut (x .server) i p ≡ true → x .server .asked p ≡ false → P x → P (ask h p x)
+  pub asks : (i h p : ℕ) (x : Serving) → p < 32 → Shut i h p x → x .server .asked p ≡ false → P x → P (ask h p x)
   pub reads : (i : ℕ) (x : Serving) → i < 8 → x .server .queue i .want ≡ WantRead → Clear i x → P x → P (serveRead i x)
   pub calls : (i : ℕ) (x : Serving) → i < 8 → waits (x .server) i ≡ true → x .server .queue i .called ≡ false → (x .server .queue i .want ≡ WantRead → ⊥) → Clear i x → P x → P (call i x)
   pub objects : (i : ℕ) (x : Serving) → i < 8 → x .server .queue i .want ≡ WantWrite → Ready i x → P x → P (grantObject i x)
@@ -95,6 +100,14 @@ module _ (i : ℕ) (x : Serving) where
   call-fault : fault ((call i x) .server) i ≡ fault (x .server) i
   call-fault = rw (call-last, call-ver, call-work i, call-locked) refl
 
+-- whoever is shut out is so by a holder
+held-by : (x i : ℕ) → other x i ≡ true → x ≡ suc (holder x)
+held-by zero i e = absurd (false≢true e)
+held-by (suc h) i e = refl
+
+shut-by : (i p : ℕ) (x : Serving) → shut (x .server) i p ≡ true → Shut i (holder (x .server .wl p)) p x
+shut-by i p x e = record { page = e; held = held-by (x .server .wl p) i (and-r (wantsPage (x .server) i p) _ e) }
+
 -- the list holds stations
 abbrev pub All8 : List ℕ → Type 0
 All8 [] = Unit {0}
@@ -135,7 +148,7 @@ module _ (P : Serving → Type 0) (k : Atomic P) where
   asks-keeps (suc n) p i x b h =
       asks-keeps n (suc p) i _ (omega arith)
       (if-keeps P (shut (x .server) i p && not (x .server .asked p))
-      (λ e. k .asks i (holder (x .server .wl p)) p x (omega arith) (and-l (shut (x .server) i p) _ e) (not-yes (x .server .asked p) (and-r (shut (x .server) i p) _ e)) h)
+      (λ e. k .asks i (holder (x .server .wl p)) p x (omega arith) (shut-by i p x (and-l (shut (x .server) i p) _ e)) (not-yes (x .server .asked p) (and-r (shut (x .server) i p) _ e)) h)
       (λ e. h))
 
   grant-keeps : (i : ℕ) (x : Serving) → i < 8 → x .server .queue i .want ≡ WantWrite → Ready i x → P x → P (grant i x)

@@ -14,6 +14,7 @@ use Rattle.recs.specs.Recs.{recordsOf}
 use Rattle.line.specs.Station.{recordRead, writeLocal, dropPages, mark, doCallback, doKept, doAllKept, closed, close, undo, ownBegin, readLocal, readAsk, readAs, ownRead, writeAsk, ownWrite, ownCommit, ownAbort, ownPurge, arrive, takeLock, answerWait, onPage, loosen, onDeescalate, onCallback, onCommitted, onAborted, onInvalidate, onDown, stationStep}
 use Rattle.line.specs.Server as S
 use Rattle.line.specs.Line.{Begin, Read, Write, Commits, ToldRead, ToldWrite, ToldCommit, Told, World, act, fresh, run, tell, carryDown, carryUp, perform, ownerActs, stationTakes, serverTakes}
+use Rattle.message.specs.Commit.{recordsRoom, serverRoom, commitRoom, stationRoom}
 use Rattle.server_state.specs.Layout.{valueOf}
 use Rattle.server_state.specs.Valid.{mostAt, most, kindsOk}
 use Rattle.server_meaning.specs.Tests.{value-at}
@@ -37,7 +38,7 @@ abbrev told : List Told
 told = ToldRead 0 1 8 0 ∷ ToldWrite 0 1 8 1 ∷ ToldCommit 0 1 1 ∷ []
 
 -- o for a station's messages, c for a commit, m for the server's messages, q for its records
-module _ (o c m q : List ℕ) (lo : 896 ≤ length o) (lc : 4864 ≤ length c) (lm : 14336 ≤ length m) (lq : 36992 ≤ length q) where
+module _ (o c m q : List ℕ) (lo : stationRoom ≤ length o) (lc : commitRoom ≤ length c) (lm : serverRoom ≤ length m) (lq : recordsRoom ≤ length q) where
   abbrev pub calls : List CallB
   calls =
       OwnerB 0 Begin o c
@@ -57,8 +58,8 @@ module _ (o c m q : List ℕ) (lo : 896 ≤ length o) (lc : 4864 ≤ length c) (
 
   room : AllRoom calls
   room =
-      let s : (896 ≤ length o) × (4864 ≤ length c) = (lo, lc) in
-      let t : (14336 ≤ length m) × (36992 ≤ length q) = (lm, lq) in
+      let s : (stationRoom ≤ length o) × (commitRoom ≤ length c) = (lo, lc) in
+      let t : (serverRoom ≤ length m) × (recordsRoom ≤ length q) = (lm, lq) in
       (s, (s, (t, (s, (s, (t, (s, (s, (t, (s, tt))))))))))
 
   abbrev model : World
@@ -73,7 +74,7 @@ module _ (o c m q : List ℕ) (lo : 896 ≤ length o) (lc : 4864 ≤ length c) (
   line = runB calls (freshB kinds)
 
   same : Sim kinds line model
-  same = run-is kinds kinds-ok calls fit room (omega arith)
+  same = run-is kinds kinds-ok calls fit room
 
   pub archived : line .archive ≡ C12
   archived = same .line .records ∙ computed .0

@@ -16,11 +16,13 @@ use Rattle.cells.specs.Num.{AllBytes, put-other}
 use Rattle.message.specs.Layout.{stationOf, pageOf, requesterOf, transactionOf, pagesOf, setOf}
 use Rattle.message.specs.Layout as Message
 use Rattle.message.specs.Number.{upNumber}
+use Rattle.message.specs.Commit.{recordAt, addressesAt}
+use Rattle.record.specs.Check.{writeCountFrom, readCountFrom}
 use Rattle.message_meaning.specs.UpAccepted.{UpAccepted, up-accepted}
-use Rattle.station_state.specs.Layout.{hasBit, member}
+use Rattle.station_state.specs.Layout.{pageSetWidth, numberWidth, valueWidth, hasBit, member}
 use Rattle.station_state.specs.Changes.{addTo, pageOn, pageOff, clearTo}
 use Rattle.server_state.specs.Valid.{kindsTo, freshServer}
-use Rattle.server_state.specs.Layout.{serverLength, agesOf, latestOf, lastOf, lockOf, wholeOf, askedOf, arrivalOf, writtenSet, writtenSetFrom, writtenValuesFrom, wantOf, requestOf, calledOf, pendOf, lockingB}
+use Rattle.server_state.specs.Layout.{ageWidth, valueFrom, valueRow, setRow, ageFrom, arrivalFrom, nextAgeFrom, nextArrivalFrom, versionFrom, workFrom, latestFrom, listedFrom, lastFrom, askedFrom, lockFrom, wholeFrom, kindFrom, wantFrom, requestFrom, calledFrom, pendFrom, busyFrom, unfinishedFrom, readValuesFrom, sentVersionsFrom, readSetFrom, serverLength, agesOf, latestOf, lastOf, lockOf, wholeOf, askedOf, arrivalOf, writtenSet, writtenSetFrom, writtenValuesFrom, wantOf, requestOf, calledOf, pendOf, lockingB}
 use Rattle.server_tests.specs.Tests.{openCallB, openAskB, faultB, blockedB, shutB, shutOutB, hinderedB, informedB}
 use Rattle.server_order.specs.Order.{comesFirst, firstTo, edgesTo, youngerB, youngestTo, victimB}
 use Rattle.server_changes.specs.Changes.{noticeB, freePageB, freePagesTo, freeOneB, freeTo, finishB, leaveB, joinB, joinReadB, joinWriteB, unpackOne, unpackTo, versionsIn, unpackB, joinCommitB, listB, unlistB, markBusyB, answeredB, lockOneB, lockTo, loosenB, askedB, calledB, lockPageB, lockObjectB, versionOneB, versionsTo, valueOneB, valuesTo, writeB}
@@ -28,10 +30,10 @@ use Rattle.server_actions.specs.Actions.{Serving, serving, sendPageB, abortB, i
 use Rattle.server_actions.specs.Pass.{askB, askTo, serveReadB, callOneB, callTo, callB, callOnceB, grantPageB, grantObjectB, grantB, afterCallsB, proceedB, gatesB, visitB, orderB, passB, movedB, settleB, serverStepB}
 
 pub record Flagged (s : List ℕ) : Type 0 where
-  pub wants : (j : ℕ) → j < 8 → getD s (37024 + j) 0 ≤ 3
-  pub requests : (j : ℕ) → j < 8 → getD s (37032 + j) 0 ≤ 255
-  pub calleds : (j : ℕ) → j < 8 → getD s (37040 + j) 0 ≤ 1
-  pub unfinisheds : (j : ℕ) → j < 8 → getD s (37064 + j) 0 ≤ 1
+  pub wants : (j : ℕ) → j < 8 → getD s (wantFrom + j) 0 ≤ 3
+  pub requests : (j : ℕ) → j < 8 → getD s (requestFrom + j) 0 ≤ 255
+  pub calleds : (j : ℕ) → j < 8 → getD s (calledFrom + j) 0 ≤ 1
+  pub unfinisheds : (j : ℕ) → j < 8 → getD s (unfinishedFrom + j) 0 ≤ 1
 
 -- STORES
 
@@ -49,71 +51,71 @@ set-off n s at v j d h = rw (getD-set-other s at j v 0 d) h
 
 module _ {s : List ℕ} (k : Flagged s) where
   -- below all of them
-  low-set : (at v : ℕ) → at < 37024 → Flagged (set s at v)
+  low-set : (at v : ℕ) → at < wantFrom → Flagged (set s at v)
   low-set at v n =
       record {
-        wants = λ j l. set-off 3 s at v (37024 + j) (λ e. omega arith) (k .wants j l);
-        requests = λ j l. set-off 255 s at v (37032 + j) (λ e. omega arith) (k .requests j l);
-        calleds = λ j l. set-off 1 s at v (37040 + j) (λ e. omega arith) (k .calleds j l);
-        unfinisheds = λ j l. set-off 1 s at v (37064 + j) (λ e. omega arith) (k .unfinisheds j l);
+        wants = λ j l. set-off 3 s at v (wantFrom + j) (λ e. omega arith) (k .wants j l);
+        requests = λ j l. set-off 255 s at v (requestFrom + j) (λ e. omega arith) (k .requests j l);
+        calleds = λ j l. set-off 1 s at v (calledFrom + j) (λ e. omega arith) (k .calleds j l);
+        unfinisheds = λ j l. set-off 1 s at v (unfinishedFrom + j) (λ e. omega arith) (k .unfinisheds j l);
       }
 
-  low-u32 : (at v : ℕ) → at + 4 ≤ 37024 → Flagged (setU32 s at v)
+  low-u32 : (at v : ℕ) → at + 4 ≤ wantFrom → Flagged (setU32 s at v)
   low-u32 at v n =
       record {
-        wants = λ j l. rw (setU32-is s at v, put-other 4 s at v (37024 + j) (inr (omega arith))) (k .wants j l);
-        requests = λ j l. rw (setU32-is s at v, put-other 4 s at v (37032 + j) (inr (omega arith))) (k .requests j l);
-        calleds = λ j l. rw (setU32-is s at v, put-other 4 s at v (37040 + j) (inr (omega arith))) (k .calleds j l);
-        unfinisheds = λ j l. rw (setU32-is s at v, put-other 4 s at v (37064 + j) (inr (omega arith))) (k .unfinisheds j l);
+        wants = λ j l. rw (setU32-is s at v, put-other 4 s at v (wantFrom + j) (inr (omega arith))) (k .wants j l);
+        requests = λ j l. rw (setU32-is s at v, put-other 4 s at v (requestFrom + j) (inr (omega arith))) (k .requests j l);
+        calleds = λ j l. rw (setU32-is s at v, put-other 4 s at v (calledFrom + j) (inr (omega arith))) (k .calleds j l);
+        unfinisheds = λ j l. rw (setU32-is s at v, put-other 4 s at v (unfinishedFrom + j) (inr (omega arith))) (k .unfinisheds j l);
       }
 
-  want-set : (i v : ℕ) → i < 8 → v ≤ 3 → Flagged (set s (37024 + i) v)
+  want-set : (i v : ℕ) → i < 8 → v ≤ 3 → Flagged (set s (wantFrom + i) v)
   want-set i v li lv =
       record {
-        wants = λ j l. set-le 3 s (37024 + i) v lv (37024 + j) (k .wants j l);
-        requests = λ j l. set-off 255 s (37024 + i) v (37032 + j) (λ e. omega arith) (k .requests j l);
-        calleds = λ j l. set-off 1 s (37024 + i) v (37040 + j) (λ e. omega arith) (k .calleds j l);
-        unfinisheds = λ j l. set-off 1 s (37024 + i) v (37064 + j) (λ e. omega arith) (k .unfinisheds j l);
+        wants = λ j l. set-le 3 s (wantFrom + i) v lv (wantFrom + j) (k .wants j l);
+        requests = λ j l. set-off 255 s (wantFrom + i) v (requestFrom + j) (λ e. omega arith) (k .requests j l);
+        calleds = λ j l. set-off 1 s (wantFrom + i) v (calledFrom + j) (λ e. omega arith) (k .calleds j l);
+        unfinisheds = λ j l. set-off 1 s (wantFrom + i) v (unfinishedFrom + j) (λ e. omega arith) (k .unfinisheds j l);
       }
 
-  request-set : (i v : ℕ) → i < 8 → v < 256 → Flagged (set s (37032 + i) v)
+  request-set : (i v : ℕ) → i < 8 → v < 256 → Flagged (set s (requestFrom + i) v)
   request-set i v li lv =
       record {
-        wants = λ j l. set-off 3 s (37032 + i) v (37024 + j) (λ e. omega arith) (k .wants j l);
-        requests = λ j l. set-le 255 s (37032 + i) v (omega arith) (37032 + j) (k .requests j l);
-        calleds = λ j l. set-off 1 s (37032 + i) v (37040 + j) (λ e. omega arith) (k .calleds j l);
-        unfinisheds = λ j l. set-off 1 s (37032 + i) v (37064 + j) (λ e. omega arith) (k .unfinisheds j l);
+        wants = λ j l. set-off 3 s (requestFrom + i) v (wantFrom + j) (λ e. omega arith) (k .wants j l);
+        requests = λ j l. set-le 255 s (requestFrom + i) v (omega arith) (requestFrom + j) (k .requests j l);
+        calleds = λ j l. set-off 1 s (requestFrom + i) v (calledFrom + j) (λ e. omega arith) (k .calleds j l);
+        unfinisheds = λ j l. set-off 1 s (requestFrom + i) v (unfinishedFrom + j) (λ e. omega arith) (k .unfinisheds j l);
       }
 
-  called-set : (i v : ℕ) → i < 8 → v ≤ 1 → Flagged (set s (37040 + i) v)
+  called-set : (i v : ℕ) → i < 8 → v ≤ 1 → Flagged (set s (calledFrom + i) v)
   called-set i v li lv =
       record {
-        wants = λ j l. set-off 3 s (37040 + i) v (37024 + j) (λ e. omega arith) (k .wants j l);
-        requests = λ j l. set-off 255 s (37040 + i) v (37032 + j) (λ e. omega arith) (k .requests j l);
-        calleds = λ j l. set-le 1 s (37040 + i) v lv (37040 + j) (k .calleds j l);
-        unfinisheds = λ j l. set-off 1 s (37040 + i) v (37064 + j) (λ e. omega arith) (k .unfinisheds j l);
+        wants = λ j l. set-off 3 s (calledFrom + i) v (wantFrom + j) (λ e. omega arith) (k .wants j l);
+        requests = λ j l. set-off 255 s (calledFrom + i) v (requestFrom + j) (λ e. omega arith) (k .requests j l);
+        calleds = λ j l. set-le 1 s (calledFrom + i) v lv (calledFrom + j) (k .calleds j l);
+        unfinisheds = λ j l. set-off 1 s (calledFrom + i) v (unfinishedFrom + j) (λ e. omega arith) (k .unfinisheds j l);
       }
 
-  unfinished-set : (i v : ℕ) → i < 8 → v ≤ 1 → Flagged (set s (37064 + i) v)
+  unfinished-set : (i v : ℕ) → i < 8 → v ≤ 1 → Flagged (set s (unfinishedFrom + i) v)
   unfinished-set i v li lv =
       record {
-        wants = λ j l. set-off 3 s (37064 + i) v (37024 + j) (λ e. omega arith) (k .wants j l);
-        requests = λ j l. set-off 255 s (37064 + i) v (37032 + j) (λ e. omega arith) (k .requests j l);
-        calleds = λ j l. set-off 1 s (37064 + i) v (37040 + j) (λ e. omega arith) (k .calleds j l);
-        unfinisheds = λ j l. set-le 1 s (37064 + i) v lv (37064 + j) (k .unfinisheds j l);
+        wants = λ j l. set-off 3 s (unfinishedFrom + i) v (wantFrom + j) (λ e. omega arith) (k .wants j l);
+        requests = λ j l. set-off 255 s (unfinishedFrom + i) v (requestFrom + j) (λ e. omega arith) (k .requests j l);
+        calleds = λ j l. set-off 1 s (unfinishedFrom + i) v (calledFrom + j) (λ e. omega arith) (k .calleds j l);
+        unfinisheds = λ j l. set-le 1 s (unfinishedFrom + i) v lv (unfinishedFrom + j) (k .unfinisheds j l);
       }
 
   -- the stations that owe a 7, and those that sent 6
-  owed-set : (at v : ℕ) → 37048 ≤ at → at < 37064 → Flagged (set s at v)
+  owed-set : (at v : ℕ) → pendFrom ≤ at → at < unfinishedFrom → Flagged (set s at v)
   owed-set at v from to =
       record {
-        wants = λ j l. set-off 3 s at v (37024 + j) (λ e. omega arith) (k .wants j l);
-        requests = λ j l. set-off 255 s at v (37032 + j) (λ e. omega arith) (k .requests j l);
-        calleds = λ j l. set-off 1 s at v (37040 + j) (λ e. omega arith) (k .calleds j l);
-        unfinisheds = λ j l. set-off 1 s at v (37064 + j) (λ e. omega arith) (k .unfinisheds j l);
+        wants = λ j l. set-off 3 s at v (wantFrom + j) (λ e. omega arith) (k .wants j l);
+        requests = λ j l. set-off 255 s at v (requestFrom + j) (λ e. omega arith) (k .requests j l);
+        calleds = λ j l. set-off 1 s at v (calledFrom + j) (λ e. omega arith) (k .calleds j l);
+        unfinisheds = λ j l. set-off 1 s at v (unfinishedFrom + j) (λ e. omega arith) (k .unfinisheds j l);
       }
 
-low-u64 : {s : List ℕ} → Flagged s → (at v : ℕ) → at + 8 ≤ 37024 → Flagged (setU64 s at v)
+low-u64 : {s : List ℕ} → Flagged s → (at v : ℕ) → at + 8 ≤ wantFrom → Flagged (setU64 s at v)
 unfolding setU64
 low-u64 k at v n = low-u32 (low-u32 k at (v % 4294967296) (omega arith)) (at + 4) (v / 4294967296) (omega arith)
 
@@ -121,22 +123,22 @@ either : {s t : List ℕ} (b : Bool) → Flagged s → Flagged t → Flagged (co
 either true h k = h
 either false h k = k
 
-page-on : {s : List ℕ} → Flagged s → (at p : ℕ) → at + 4 ≤ 37024 → Flagged (pageOn s at p)
+page-on : {s : List ℕ} → Flagged s → (at p : ℕ) → at + 4 ≤ wantFrom → Flagged (pageOn s at p)
 unfolding pageOn
 page-on k at p n = low-u32 k at _ n
 
-page-off : {s : List ℕ} → Flagged s → (at p : ℕ) → at + 4 ≤ 37024 → Flagged (pageOff s at p)
+page-off : {s : List ℕ} → Flagged s → (at p : ℕ) → at + 4 ≤ wantFrom → Flagged (pageOff s at p)
 unfolding pageOff
 page-off k at p n = low-u32 k at _ n
 
 -- LOOPS
 
-cleared : {s : List ℕ} → Flagged s → (at n : ℕ) → at + n ≤ 37024 → Flagged (clearTo s at n)
+cleared : {s : List ℕ} → Flagged s → (at n : ℕ) → at + n ≤ wantFrom → Flagged (clearTo s at n)
 unfolding clearTo
 cleared k at zero h = k
 cleared k at (suc n) h = low-set (cleared k at n (omega arith)) (at + n) 0 (omega arith)
 
-added : {s : List ℕ} → Flagged s → (at a : ℕ) → at + 32 ≤ 37024 → a < 256 → Flagged (addTo s at a)
+added : {s : List ℕ} → Flagged s → (at a : ℕ) → at + setRow ≤ wantFrom → a < 256 → Flagged (addTo s at a)
 unfolding addTo
 added k at a h l = low-set k (at + a / 8) _ (omega arith)
 
@@ -146,21 +148,21 @@ pages-freed k i zero h = k
 pages-freed {s} k i (suc n) h =
     let r = pages-freed k i n (omega arith) in
     let t = freePagesTo i s n in
-    either (eqb (wholeOf t n) (i + 1)) (page-off (low-set r (36472 + n) 0 (omega arith)) 36212 n (omega arith)) r
+    either (eqb (wholeOf t n) (i + 1)) (page-off (low-set r (wholeFrom + n) 0 (omega arith)) askedFrom n (omega arith)) r
 
 locks-freed : {s : List ℕ} → Flagged s → (i n : ℕ) → n ≤ 256 → Flagged (freeTo i s n)
 unfolding freeTo freeOneB
 locks-freed k i zero h = k
 locks-freed {s} k i (suc n) h =
     let r = locks-freed k i n (omega arith) in
-    either (eqb (lockOf (freeTo i s n) n) (i + 1)) (low-set r (36216 + n) 0 (omega arith)) r
+    either (eqb (lockOf (freeTo i s n) n) (i + 1)) (low-set r (lockFrom + n) 0 (omega arith)) r
 
 versions-set : {s : List ℕ} → Flagged s → (i v n : ℕ) → n ≤ 32 → Flagged (versionsTo i v s n)
 unfolding versionsTo versionOneB
 versions-set k i v zero h = k
 versions-set {s} k i v (suc n) h =
     let r = versions-set k i v n (omega arith) in
-    either (eqb (writtenSet (versionsTo i v s n) i n) 0) r (low-u32 r (34960 + n * 4) v (omega arith))
+    either (eqb (writtenSet (versionsTo i v s n) i n) 0) r (low-u32 r (versionFrom + n * numberWidth) v (omega arith))
 
 values-set : {s : List ℕ} → Flagged s → (i n : ℕ) → n ≤ 256 → Flagged (valuesTo i s n)
 unfolding valuesTo valueOneB
@@ -168,44 +170,44 @@ values-set k i zero h = k
 values-set {s} k i (suc n) h =
     let r = values-set k i n (omega arith) in
     let t = valuesTo i s n in
-    either (member t (writtenSetFrom i) n) (low-u64 r (n * 8) (u64At t (writtenValuesFrom i + n * 8)) (omega arith)) r
+    either (member t (writtenSetFrom i) n) (low-u64 r (valueFrom + n * valueWidth) (u64At t (writtenValuesFrom i + n * valueWidth)) (omega arith)) r
 
 objects-locked : {s : List ℕ} → Flagged s → (i p x n : ℕ) → p < 32 → n ≤ 8 → Flagged (lockTo i p x s n)
 unfolding lockTo lockOneB
 objects-locked k i p x zero lp h = k
 objects-locked k i p x (suc n) lp h =
     let r = objects-locked k i p x n lp (omega arith) in
-    either (hasBit x n) (low-set r (36216 + (p * 8 + n)) (i + 1) (omega arith)) r
+    either (hasBit x n) (low-set r (lockFrom + (p * 8 + n)) (i + 1) (omega arith)) r
 
 versions-taken : {s : List ℕ} → Flagged s → (x : List ℕ) (i n : ℕ) → i < 8 → n ≤ 32 → Flagged (versionsIn x i s n)
 unfolding versionsIn
 versions-taken k x i zero l h = k
-versions-taken k x i (suc n) l h = low-u32 (versions-taken k x i n l (omega arith)) (35088 + i * 128 + n * 4) _ (omega arith)
+versions-taken k x i (suc n) l h = low-u32 (versions-taken k x i n l (omega arith)) (sentVersionsFrom i + n * numberWidth) _ (omega arith)
 
-entries-taken : {s : List ℕ} → Flagged s → (x : List ℕ) → AllBytes x → (at from first n : ℕ) → at + 32 ≤ 37024 → from + 2048 ≤ 37024
+entries-taken : {s : List ℕ} → Flagged s → (x : List ℕ) → AllBytes x → (at from first n : ℕ) → at + setRow ≤ wantFrom → from + valueRow ≤ wantFrom
     → Flagged (unpackTo x s at from first n)
 unfolding unpackTo unpackOne
 entries-taken k x b at from first zero h g = k
 entries-taken k x b at from first (suc n) h g =
-    let l : getD x (256 + (first + n)) 0 < 256 = b (256 + (first + n)) in
-    low-u64 (added (entries-taken k x b at from first n h g) at _ h l) (from + getD x (256 + (first + n)) 0 * 8) _ (omega arith)
+    let l : getD x (addressesAt + (first + n)) 0 < 256 = b (addressesAt + (first + n)) in
+    low-u64 (added (entries-taken k x b at from first n h g) at _ h l) (from + getD x (addressesAt + (first + n)) 0 * valueWidth) _ (omega arith)
 
 -- THE CHANGES
 
 module _ {s : List ℕ} (k : Flagged s) where
   listed : (i p : ℕ) → i < 8 → Flagged (listB i p s)
   unfolding listB
-  listed i p l = page-on k (36176 + i * 4) p (omega arith)
+  listed i p l = page-on k (listedFrom + i * pageSetWidth) p (omega arith)
 
   unlisted : (i d : ℕ) → i < 8 → Flagged (unlistB i d s)
   unfolding unlistB
-  unlisted i d l = low-u32 k (36176 + i * 4) _ (omega arith)
+  unlisted i d l = low-u32 k (listedFrom + i * pageSetWidth) _ (omega arith)
 
   noticed : (i t : ℕ) → i < 8 → Flagged (noticeB i t s)
   unfolding noticeB
   noticed i t l =
-      let ages = low-u64 (low-u64 k (34816 + i * 8) (agesOf s) (omega arith)) 34944 (agesOf s + 1) (omega arith) in
-      either (eqb t (latestOf s i)) k (low-u32 (unfinished-set ages i 1 l (omega arith)) (36144 + i * 4) t (omega arith))
+      let ages = low-u64 (low-u64 k (ageFrom + i * ageWidth) (agesOf s) (omega arith)) nextAgeFrom (agesOf s + 1) (omega arith) in
+      either (eqb t (latestOf s i)) k (low-u32 (unfinished-set ages i 1 l (omega arith)) (latestFrom + i * numberWidth) t (omega arith))
 
   finished : (i : ℕ) → i < 8 → Flagged (finishB i s)
   unfolding finishB
@@ -214,64 +216,64 @@ module _ {s : List ℕ} (k : Flagged s) where
   left : (i : ℕ) → i < 8 → Flagged (leaveB i s)
   unfolding leaveB
   left i l =
-      let arrival = low-u64 (want-set k i 0 l (omega arith)) (34880 + i * 8) 0 (omega arith) in
+      let arrival = low-u64 (want-set k i 0 l (omega arith)) (arrivalFrom + i * ageWidth) 0 (omega arith) in
       let request = request-set arrival i 0 l (omega arith) in
-      let sets = cleared (cleared request (36504 + i * 32) 32 (omega arith)) (36760 + i * 32) 32 (omega arith) in
+      let sets = cleared (cleared request (readSetFrom i) 32 (omega arith)) (writtenSetFrom i) 32 (omega arith) in
       let called = called-set sets i 0 l (omega arith) in
-      owed-set (owed-set called (37048 + i) 0 (omega arith) (omega arith)) (37056 + i) 0 (omega arith) (omega arith)
+      owed-set (owed-set called (pendFrom + i) 0 (omega arith) (omega arith)) (busyFrom + i) 0 (omega arith) (omega arith)
 
   written : (i : ℕ) → Flagged (writeB i s)
   unfolding writeB
-  written i = values-set (versions-set (low-u32 k 36208 _ (omega arith)) i _ 32 (omega arith)) i 256 (omega arith)
+  written i = values-set (versions-set (low-u32 k lastFrom _ (omega arith)) i _ 32 (omega arith)) i 256 (omega arith)
 
   busied : (i r : ℕ) → r < 8 → Flagged (markBusyB i r s)
   unfolding markBusyB
-  busied i r l = owed-set k (37056 + r) _ (omega arith) (omega arith)
+  busied i r l = owed-set k (busyFrom + r) _ (omega arith) (omega arith)
 
   answered : (i r : ℕ) → r < 8 → Flagged (answeredB i r s)
   unfolding answeredB
-  answered i r l = owed-set (owed-set k (37056 + r) _ (omega arith) (omega arith)) (37048 + r) _ (omega arith) (omega arith)
+  answered i r l = owed-set (owed-set k (busyFrom + r) _ (omega arith) (omega arith)) (pendFrom + r) _ (omega arith) (omega arith)
 
   loosened : (i p x : ℕ) → p < 32 → Flagged (loosenB i p x s)
   unfolding loosenB
-  loosened i p x l = objects-locked (low-set (page-off k 36212 p (omega arith)) (36472 + p) 0 (omega arith)) i p x 8 l (omega arith)
+  loosened i p x l = objects-locked (low-set (page-off k askedFrom p (omega arith)) (wholeFrom + p) 0 (omega arith)) i p x 8 l (omega arith)
 
   asked : (p : ℕ) → Flagged (askedB p s)
   unfolding askedB
-  asked p = page-on k 36212 p (omega arith)
+  asked p = page-on k askedFrom p (omega arith)
 
   called : (i x : ℕ) → i < 8 → Flagged (calledB i x s)
   unfolding calledB
-  called i x l = owed-set (called-set k i 1 l (omega arith)) (37048 + i) x (omega arith) (omega arith)
+  called i x l = owed-set (called-set k i 1 l (omega arith)) (pendFrom + i) x (omega arith) (omega arith)
 
   page-locked : (i p : ℕ) → p < 32 → Flagged (lockPageB i p s)
   unfolding lockPageB
-  page-locked i p l = low-set (page-off k 36212 p (omega arith)) (36472 + p) (i + 1) (omega arith)
+  page-locked i p l = low-set (page-off k askedFrom p (omega arith)) (wholeFrom + p) (i + 1) (omega arith)
 
   object-locked : (i a : ℕ) → a < 256 → Flagged (lockObjectB i a s)
   unfolding lockObjectB
-  object-locked i a l = low-set k (36216 + a) (i + 1) (omega arith)
+  object-locked i a l = low-set k (lockFrom + a) (i + 1) (omega arith)
 
   unpacked : (i : ℕ) (x : List ℕ) → i < 8 → AllBytes x → Flagged (unpackB i x s)
   unfolding unpackB
   unpacked i x l b =
-      let versions = versions-taken (low-u32 k (36112 + i * 4) (transactionOf x) (omega arith)) x i 32 l (omega arith) in
-      let reads = entries-taken versions x b (36504 + i * 32) (2048 + i * 2048) 0 (u16At x 240) (omega arith) (omega arith) in
-      entries-taken reads x b (36760 + i * 32) (18432 + i * 2048) (u16At x 240) (u16At x 242) (omega arith) (omega arith)
+      let versions = versions-taken (low-u32 k (workFrom + i * numberWidth) (transactionOf x) (omega arith)) x i 32 l (omega arith) in
+      let reads = entries-taken versions x b (readSetFrom i) (readValuesFrom i) 0 (u16At x (recordAt + readCountFrom)) (omega arith) (omega arith) in
+      entries-taken reads x b (writtenSetFrom i) (writtenValuesFrom i) (u16At x (recordAt + readCountFrom)) (u16At x (recordAt + writeCountFrom)) (omega arith) (omega arith)
 
 joined : {s : List ℕ} → Flagged s → (i w a : ℕ) → i < 8 → w ≤ 3 → a < 256 → Flagged (joinB i w a s)
 unfolding joinB
 joined k i w a l lw la =
-    let want = want-set (low-u64 (left k i l) (34880 + i * 8) _ (omega arith)) i w l lw in
-    low-u64 (request-set want i a l la) 34952 _ (omega arith)
+    let want = want-set (low-u64 (left k i l) (arrivalFrom + i * ageWidth) _ (omega arith)) i w l lw in
+    low-u64 (request-set want i a l la) nextArrivalFrom _ (omega arith)
 
 read-joined : {s : List ℕ} → Flagged s → (i a : ℕ) → i < 8 → a < 256 → Flagged (joinReadB i a s)
 unfolding joinReadB
-read-joined k i a l la = added (joined k i 1 a l (omega arith) la) (36504 + i * 32) a (omega arith) la
+read-joined k i a l la = added (joined k i 1 a l (omega arith) la) (readSetFrom i) a (omega arith) la
 
 write-joined : {s : List ℕ} → Flagged s → (i a : ℕ) → i < 8 → a < 256 → Flagged (joinWriteB i a s)
 unfolding joinWriteB
-write-joined k i a l la = added (joined k i 2 a l (omega arith) la) (36760 + i * 32) a (omega arith) la
+write-joined k i a l la = added (joined k i 2 a l (omega arith) la) (writtenSetFrom i) a (omega arith) la
 
 commit-joined : {s : List ℕ} → Flagged s → (i : ℕ) (x : List ℕ) → i < 8 → AllBytes x → Flagged (joinCommitB i x s)
 unfolding joinCommitB
@@ -519,18 +521,18 @@ zeros-at (suc n) (suc j) = zeros-at n j
 blank-flagged : (n : ℕ) → Flagged (replicate n 0)
 blank-flagged n =
     record {
-      wants = λ j l. rw (zeros-at n (37024 + j)) (omega arith);
-      requests = λ j l. rw (zeros-at n (37032 + j)) (omega arith);
-      calleds = λ j l. rw (zeros-at n (37040 + j)) (omega arith);
-      unfinisheds = λ j l. rw (zeros-at n (37064 + j)) (omega arith);
+      wants = λ j l. rw (zeros-at n (wantFrom + j)) (omega arith);
+      requests = λ j l. rw (zeros-at n (requestFrom + j)) (omega arith);
+      calleds = λ j l. rw (zeros-at n (calledFrom + j)) (omega arith);
+      unfinisheds = λ j l. rw (zeros-at n (unfinishedFrom + j)) (omega arith);
     }
 
 kinds-flagged : {s : List ℕ} (kinds : List ℕ) → Flagged s → (n : ℕ) → n ≤ 8 → Flagged (kindsTo kinds s n)
 unfolding kindsTo
 kinds-flagged kinds k zero l = k
-kinds-flagged kinds k (suc n) l = low-set (kinds-flagged kinds k n (omega arith)) (37016 + n) _ (omega arith)
+kinds-flagged kinds k (suc n) l = low-set (kinds-flagged kinds k n (omega arith)) (kindFrom + n) _ (omega arith)
 
 pub fresh-flagged : (kinds : List ℕ) → Flagged (freshServer kinds)
 unfolding freshServer
 fresh-flagged kinds =
-    kinds-flagged kinds (low-u64 (low-u64 (blank-flagged serverLength) 34944 1 (omega arith)) 34952 1 (omega arith)) 8 (omega arith)
+    kinds-flagged kinds (low-u64 (low-u64 (blank-flagged serverLength) nextAgeFrom 1 (omega arith)) nextArrivalFrom 1 (omega arith)) 8 (omega arith)

@@ -1,8 +1,8 @@
--- Number 1 turns back no call of a run for its state: what every call leaves is valid at both ends, so that only output that is too short
--- is turned back (and, at the server, the 2^63rd arrival: "2^63 being out of range").
-use Prim.Native.Nat.{ℕ, suc, _≤_, _<_}
-use mathlib.Core.Path.{_≡_, refl, ap}
-use mathlib.Core.Bool.{true, false, false≢true}
+-- Number 1 turns back no call of a run for its state, however long the run: what every call leaves is valid at both ends, so that only output
+-- that is too short is turned back.
+use Prim.Native.Nat.{ℕ, _≤_, _<_}
+use mathlib.Core.Path.{_≡_, refl, subst}
+use mathlib.Core.Bool.{true, false}
 use mathlib.Core.List.{List, [], _∷_}
 use native.Mathlib.Omega.{arith}
 use lib.Dec.{ltb}
@@ -14,25 +14,26 @@ use Rattle.line.specs.Server.{Server, serverStep, unexpected}
 use Rattle.line.specs.Messages.{Up, Answer, Nothing, Begun, Value, Waits, Written, CommittedAs, AbortedFor, Purged, Refused, Empty, Down}
 use Rattle.line.specs.Line.{Op, World, Call, fresh, tell, carryUp, carryDown, ownerActs, isRefused, stationTakes, serverTakes, act, run}
 use Rattle.line.specs.Station.{stationStep}
-use Rattle.line.specs.Apart.{apart-run}
-use Rattle.line.specs.Counters.{ages-below, arrivals-bound}
-use Rattle.line.specs.Server as Model
+use Rattle.line.specs.Fit.{UpNames, Fit}
+use Rattle.line.specs.FitServer.{step-fit, fit-fresh}
+use Rattle.line.specs.Counters.{ages-below}
 use Rattle.message.specs.Number as Number
+use Rattle.message.specs.Commit.{recordsRoom, serverRoom, commitRoom, stationRoom}
 use Rattle.station_owner.specs.Owner.{ready}
 use Rattle.server_state.specs.Valid.{valid, kindsOk}
 use Rattle.server_state.specs.Facts.{kinds-length}
 use Rattle.server_actions.specs.Pass.{serverStepB}
 use Rattle.server_actions.specs.Step.{serverCalled}
 use Rattle.server_actions.specs.Step as ServerCall
-use Rattle.step_meaning.specs.Relation.{Sound}
-use Rattle.step_meaning.specs.Keeps.{no-commit}
 use Rattle.call_meaning.specs.Relation.{answerOf}
 use Rattle.call_meaning.specs.Calls.{AllReads, stepB}
 use Rattle.line_bytes.specs.Bytes.{WorldB, freshB, CallB, OwnerB, ServerTakesB, StationTakesB, AllFit, tellB, carryUpB, carryDownB, ownerActsB, stationTakesB, serverTakesB, actB, runB}
-use Rattle.line_bytes.specs.Simulates.{Sim, asCall, act-sim, lent, check-is, serves}
+use Rattle.line_bytes.specs.Simulates.{Sim, asCall, act-sim, lent, check-is}
 use Rattle.line_bytes.specs.Runs.{kind-small, same-kinds, callsOf, run-simulates, fresh-sim}
+use Rattle.line_bytes.specs.Arrivals.{arrivals-below}
 use Rattle.line_bytes.specs.Flags.{Flagged, step-flagged, fresh-flagged}
 use Rattle.line_bytes.specs.Valid.{valid-of}
+use Rattle.line_bytes.specs.Stays.{up-names}
 
 -- WHAT CALLS LEAVE OF THE SERVER
 
@@ -89,13 +90,13 @@ unfolding serverTakesB serverCalled carryDownB
 turned-server i [] o q b r = refl
 turned-server i (x ∷ ms) o q b r = rw r
 
--- what the meaning does not tell of the bytes, and what the model does not ask of itself
+-- what the meaning does not tell of the bytes, and what number 1 asks of the server
 record Kept (s : List ℕ) (m : Server) : Type 0 where
   flags : Flagged s
-  sound : Sound m
+  fit : Fit m
 
 kept-as : {s t : List ℕ} {m n : Server} → t ≡ s → n ≡ m → Kept s m → Kept t n
-kept-as e f k = record { flags = rw e (k .flags); sound = rw f (k .sound) }
+kept-as e f k = record { flags = rw e (k .flags); fit = rw f (k .fit) }
 
 abbrev KeptIn : WorldB → World → Type 0
 KeptIn b w = Kept (b .server) (w .server)
@@ -110,10 +111,11 @@ module _ (kinds : List ℕ) (size : length kinds ≡ 8) (i : ℕ) (l : i < 8) (b
   server-kept (x ∷ ms) (u ∷ us) k r h g =
       let t = lent (b .server) o q r in
       let check = check-is kinds size i l b w o q x u (k .0) t h in
-      let s = serves kinds size i l b w o q x u (k .0) t h in
       let flags = step-flagged kinds x (b .server) (k .0 .accepted) (all-bytes x (k .0 .bytes-are)) (g .flags) in
-      let after : Kept ((serverStepB x (b .server)) .state) ((serverStep i u (w .server)) .server) = record { flags = flags; sound = s .sound } in
-      byB (unexpected i u (w .server)) (λ e. rw (r, check, e) g) (λ e. rw (r, check, e) after)
+      let names : UpNames u = subst UpNames (k .0 .meant) (up-names kinds x (k .0 .accepted)) in
+      let after : unexpected i u (w .server) ≡ false → Kept ((serverStepB x (b .server)) .state) ((serverStep i u (w .server)) .server) =
+      λ e. record { flags = flags; fit = step-fit i u (w .server) l names e (g .fit) } in
+      byB (unexpected i u (w .server)) (λ e. rw (r, check, e) g) (λ e. rw (r, check, e) (after e))
 
 act-kept : (kinds : List ℕ) → length kinds ≡ 8 → (c : CallB) (b : WorldB) (w : World) → Sim kinds b w → KeptIn b w → KeptIn (actB c b) ((act (asCall b c) w) .world)
 unfolding actB act
@@ -137,27 +139,14 @@ run-kept kinds size ok [] b w f h g = g
 run-kept kinds size ok (c ∷ cs) b w f h g =
     run-kept kinds size ok cs (actB c b) ((act (asCall b c) w) .world) (f .1) (act-sim kinds size ok c b w (f .0) h) (act-kept kinds size c b w h g)
 
-fresh-sound : (k : ℕ → ℕ) → ((i : ℕ) → k i ≤ 1) → Sound (Model.freshServer k)
-fresh-sound k small =
-    record {
-      kinds = small;
-      numbered = λ i l e. absurd (false≢true e);
-      worked = λ i l e. absurd (no-commit e);
-      holder = λ p g e. absurd (omega (arith, e));
-    }
-
 -- EVERY RUN
-
-calls-many : (cs : List CallB) (b : WorldB) → length (callsOf cs b) ≡ length cs
-calls-many [] b = refl
-calls-many (c ∷ cs) b = ap suc (calls-many cs (actB c b))
 
 -- the next call of a run is turned back with number 1 only for its output
 pub record Ready (w : WorldB) : Type 0 where
   -- "128 messages and 36,992 record bytes (server)"
-  pub server : (o q : List ℕ) → 14336 ≤ length o → 36992 ≤ length q → ServerCall.ready (w .server) o q ≡ true
+  pub server : (o q : List ℕ) → serverRoom ≤ length o → recordsRoom ≤ length q → ServerCall.ready (w .server) o q ≡ true
   -- "8 messages and 4,864 commit bytes (station)"
-  pub station : (i : ℕ) → i < 8 → (o c : List ℕ) → 896 ≤ length o → 4864 ≤ length c → ready (w .station i) o c ≡ true
+  pub station : (i : ℕ) → i < 8 → (o c : List ℕ) → stationRoom ≤ length o → commitRoom ≤ length c → ready (w .station i) o c ≡ true
 
 module _ (kinds : List ℕ) (ok : kindsOk kinds ≡ true) (cs : List CallB) (f : AllFit cs) where
   abbrev k : ℕ → ℕ
@@ -169,20 +158,19 @@ module _ (kinds : List ℕ) (ok : kindsOk kinds ≡ true) (cs : List CallB) (f :
   kept-run : KeptIn (runB cs (freshB kinds)) (run calls (fresh k))
   kept-run =
       run-kept kinds (kinds-length kinds ok) (same-kinds kinds ok) cs (freshB kinds) (fresh k) f (fresh-sim kinds ok)
-      (record { flags = fresh-flagged kinds; sound = fresh-sound k (kind-small kinds ok) })
+      (record { flags = fresh-flagged kinds; fit = fit-fresh k (kind-small kinds ok) })
 
-  -- arrivals are at most one for each call, and 2^63 is out of range
-  pub valid-of-run : length cs < 9223372036854775807 → valid ((runB cs (freshB kinds)) .server) ≡ true
-  valid-of-run n =
+  -- "2^63 being out of range": neither ages nor arrivals come to it
+  pub valid-of-run : valid ((runB cs (freshB kinds)) .server) ≡ true
+  valid-of-run =
       let h = run-simulates kinds ok cs f in
-      valid-of (h .line .server) (kept-run .flags) (kept-run .sound) (apart-run k calls) (ages-below k calls)
-      (omega (arith, arrivals-bound k calls, calls-many cs (freshB kinds)))
+      valid-of (h .line .server) (kept-run .flags) (kept-run .fit) (ages-below k calls) (arrivals-below k calls)
 
-  pub ready-of-run : length cs < 9223372036854775807 → Ready (runB cs (freshB kinds))
+  pub ready-of-run : Ready (runB cs (freshB kinds))
   unfolding ready ServerCall.ready
-  ready-of-run n =
+  ready-of-run =
       let h = run-simulates kinds ok cs f in
       record {
-        server = λ o q lo lq. rw (valid-of-run n, le-leb 14336 (length o) lo, le-leb 36992 (length q) lq);
-        station = λ i l o c lo lc. rw (h .line .stations i l .valid, le-leb 896 (length o) lo, le-leb 4864 (length c) lc);
+        server = λ o q lo lq. rw (valid-of-run, le-leb serverRoom (length o) lo, le-leb recordsRoom (length q) lq);
+        station = λ i l o c lo lc. rw (h .line .stations i l .valid, le-leb stationRoom (length o) lo, le-leb commitRoom (length c) lc);
       }

@@ -23,6 +23,7 @@ use Rattle.line.specs.Bounds.{step-128, step-8}
 use Rattle.truth.specs.ValidatedMoves.{perform-kind, step-kind}
 use Rattle.message.specs.Layout.{stationOf}
 use Rattle.message.specs.Number.{kindsOk, downNumber}
+use Rattle.message.specs.Commit.{recordsRoom, serverRoom}
 use Rattle.message_meaning.specs.Meant.{downOf}
 use Rattle.message_meaning.specs.Sent.{Reads}
 use Rattle.station_state.specs.Layout.{station}
@@ -194,7 +195,7 @@ upd-own : {A : Type 0} (f : ℕ → A) (i : ℕ) (v : A) → v ≡ f i → (j : 
 upd-own f i v h j = byEq j i (λ e. rw (e, eqb-yes j i e) h) (λ e. rw e)
 
 -- a call that left the state and sent nothing
-carry-none : (i : ℕ) (x : Outcome) (b : WorldB) → x .state ≡ b .station i → sentBy x ≡ [] → carryUpB i x b ≡ b
+pub carry-none : (i : ℕ) (x : Outcome) (b : WorldB) → x .state ≡ b .station i → sentBy x ≡ [] → carryUpB i x b ≡ b
 unfolding carryUpB
 carry-none i x b e f =
     let stations = fun-ext (upd-own (b .station) i (x .state) e) in
@@ -341,7 +342,7 @@ module _ (kinds : List ℕ) (ok : kindsOk kinds ≡ true) (i : ℕ) (l : i < 8) 
 -- THE SERVER'S CALL
 
 -- a refused call leaves all as it was
-carry-refused : (n : ℕ) (o q : List ℕ) (b : WorldB) → carryDownB (refused n (b .server) o q) b ≡ b
+pub carry-refused : (n : ℕ) (o q : List ℕ) (b : WorldB) → carryDownB (refused n (b .server) o q) b ≡ b
 unfolding carryDownB messagesIn
 carry-refused n o q b =
     let downs = fun-ext (λ j. append-nil (b .down j)) in
@@ -361,18 +362,18 @@ carry-refused n o q b =
 -- what a call that passes number 1 was lent
 pub record Lent (s o q : List ℕ) : Type 0 where
   pub state : ServerValid.valid s ≡ true
-  pub messages : 14336 ≤ length o
-  pub records : 36992 ≤ length q
+  pub messages : serverRoom ≤ length o
+  pub records : recordsRoom ≤ length q
 
 pub lent : (s o q : List ℕ) → ServerCall.ready s o q ≡ true → Lent s o q
 unfolding ServerCall.ready
 lent s o q r =
-    let two = ServerValid.valid s && leb 14336 (length o) in
-    let e : two ≡ true = and-l two (leb 36992 (length q)) r in
+    let two = ServerValid.valid s && leb serverRoom (length o) in
+    let e : two ≡ true = and-l two (leb recordsRoom (length q)) r in
     record {
-      state = and-l (ServerValid.valid s) (leb 14336 (length o)) e;
-      messages = leb-true _ _ (and-r (ServerValid.valid s) (leb 14336 (length o)) e);
-      records = leb-true _ _ (and-r two (leb 36992 (length q)) r);
+      state = and-l (ServerValid.valid s) (leb serverRoom (length o)) e;
+      messages = leb-true _ _ (and-r (ServerValid.valid s) (leb serverRoom (length o)) e);
+      records = leb-true _ _ (and-r two (leb recordsRoom (length q)) r);
     }
 
 module _ (kinds : List ℕ) (size : length kinds ≡ 8) (i : ℕ) (l : i < 8) (b : WorldB) (w : World) (o q : List ℕ) where

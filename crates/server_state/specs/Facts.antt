@@ -1,204 +1,305 @@
 -- What number 1 tells of a state that passes.
-use Prim.Native.Nat.{ℕ, zero, suc, _+_, _*_, _≤_, _<_}
-use mathlib.Core.Path.{_≡_, refl, sym, _∙_}
+use Prim.Native.Nat.{ℕ, zero, suc, _+_, _*_, _-_, _≤_, _<_}
+use mathlib.Core.Path.{_≡_, refl, sym, ap, _∙_}
 use mathlib.Core.List.{List}
 use mathlib.Core.Logic.{_≢_}
-use mathlib.Core.Bool.{Bool, true, false, not, _&&_, _||_}
+use mathlib.Core.Bool.{Bool, true, false, not, _&&_, _||_, cond}
 use lib.ListN.{length, getD}
-use lib.Dec.{eqb, ltb}
+use lib.Dec.{eqb, ltb, leb}
+use lib.Bits.{bitOr}
 use native.Mathlib.Omega.{arith}
-use borrow.Author.Tests.{eqb-true, eqb-false, ltb-true, leb-true, not-true, eq-eqb, ne-eqb}
+use borrow.Author.Tests.{eqb-true, eqb-false, ltb-true, leb-true, not-true, ltb-false, eq-eqb, ne-eqb}
 use Rattle.le.specs.Le.{u64At}
 use Rattle.le.specs.Width.{numAt}
 use Rattle.le.specs.Laws.{u64At-is}
 use Rattle.lists.specs.Tests.{allTo, allTo-at, allTo-of, and-l, and-r}
-use Rattle.server_state.specs.Layout.{serverLength, ageOf, arrivalOf, agesOf, arrivalsOf, workNumber, latestOf, lockOf, wholeOf, kindOf, wantOf, calledOf, unfinishedOf}
-use Rattle.server_state.specs.Valid.{mostAt, most, rangesOk, countersOk, stationOk, besideAt, namesOk, pageOk, apartAt, apartOk, valid, kindsOk}
+use Rattle.sets.specs.Laws.{byB}
+use Rattle.station_state.specs.Layout.{hasBit, noneIn}
+use Rattle.server_state.specs.Layout.{counterLimit, kindFrom, wantFrom, calledFrom, unfinishedFrom, serverLength, ageOf, arrivalOf, agesOf, arrivalsOf, workNumber, latestOf, askedOf, lockFrom, lockOf, wholeOf, readSetFrom, writtenSetFrom, kindOf, wantOf, requestOf, calledOf, pendOf, busyOf, unfinishedOf}
+use Rattle.server_state.specs.Valid.{mostAt, most, rangesOk, countersOk, wordOf, onlyIn, blankOk, commitOk, requestOk, waiterOk, entryOk, owesAt, callsOk, agedOk, stationOk, holderOk, holderAt, besideAt, pageOk, askedAt, apartAt, apartOk, valid, kindsOk}
 
-pub record Ranged (s : List ℕ) : Type 0 where
-  pub size : length s ≡ serverLength
-  pub lock-fits : (a : ℕ) → a < 256 → lockOf s a ≤ 8
-  pub whole-fits : (p : ℕ) → p < 32 → wholeOf s p ≤ 8
-  pub kind-fits : (i : ℕ) → i < 8 → kindOf s i ≤ 1
-  pub want-fits : (i : ℕ) → i < 8 → wantOf s i ≤ 3
-  pub called-fits : (i : ℕ) → i < 8 → calledOf s i ≤ 1
-  pub unfinished-fits : (i : ℕ) → i < 8 → unfinishedOf s i ≤ 1
-  pub ages-fit : agesOf s < 9223372036854775808
-  pub arrivals-fit : arrivalsOf s < 9223372036854775808
-  -- an unfinished transaction's age was given; a waiter's arrival too, and it has a transaction
-  pub age-given : (i : ℕ) → i < 8 → unfinishedOf s i ≢ 0 → ageOf s i < agesOf s
-  pub arrival-given : (i : ℕ) → i < 8 → wantOf s i ≢ 0 → arrivalOf s i < arrivalsOf s
-  pub waiter-named : (i : ℕ) → i < 8 → wantOf s i ≢ 0 → latestOf s i ≢ 0
-  pub work-named : (i : ℕ) → i < 8 → wantOf s i ≡ 3 → workNumber s i ≢ 0
-  -- beside a whole lock there are only its holder's locks, and the holder has a transaction
-  pub beside : (p o : ℕ) → p < 32 → o < 8 → wholeOf s p ≢ 0 → lockOf s (p * 8 + o) ≢ 0 → lockOf s (p * 8 + o) ≡ wholeOf s p
-  pub holder-named : (p h : ℕ) → p < 32 → h < 8 → wholeOf s p ≡ h + 1 → latestOf s h ≢ 0
-  pub ages-apart : (i j : ℕ) → i < 8 → j < 8 → i ≢ j → unfinishedOf s i ≢ 0 → unfinishedOf s j ≢ 0 → ageOf s i ≢ ageOf s j
-  pub arrivals-apart : (i j : ℕ) → i < 8 → j < 8 → i ≢ j → wantOf s i ≢ 0 → wantOf s j ≢ 0 → arrivalOf s i ≢ arrivalOf s j
+-- TESTS
 
 -- one of two passes, and not the first
-or-else : (a b : Bool) → a ≡ false → a || b ≡ true → b ≡ true
+pub or-else : (a b : Bool) → a ≡ false → a || b ≡ true → b ≡ true
 or-else a b e h = rw e at h
+
+all-3 : (a b c : Bool) → a && b && c ≡ true → (a ≡ true) × (b ≡ true) × (c ≡ true)
+all-3 a b c h = let u = and-l (a && b) c h in (and-l a b u, and-r a b u, and-r (a && b) c h)
+
+all-4 : (a b c d : Bool) → a && b && c && d ≡ true → (a ≡ true) × (b ≡ true) × (c ≡ true) × (d ≡ true)
+all-4 a b c d h = let u = all-3 a b c (and-l (a && b && c) d h) in (u .0, u .1, u .2, and-r (a && b && c) d h)
+
+-- the way that was taken
+taken : (a b c : Bool) → a ≡ true → cond a b c ≡ true → b ≡ true
+taken a b c e h = rw e at h
+
+passed : (a b c : Bool) → a ≡ false → cond a b c ≡ true → c ≡ true
+passed a b c e h = rw e at h
 
 most-at : (s : List ℕ) (at n m : ℕ) → most s at n m ≡ true → (k : ℕ) → k < m → getD s (at + k) 0 ≤ n
 unfolding most mostAt
 most-at s at n m h k l = leb-true (getD s (at + k) 0) n (allTo-at (mostAt s at n) m h k l)
 
--- what each test of a station tells
-module _ (s : List ℕ) (i : ℕ) (h : stationOk s i ≡ true) where
-  abbrev aged : Bool
-  aged = eqb (unfinishedOf s i) 0 || ltb (ageOf s i) (agesOf s)
+-- WHAT A STATE THAT PASSES HAS
 
-  abbrev arrived : Bool
-  arrived = eqb (wantOf s i) 0 || ltb (arrivalOf s i) (arrivalsOf s)
+-- the entry of a station that waits for nothing
+pub record Blank (s : List ℕ) (i : ℕ) : Type 0 where
+  pub arrival-is : arrivalOf s i ≡ 0
+  pub request-is : requestOf s i ≡ 0
+  pub nothing-read : noneIn s (readSetFrom i) ≡ true
+  pub nothing-written : noneIn s (writtenSetFrom i) ≡ true
 
-  abbrev named : Bool
-  named = eqb (wantOf s i) 0 || not (eqb (latestOf s i) 0)
+-- a read, a write: one object, in the set at `own`
+pub record One (s : List ℕ) (i own others : ℕ) : Type 0 where
+  pub locks : kindOf s i ≡ 0
+  pub requested : onlyIn s own (requestOf s i) ≡ true
+  pub nothing-else : noneIn s others ≡ true
 
-  abbrev worked : Bool
-  worked = not (eqb (wantOf s i) 3) || not (eqb (workNumber s i) 0)
+pub record Work (s : List ℕ) (i : ℕ) : Type 0 where
+  pub validates : kindOf s i ≡ 1
+  pub request-is : requestOf s i ≡ 0
+  pub latest-is : workNumber s i ≡ latestOf s i
 
-  front : aged && arrived && named ≡ true
-  unfolding stationOk
-  front = and-l (aged && arrived && named) worked h
+-- the entry of one that waits
+pub record Waiter (s : List ℕ) (i : ℕ) : Type 0 where
+  pub unfinished : unfinishedOf s i ≢ 0
+  pub arrival-given : arrivalOf s i < arrivalsOf s
+  pub read : wantOf s i ≡ 1 → One s i (readSetFrom i) (writtenSetFrom i)
+  pub write : wantOf s i ≡ 2 → One s i (writtenSetFrom i) (readSetFrom i)
+  pub commit : wantOf s i ≡ 3 → Work s i
 
-  station-age : unfinishedOf s i ≢ 0 → ageOf s i < agesOf s
-  station-age u =
-      ltb-true (ageOf s i) (agesOf s)
-      (or-else (eqb (unfinishedOf s i) 0) (ltb (ageOf s i) (agesOf s)) (ne-eqb _ _ u) (and-l aged arrived (and-l (aged && arrived) named front)))
+-- its 20s
+pub record Called (s : List ℕ) (i : ℕ) : Type 0 where
+  pub wants : 2 ≤ wantOf s i
+  pub busy-owes : bitOr (busyOf s i) (pendOf s i) ≡ pendOf s i
+  pub owes : (j : ℕ) → j < 8 → hasBit (pendOf s i) j ≡ true → (j ≢ i) × (kindOf s j ≡ 0)
 
-  station-arrival : wantOf s i ≢ 0 → arrivalOf s i < arrivalsOf s
-  station-arrival u =
-      ltb-true (arrivalOf s i) (arrivalsOf s)
-      (or-else (eqb (wantOf s i) 0) (ltb (arrivalOf s i) (arrivalsOf s)) (ne-eqb _ _ u) (and-r aged arrived (and-l (aged && arrived) named front)))
+-- a lock's holder
+pub record Holder (s : List ℕ) (h : ℕ) : Type 0 where
+  pub station : h < 8
+  pub locks : kindOf s h ≡ 0
+  pub unfinished : unfinishedOf s h ≢ 0
 
-  station-named : wantOf s i ≢ 0 → latestOf s i ≢ 0
-  station-named u =
-      eqb-false (latestOf s i) 0
-      (not-true (eqb (latestOf s i) 0) (or-else (eqb (wantOf s i) 0) (not (eqb (latestOf s i) 0)) (ne-eqb _ _ u) (and-r (aged && arrived) named front)))
+pub record Ranged (s : List ℕ) : Type 0 where
+  pub size : length s ≡ serverLength
+  pub kind-fits : (i : ℕ) → i < 8 → kindOf s i ≤ 1
+  pub want-fits : (i : ℕ) → i < 8 → wantOf s i ≤ 3
+  pub called-fits : (i : ℕ) → i < 8 → calledOf s i ≤ 1
+  pub unfinished-fits : (i : ℕ) → i < 8 → unfinishedOf s i ≤ 1
+  pub ages-fit : agesOf s < counterLimit
+  pub arrivals-fit : arrivalsOf s < counterLimit
+  pub age-given : (i : ℕ) → i < 8 → ageOf s i < agesOf s
+  pub named : (i : ℕ) → i < 8 → unfinishedOf s i ≢ 0 → latestOf s i ≢ 0
+  pub blank : (i : ℕ) → i < 8 → wantOf s i ≡ 0 → Blank s i
+  pub waiter : (i : ℕ) → i < 8 → wantOf s i ≢ 0 → Waiter s i
+  pub uncalled : (i : ℕ) → i < 8 → calledOf s i ≡ 0 → (pendOf s i ≡ 0) × (busyOf s i ≡ 0)
+  pub called : (i : ℕ) → i < 8 → calledOf s i ≢ 0 → Called s i
+  pub lock-held : (p o h : ℕ) → p < 32 → o < 8 → lockOf s (p * 8 + o) ≡ h + 1 → Holder s h
+  pub whole-held : (p h : ℕ) → p < 32 → wholeOf s p ≡ h + 1 → Holder s h
+  -- beside a whole lock there are only its holder's locks
+  pub beside : (p o : ℕ) → p < 32 → o < 8 → wholeOf s p ≢ 0 → lockOf s (p * 8 + o) ≢ 0 → lockOf s (p * 8 + o) ≡ wholeOf s p
+  pub asked-held : (p : ℕ) → p < 32 → hasBit (askedOf s) p ≡ true → wholeOf s p ≢ 0
+  pub ages-apart : (i j : ℕ) → i < 8 → j < 8 → i ≢ j → unfinishedOf s i ≢ 0 → unfinishedOf s j ≢ 0 → ageOf s i ≢ ageOf s j
+  pub arrivals-apart : (i j : ℕ) → i < 8 → j < 8 → i ≢ j → wantOf s i ≢ 0 → wantOf s j ≢ 0 → arrivalOf s i ≢ arrivalOf s j
 
-  station-worked : wantOf s i ≡ 3 → workNumber s i ≢ 0
-  unfolding stationOk
-  station-worked u =
-      eqb-false (workNumber s i) 0
-      (not-true (eqb (workNumber s i) 0)
-      (or-else (not (eqb (wantOf s i) 3)) (not (eqb (workNumber s i) 0)) (rw (eq-eqb (wantOf s i) 3 u)) (and-r (aged && arrived && named) worked h)))
+-- A STATION
 
--- .. of a page
-page-beside : (s : List ℕ) (p o : ℕ) → pageOk s p ≡ true → o < 8 → wholeOf s p ≢ 0 → lockOf s (p * 8 + o) ≢ 0 → lockOf s (p * 8 + o) ≡ wholeOf s p
-unfolding pageOk besideAt
-page-beside s p o h l w k =
-    let both = or-else (eqb (wholeOf s p) 0) (allTo (besideAt s p) 8 && allTo (namesOk s p) 8) (ne-eqb _ _ w) h in
-    let here = allTo-at (besideAt s p) 8 (and-l (allTo (besideAt s p) 8) (allTo (namesOk s p) 8) both) o l in
-    eqb-true (lockOf s (p * 8 + o)) (wholeOf s p)
-    (or-else (eqb (lockOf s (p * 8 + o)) 0) (eqb (lockOf s (p * 8 + o)) (wholeOf s p)) (ne-eqb _ _ k) here)
+module _ (s : List ℕ) (i : ℕ) where
+  blank-of : blankOk s i ≡ true → Blank s i
+  unfolding blankOk
+  blank-of h =
+      let u = all-4 (eqb (arrivalOf s i) 0) (eqb (requestOf s i) 0) (noneIn s (readSetFrom i)) (noneIn s (writtenSetFrom i)) h in
+      record { arrival-is = eqb-true _ _ (u .0); request-is = eqb-true _ _ (u .1); nothing-read = u .2; nothing-written = u .3 }
 
-page-named : (s : List ℕ) (p k : ℕ) → pageOk s p ≡ true → k < 8 → wholeOf s p ≡ k + 1 → latestOf s k ≢ 0
-unfolding pageOk namesOk
-page-named s p k h l e =
-    let w : wholeOf s p ≢ 0 = λ z. omega arith in
-    let both = or-else (eqb (wholeOf s p) 0) (allTo (besideAt s p) 8 && allTo (namesOk s p) 8) (ne-eqb _ _ w) h in
-    let here = allTo-at (namesOk s p) 8 (and-r (allTo (besideAt s p) 8) (allTo (namesOk s p) 8) both) k l in
-    eqb-false (latestOf s k) 0
-    (not-true (eqb (latestOf s k) 0) (or-else (not (eqb (wholeOf s p) (k + 1))) (not (eqb (latestOf s k) 0)) (rw (eq-eqb (wholeOf s p) (k + 1) e)) here))
+  commit-of : commitOk s i ≡ true → Work s i
+  unfolding commitOk
+  commit-of h =
+      let u = all-3 (eqb (kindOf s i) 1) (eqb (requestOf s i) 0) (eqb (workNumber s i) (latestOf s i)) h in
+      record { validates = eqb-true _ _ (u .0); request-is = eqb-true _ _ (u .1); latest-is = eqb-true _ _ (u .2) }
 
--- .. of two stations
-module _ (s : List ℕ) (i j : ℕ) (d : i ≢ j) (h : apartAt s i j ≡ true) where
+  abbrev reads : Bool
+  reads = onlyIn s (readSetFrom i) (requestOf s i) && noneIn s (writtenSetFrom i)
+
+  abbrev writes : Bool
+  writes = onlyIn s (writtenSetFrom i) (requestOf s i) && noneIn s (readSetFrom i)
+
+  read-of : requestOk s i ≡ true → wantOf s i ≡ 1 → One s i (readSetFrom i) (writtenSetFrom i)
+  unfolding requestOk
+  read-of h e =
+      let one : reads ≡ true = taken (eqb (wantOf s i) 1) reads writes (eq-eqb _ _ e) (and-r (eqb (kindOf s i) 0) _ h) in
+      record { locks = eqb-true _ _ (and-l (eqb (kindOf s i) 0) _ h); requested = and-l (onlyIn s (readSetFrom i) (requestOf s i)) _ one; nothing-else = and-r (onlyIn s (readSetFrom i) (requestOf s i)) _ one }
+
+  write-of : requestOk s i ≡ true → wantOf s i ≡ 2 → One s i (writtenSetFrom i) (readSetFrom i)
+  unfolding requestOk
+  write-of h e =
+      let one : writes ≡ true = passed (eqb (wantOf s i) 1) reads writes (ne-eqb (wantOf s i) 1 (λ z. omega (arith, z, e))) (and-r (eqb (kindOf s i) 0) _ h) in
+      record { locks = eqb-true _ _ (and-l (eqb (kindOf s i) 0) _ h); requested = and-l (onlyIn s (writtenSetFrom i) (requestOf s i)) _ one; nothing-else = and-r (onlyIn s (writtenSetFrom i) (requestOf s i)) _ one }
+
+  waiter-of : waiterOk s i ≡ true → Waiter s i
+  unfolding waiterOk
+  waiter-of h =
+      let u = all-3 (not (eqb (unfinishedOf s i) 0)) (ltb (arrivalOf s i) (arrivalsOf s)) (cond (eqb (wantOf s i) 3) (commitOk s i) (requestOk s i)) h in
+      let request : wantOf s i ≢ 3 → requestOk s i ≡ true = λ n. passed (eqb (wantOf s i) 3) (commitOk s i) (requestOk s i) (ne-eqb _ _ n) (u .2) in
+      record {
+        unfinished = eqb-false _ _ (not-true (eqb (unfinishedOf s i) 0) (u .0));
+        arrival-given = ltb-true _ _ (u .1);
+        read = λ e. read-of (request (λ z. omega (arith, z, e))) e;
+        write = λ e. write-of (request (λ z. omega (arith, z, e))) e;
+        commit = λ e. commit-of (taken (eqb (wantOf s i) 3) (commitOk s i) (requestOk s i) (eq-eqb _ _ e) (u .2));
+      }
+
+  called-of : callsOk s i ≡ true → calledOf s i ≢ 0 → Called s i
+  unfolding callsOk owesAt
+  called-of h n =
+      let none = eqb (pendOf s i) 0 && eqb (busyOf s i) 0 in
+      let some = leb 2 (wantOf s i) && eqb (bitOr (busyOf s i) (pendOf s i)) (pendOf s i) && allTo (owesAt s i) 8 in
+      let u = all-3 (leb 2 (wantOf s i)) (eqb (bitOr (busyOf s i) (pendOf s i)) (pendOf s i)) (allTo (owesAt s i) 8) (passed (eqb (calledOf s i) 0) none some (ne-eqb _ _ n) h) in
+      record {
+        wants = leb-true _ _ (u .0);
+        busy-owes = eqb-true _ _ (u .1);
+        owes = λ j l e.
+            let v = or-else (not (hasBit (pendOf s i) j)) (not (eqb j i) && eqb (kindOf s j) 0) (rw e) (allTo-at (owesAt s i) 8 (u .2) j l) in
+            (eqb-false _ _ (not-true (eqb j i) (and-l (not (eqb j i)) _ v)), eqb-true _ _ (and-r (not (eqb j i)) _ v));
+      }
+
+  uncalled-of : callsOk s i ≡ true → calledOf s i ≡ 0 → (pendOf s i ≡ 0) × (busyOf s i ≡ 0)
+  unfolding callsOk
+  uncalled-of h e =
+      let none = eqb (pendOf s i) 0 && eqb (busyOf s i) 0 in
+      let u : none ≡ true = taken (eqb (calledOf s i) 0) none _ (eq-eqb _ _ e) h in
+      (eqb-true _ _ (and-l (eqb (pendOf s i) 0) _ u), eqb-true _ _ (and-r (eqb (pendOf s i) 0) _ u))
+
+  module _ (h : stationOk s i ≡ true) where
+    parts : (agedOk s i ≡ true) × (entryOk s i ≡ true) × (callsOk s i ≡ true)
+    unfolding stationOk
+    parts = all-3 (agedOk s i) (entryOk s i) (callsOk s i) h
+
+    station-age : ageOf s i < agesOf s
+    unfolding agedOk
+    station-age = ltb-true _ _ (and-l (ltb (ageOf s i) (agesOf s)) _ (parts .0))
+
+    station-named : unfinishedOf s i ≢ 0 → latestOf s i ≢ 0
+    unfolding agedOk
+    station-named n =
+        eqb-false _ _
+        (not-true (eqb (latestOf s i) 0)
+        (or-else (eqb (unfinishedOf s i) 0) (not (eqb (latestOf s i) 0)) (ne-eqb _ _ n) (and-r (ltb (ageOf s i) (agesOf s)) _ (parts .0))))
+
+    station-blank : wantOf s i ≡ 0 → Blank s i
+    unfolding entryOk
+    station-blank e = blank-of (taken (eqb (wantOf s i) 0) (blankOk s i) (waiterOk s i) (eq-eqb _ _ e) (parts .1))
+
+    station-waiter : wantOf s i ≢ 0 → Waiter s i
+    unfolding entryOk
+    station-waiter n = waiter-of (passed (eqb (wantOf s i) 0) (blankOk s i) (waiterOk s i) (ne-eqb _ _ n) (parts .1))
+
+-- LOCKS
+
+holder-of : (s : List ℕ) (h : ℕ) → holderOk s (h + 1) ≡ true → Holder s h
+unfolding holderOk
+holder-of s h e =
+    let one : h + 1 - 1 ≡ h = omega arith in
+    let z : (leb (h + 1) 8 && eqb (kindOf s h) 0 && not (eqb (unfinishedOf s h) 0)) ≡ true = rw (one, ne-eqb (h + 1) 0 (λ q. omega (arith, q))) at e in
+    let u = all-3 (leb (h + 1) 8) (eqb (kindOf s h) 0) (not (eqb (unfinishedOf s h) 0)) z in
+    record { station = omega (arith, leb-true (h + 1) 8 (u .0)); locks = eqb-true _ _ (u .1); unfinished = eqb-false _ _ (not-true (eqb (unfinishedOf s h) 0) (u .2)) }
+
+module _ (s : List ℕ) (p : ℕ) (h : pageOk s p ≡ true) where
+  abbrev held : Bool
+  held = holderOk s (wholeOf s p) && allTo (besideAt s p) 8
+
+  page-held : wholeOf s p ≢ 0 → held ≡ true
+  unfolding pageOk
+  page-held n = passed (eqb (wholeOf s p) 0) (allTo (holderAt s p) 8) held (ne-eqb _ _ n) h
+
+  page-whole : (k : ℕ) → wholeOf s p ≡ k + 1 → Holder s k
+  page-whole k e = holder-of s k (rw e at (and-l (holderOk s (wholeOf s p)) (allTo (besideAt s p) 8) (page-held (λ z. omega (arith, z, e)))))
+
+  page-beside : (o : ℕ) → o < 8 → wholeOf s p ≢ 0 → lockOf s (p * 8 + o) ≢ 0 → lockOf s (p * 8 + o) ≡ wholeOf s p
+  unfolding besideAt
+  page-beside o l w n =
+      let here = allTo-at (besideAt s p) 8 (and-r (holderOk s (wholeOf s p)) (allTo (besideAt s p) 8) (page-held w)) o l in
+      eqb-true _ _ (or-else (eqb (lockOf s (p * 8 + o)) 0) (eqb (lockOf s (p * 8 + o)) (wholeOf s p)) (ne-eqb _ _ n) here)
+
+  -- beside a whole lock it is the whole lock's holder
+  page-lock : (o k : ℕ) → o < 8 → lockOf s (p * 8 + o) ≡ k + 1 → Holder s k
+  unfolding pageOk holderAt
+  page-lock o k l e =
+      byB (eqb (wholeOf s p) 0)
+      (λ w. holder-of s k (rw e at (allTo-at (holderAt s p) 8 (taken (eqb (wholeOf s p) 0) (allTo (holderAt s p) 8) held w h) o l)))
+      (λ w. page-whole k (sym (page-beside o l (eqb-false _ _ w) (λ z. omega (arith, z, e))) ∙ e))
+
+-- TWO STATIONS
+
+module _ (s : List ℕ) (i j : ℕ) (h : apartAt s i j ≡ true) where
   abbrev ages : Bool
   ages = eqb (unfinishedOf s i) 0 || eqb (unfinishedOf s j) 0 || not (eqb (ageOf s i) (ageOf s j))
 
   abbrev arrivals : Bool
   arrivals = eqb (wantOf s i) 0 || eqb (wantOf s j) 0 || not (eqb (arrivalOf s i) (arrivalOf s j))
 
-  both : ages && arrivals ≡ true
-  unfolding apartAt
-  both = or-else (eqb i j) (ages && arrivals) (ne-eqb i j d) h
-
   ages-differ : unfinishedOf s i ≢ 0 → unfinishedOf s j ≢ 0 → ageOf s i ≢ ageOf s j
+  unfolding apartAt
   ages-differ u v =
       eqb-false (ageOf s i) (ageOf s j)
-      (not-true (eqb (ageOf s i) (ageOf s j)) (rw (ne-eqb (unfinishedOf s i) 0 u, ne-eqb (unfinishedOf s j) 0 v) at (and-l ages arrivals both)))
+      (not-true (eqb (ageOf s i) (ageOf s j)) (rw (ne-eqb (unfinishedOf s i) 0 u, ne-eqb (unfinishedOf s j) 0 v) at (and-l ages arrivals h)))
 
   arrivals-differ : wantOf s i ≢ 0 → wantOf s j ≢ 0 → arrivalOf s i ≢ arrivalOf s j
+  unfolding apartAt
   arrivals-differ u v =
       eqb-false (arrivalOf s i) (arrivalOf s j)
-      (not-true (eqb (arrivalOf s i) (arrivalOf s j)) (rw (ne-eqb (wantOf s i) 0 u, ne-eqb (wantOf s j) 0 v) at (and-r ages arrivals both)))
+      (not-true (eqb (arrivalOf s i) (arrivalOf s j)) (rw (ne-eqb (wantOf s i) 0 u, ne-eqb (wantOf s j) 0 v) at (and-r ages arrivals h)))
+
+-- the later of the two looks at the earlier
+pair : {G : Type 0} (s : List ℕ) → allTo (apartOk s) 8 ≡ true → (i j : ℕ) → i < 8 → j < 8 → i ≢ j → (apartAt s i j ≡ true → G) → (apartAt s j i ≡ true → G) → G
+unfolding apartOk
+pair s h i j li lj d f g =
+    byB (ltb j i) (λ e. f (allTo-at (apartAt s i) i (allTo-at (apartOk s) 8 h i li) j (ltb-true j i e)))
+    (λ e. g (allTo-at (apartAt s j) j (allTo-at (apartOk s) 8 h j lj) i (omega (arith, ltb-false j i e, d))))
+
+-- NUMBER 1
 
 pub valid-ranged : (s : List ℕ) → valid s ≡ true → Ranged s
-unfolding valid rangesOk countersOk apartOk
+unfolding valid rangesOk countersOk askedAt
 valid-ranged s h =
     let sized = eqb (length s) serverLength in
     let stations = allTo (stationOk s) 8 in
     let pages = allTo (pageOk s) 32 in
+    let asked = allTo (askedAt s) 32 in
     let apart = allTo (apartOk s) 8 in
-    let r2 = rangesOk s && countersOk s in
-    let r3 = r2 && stations in
-    let r4 = r3 && pages in
-    let h5 : r4 && apart ≡ true = and-r sized (r4 && apart) h in
-    let h4 : r4 ≡ true = and-l r4 apart h5 in
-    let h3 : r3 ≡ true = and-l r3 pages h4 in
-    let h2 : r2 ≡ true = and-l r2 stations h3 in
-    let hr : rangesOk s ≡ true = and-l (rangesOk s) (countersOk s) h2 in
-    let hc : countersOk s ≡ true = and-r (rangesOk s) (countersOk s) h2 in
-    let hs : stations ≡ true = and-r r2 stations h3 in
-    let hp : pages ≡ true = and-r r3 pages h4 in
-    let ha : apart ≡ true = and-r r4 apart h5 in
-    let m1 = most s 36216 8 256 in
-    let m2 = most s 36472 8 32 in
-    let m3 = most s 37016 1 8 in
-    let m4 = most s 37024 3 8 in
-    let m5 = most s 37040 1 8 in
-    let m6 = most s 37064 1 8 in
-    let g5 : m1 && m2 && m3 && m4 && m5 ≡ true = and-l (m1 && m2 && m3 && m4 && m5) m6 hr in
-    let g4 : m1 && m2 && m3 && m4 ≡ true = and-l (m1 && m2 && m3 && m4) m5 g5 in
-    let g3 : m1 && m2 && m3 ≡ true = and-l (m1 && m2 && m3) m4 g4 in
-    let g2 : m1 && m2 ≡ true = and-l (m1 && m2) m3 g3 in
-    let c1 = ltb (agesOf s) 9223372036854775808 in
-    let c2 = ltb (arrivalsOf s) 9223372036854775808 in
+    let front = rangesOk s && countersOk s && stations in
+    let u = all-4 front pages asked apart (and-r sized (front && pages && asked && apart) h) in
+    let v = all-3 (rangesOk s) (countersOk s) stations (u .0) in
+    let r = all-4 (most s kindFrom 1 8) (most s wantFrom 3 8) (most s calledFrom 1 8) (most s unfinishedFrom 1 8) (v .0) in
+    let station : (i : ℕ) → i < 8 → stationOk s i ≡ true = allTo-at (stationOk s) 8 (v .2) in
+    let page : (p : ℕ) → p < 32 → pageOk s p ≡ true = allTo-at (pageOk s) 32 (u .1) in
     record {
-      size = eqb-true (length s) serverLength (and-l sized (r4 && apart) h);
-      lock-fits = most-at s 36216 8 256 (and-l m1 m2 g2);
-      whole-fits = most-at s 36472 8 32 (and-r m1 m2 g2);
-      kind-fits = most-at s 37016 1 8 (and-r (m1 && m2) m3 g3);
-      want-fits = most-at s 37024 3 8 (and-r (m1 && m2 && m3) m4 g4);
-      called-fits = most-at s 37040 1 8 (and-r (m1 && m2 && m3 && m4) m5 g5);
-      unfinished-fits = most-at s 37064 1 8 (and-r (m1 && m2 && m3 && m4 && m5) m6 hr);
-      ages-fit = ltb-true (agesOf s) 9223372036854775808 (and-l c1 c2 hc);
-      arrivals-fit = ltb-true (arrivalsOf s) 9223372036854775808 (and-r c1 c2 hc);
-      age-given = λ i l. station-age s i (allTo-at (stationOk s) 8 hs i l);
-      arrival-given = λ i l. station-arrival s i (allTo-at (stationOk s) 8 hs i l);
-      waiter-named = λ i l. station-named s i (allTo-at (stationOk s) 8 hs i l);
-      work-named = λ i l. station-worked s i (allTo-at (stationOk s) 8 hs i l);
-      beside = λ p o l k. page-beside s p o (allTo-at (pageOk s) 32 hp p l) k;
-      holder-named = λ p k l m. page-named s p k (allTo-at (pageOk s) 32 hp p l) m;
-      ages-apart = λ i j l m d. ages-differ s i j d (allTo-at (apartAt s i) 8 (allTo-at (apartOk s) 8 ha i l) j m);
-      arrivals-apart = λ i j l m d. arrivals-differ s i j d (allTo-at (apartAt s i) 8 (allTo-at (apartOk s) 8 ha i l) j m);
+      size = eqb-true (length s) serverLength (and-l sized (front && pages && asked && apart) h);
+      kind-fits = most-at s kindFrom 1 8 (r .0);
+      want-fits = most-at s wantFrom 3 8 (r .1);
+      called-fits = most-at s calledFrom 1 8 (r .2);
+      unfinished-fits = most-at s unfinishedFrom 1 8 (r .3);
+      ages-fit = ltb-true (agesOf s) counterLimit (and-l (ltb (agesOf s) counterLimit) (ltb (arrivalsOf s) counterLimit) (v .1));
+      arrivals-fit = ltb-true (arrivalsOf s) counterLimit (and-r (ltb (agesOf s) counterLimit) (ltb (arrivalsOf s) counterLimit) (v .1));
+      age-given = λ i l. station-age s i (station i l);
+      named = λ i l. station-named s i (station i l);
+      blank = λ i l. station-blank s i (station i l);
+      waiter = λ i l. station-waiter s i (station i l);
+      uncalled = λ i l. uncalled-of s i (parts s i (station i l) .2);
+      called = λ i l. called-of s i (parts s i (station i l) .2);
+      lock-held = λ p o k lp lo. page-lock s p (page p lp) o k lo;
+      whole-held = λ p k l. page-whole s p (page p l) k;
+      beside = λ p o lp lo. page-beside s p (page p lp) o lo;
+      asked-held = λ p l e.
+          eqb-false _ _
+          (not-true (eqb (wholeOf s p) 0) (or-else (not (hasBit (askedOf s) p)) (not (eqb (wholeOf s p) 0)) (rw e) (allTo-at (askedAt s) 32 (u .2) p l)));
+      ages-apart = λ i j li lj d ui uj e. pair s (u .3) i j li lj d (λ q. ages-differ s i j q ui uj e) (λ q. ages-differ s j i q uj ui (sym e));
+      arrivals-apart = λ i j li lj d wi wj e. pair s (u .3) i j li lj d (λ q. arrivals-differ s i j q wi wj e) (λ q. arrivals-differ s j i q wj wi (sym e));
     }
 
 pub kinds-length : (kinds : List ℕ) → kindsOk kinds ≡ true → length kinds ≡ 8
 unfolding kindsOk
 kinds-length kinds h = eqb-true (length kinds) 8 (and-l (eqb (length kinds) 8) (most kinds 0 1 8) h)
-
--- a page that nobody holds whole, a station that neither works nor waits
-
-pub page-free : (s : List ℕ) (p : ℕ) → wholeOf s p ≡ 0 → true ≡ pageOk s p
-unfolding pageOk
-page-free s p e = rw e
-
-pub page-held : (s : List ℕ) (p : ℕ) → wholeOf s p ≢ 0 → pageOk s p ≡ (allTo (besideAt s p) 8 && allTo (namesOk s p) 8)
-unfolding pageOk
-page-held s p n = rw (ne-eqb (wholeOf s p) 0 n)
-
-pub apart-idle : (s : List ℕ) (i : ℕ) → (eqb (unfinishedOf s i) 0 && eqb (wantOf s i) 0) ≡ true → true ≡ apartOk s i
-unfolding apartOk apartAt
-apart-idle s i e =
-    let a = and-l (eqb (unfinishedOf s i) 0) (eqb (wantOf s i) 0) e in
-    let b = and-r (eqb (unfinishedOf s i) 0) (eqb (wantOf s i) 0) e in
-    sym (allTo-of (apartAt s i) 8 (λ j l. rw (a, b) (or-true (eqb i j))))
-  where
-    or-true : (b : Bool) → (b || true) ≡ true
-    or-true true = refl
-    or-true false = refl
 
 -- the bytes of a number that is 0
 pub zero-bytes : (n : ℕ) (s : List ℕ) (at : ℕ) → numAt n s at ≡ 0 → (k : ℕ) → k < n → getD s (at + k) 0 ≡ 0
@@ -212,3 +313,41 @@ zero-bytes (suc n) s at e (suc k) l =
 -- eight bytes at once
 pub zero-eight : (s : List ℕ) (at k : ℕ) → k < 8 → u64At s at ≡ 0 → getD s (at + k) 0 ≡ 0
 zero-eight s at k l e = zero-bytes 8 s at (sym (u64At-is s at) ∙ e) k l
+
+-- WHAT THE CODE PASSES OVER
+
+pub no-holder : (s : List ℕ) → true ≡ holderOk s 0
+unfolding holderOk
+no-holder s = refl
+
+-- a page without locks
+pub page-unlocked : (s : List ℕ) (p : ℕ) → u64At s (lockFrom + p * 8) ≡ 0 → true ≡ allTo (holderAt s p) 8
+unfolding holderAt
+page-unlocked s p e =
+    sym (allTo-of (holderAt s p) 8
+    (λ o l.
+    let at : lockFrom + (p * 8 + o) ≡ lockFrom + p * 8 + o = omega arith in
+    rw (at, zero-eight s (lockFrom + p * 8) o l e) (sym (no-holder s))))
+
+no-bit : (k : ℕ) → hasBit 0 k ≡ false
+unfolding hasBit
+no-bit k = refl
+
+-- no 19 out
+pub none-asked : (s : List ℕ) → askedOf s ≡ 0 → true ≡ allTo (askedAt s) 32
+unfolding askedAt
+none-asked s e = sym (allTo-of (askedAt s) 32 (λ p l. rw (e, no-bit p)))
+
+-- a station that neither works nor waits
+pub apart-idle : (s : List ℕ) (i : ℕ) → (eqb (unfinishedOf s i) 0 && eqb (wantOf s i) 0) ≡ true → true ≡ apartOk s i
+unfolding apartOk apartAt
+apart-idle s i e =
+    let a = and-l (eqb (unfinishedOf s i) 0) (eqb (wantOf s i) 0) e in
+    let b = and-r (eqb (unfinishedOf s i) 0) (eqb (wantOf s i) 0) e in
+    sym (allTo-of (apartAt s i) i (λ j l. rw (a, b) refl))
+
+-- the last of four words, the others being as they should
+pub only-last : (s : List ℕ) (at x : ℕ) {a b c d f g h k : ℕ} → a ≡ u64At s at → b ≡ u64At s (at + 8) → c ≡ u64At s (at + 16) → d ≡ u64At s (at + 24)
+    → f ≡ wordOf x 0 → g ≡ wordOf x 1 → h ≡ wordOf x 2 → k ≡ wordOf x 3 → a ≡ f → b ≡ g → c ≡ h → eqb d k ≡ onlyIn s at x
+unfolding onlyIn
+only-last s at x {a} {b} {c} {d} {f} {g} {h} {k} ea eb ec ed ef eg eh ek za zb zc = rw (← ea, ← eb, ← ec, ← ed, ← ef, ← eg, ← eh, ← ek, eq-eqb a f za, eq-eqb b g zb, eq-eqb c h zc)

@@ -1,13 +1,16 @@
 -- Number 1 of the server's state: "a lent state has a wrong length, a field out of range, .. two holders of one lock, a whole lock beside
--- another's lock on that page, or equal ages or arrivals". A lock has one byte for its holder, so that two cannot be written down.
-use Prim.Native.Nat.{ℕ, zero, suc, _+_, _*_}
+-- another's lock on that page, or equal ages or arrivals". A lock has one byte for its holder, so that two cannot be written down. The
+-- range of a field that does not count is 0 (docs/STATE.md), so that what is taken stays so: `valid-stays` of crate line_bytes.
+use Prim.Native.Nat.{ℕ, zero, suc, _+_, _*_, _-_, _/_, _%_, _^_}
 use mathlib.Core.List.{List}
 use mathlib.Core.Bool.{Bool, not, _&&_, _||_, cond}
 use lib.ListN.{length, getD, set, replicate}
 use lib.Dec.{eqb, ltb, leb}
 use Rattle.lists.specs.Tests.{allTo}
-use Rattle.le.specs.Le.{setU64}
-use Rattle.server_state.specs.Layout.{serverLength, ageOf, arrivalOf, agesOf, arrivalsOf, workNumber, latestOf, lockOf, wholeOf, kindOf, wantOf, calledOf, unfinishedOf}
+use lib.Bits.{bitOr}
+use Rattle.le.specs.Le.{u64At, setU64}
+use Rattle.station_state.specs.Layout.{hasBit, noneIn}
+use Rattle.server_state.specs.Layout.{counterLimit, nextAgeFrom, nextArrivalFrom, kindFrom, wantFrom, calledFrom, unfinishedFrom, serverLength, ageOf, arrivalOf, agesOf, arrivalsOf, workNumber, latestOf, askedOf, lockOf, wholeOf, readSetFrom, writtenSetFrom, kindOf, wantOf, requestOf, calledOf, pendOf, busyOf, unfinishedOf}
 
 -- a byte is at most n
 unfoldable pub mostAt : List ℕ → ℕ → ℕ → ℕ → Bool
@@ -17,44 +20,103 @@ mostAt s at n k = leb (getD s (at + k) 0) n
 unfoldable pub most : List ℕ → ℕ → ℕ → ℕ → Bool
 most s at n m = allTo (mostAt s at n) m
 
--- locks name stations 0 to 7 or none; kinds and flags
+-- kinds and flags
 unfoldable pub rangesOk : List ℕ → Bool
-rangesOk s =
-    most s 36216 8 256 && most s 36472 8 32 && most s 37016 1 8 && most s 37024 3 8 && most s 37040 1 8 && most s 37064 1 8
+rangesOk s = most s kindFrom 1 8 && most s wantFrom 3 8 && most s calledFrom 1 8 && most s unfinishedFrom 1 8
 
--- "each transaction gets a new age, 2^63 being out of range": the counters stand above every age and arrival that counts
+-- "each transaction gets a new age, 2^63 being out of range": the counters stand above every age and arrival
 unfoldable pub countersOk : List ℕ → Bool
-countersOk s = ltb (agesOf s) 9223372036854775808 && ltb (arrivalsOf s) 9223372036854775808
+countersOk s = ltb (agesOf s) counterLimit && ltb (arrivalsOf s) counterLimit
+
+-- OBJECT SETS, eight pages at a time: bit b of word k is address k * 64 + b
+
+-- the word k of the set that has the address a alone
+unfoldable pub wordOf : ℕ → ℕ → ℕ
+wordOf a k = cond (eqb k (a / 64)) (2 ^ (a % 64)) 0
+
+-- the sets from `at` have a alone
+unfoldable pub onlyIn : List ℕ → ℕ → ℕ → Bool
+onlyIn s at a =
+    eqb (u64At s at) (wordOf a 0) && eqb (u64At s (at + 8)) (wordOf a 1) && eqb (u64At s (at + 16)) (wordOf a 2) && eqb (u64At s (at + 24)) (wordOf a 3)
+
+-- THE WAITING LIST
+
+-- a station that waits for nothing has an empty entry
+unfoldable pub blankOk : List ℕ → ℕ → Bool
+blankOk s i = eqb (arrivalOf s i) 0 && eqb (requestOf s i) 0 && noneIn s (readSetFrom i) && noneIn s (writtenSetFrom i)
+
+-- a validating commit, of the latest transaction
+unfoldable pub commitOk : List ℕ → ℕ → Bool
+commitOk s i = eqb (kindOf s i) 1 && eqb (requestOf s i) 0 && eqb (workNumber s i) (latestOf s i)
+
+-- a locking station's read or write, of the object requested
+unfoldable pub requestOk : List ℕ → ℕ → Bool
+requestOk s i =
+    eqb (kindOf s i) 0
+    && cond (eqb (wantOf s i) 1)
+    (onlyIn s (readSetFrom i) (requestOf s i) && noneIn s (writtenSetFrom i))
+    (onlyIn s (writtenSetFrom i) (requestOf s i) && noneIn s (readSetFrom i))
+
+-- who waits has an unfinished transaction and an arrival that was given
+unfoldable pub waiterOk : List ℕ → ℕ → Bool
+waiterOk s i =
+    not (eqb (unfinishedOf s i) 0) && ltb (arrivalOf s i) (arrivalsOf s) && cond (eqb (wantOf s i) 3) (commitOk s i) (requestOk s i)
+
+unfoldable pub entryOk : List ℕ → ℕ → Bool
+entryOk s i = cond (eqb (wantOf s i) 0) (blankOk s i) (waiterOk s i)
+
+-- whoever owes station i a 7 is another, locking one
+unfoldable pub owesAt : List ℕ → ℕ → ℕ → Bool
+owesAt s i j = not (hasBit (pendOf s i) j) || (not (eqb j i) && eqb (kindOf s j) 0)
+
+-- 20s go out for a write or a commit; a 6 comes of one that owes a 7
+unfoldable pub callsOk : List ℕ → ℕ → Bool
+callsOk s i =
+    cond (eqb (calledOf s i) 0)
+    (eqb (pendOf s i) 0 && eqb (busyOf s i) 0)
+    (leb 2 (wantOf s i) && eqb (bitOr (busyOf s i) (pendOf s i)) (pendOf s i) && allTo (owesAt s i) 8)
+
+-- an age was given; an unfinished transaction has a number
+unfoldable pub agedOk : List ℕ → ℕ → Bool
+agedOk s i = ltb (ageOf s i) (agesOf s) && (eqb (unfinishedOf s i) 0 || not (eqb (latestOf s i) 0))
 
 unfoldable pub stationOk : List ℕ → ℕ → Bool
-stationOk s i =
-    (eqb (unfinishedOf s i) 0 || ltb (ageOf s i) (agesOf s)) && (eqb (wantOf s i) 0 || ltb (arrivalOf s i) (arrivalsOf s))
-    && (eqb (wantOf s i) 0 || not (eqb (latestOf s i) 0)) && (not (eqb (wantOf s i) 3) || not (eqb (workNumber s i) 0))
+stationOk s i = agedOk s i && entryOk s i && callsOk s i
 
--- "a whole lock beside another's lock on that page"; whoever holds a page whole has a transaction
+-- LOCKS
+
+-- a holder is a locking station whose transaction is unfinished; 0 is none
+unfoldable pub holderOk : List ℕ → ℕ → Bool
+holderOk s h = eqb h 0 || (leb h 8 && eqb (kindOf s (h - 1)) 0 && not (eqb (unfinishedOf s (h - 1)) 0))
+
+unfoldable pub holderAt : List ℕ → ℕ → ℕ → Bool
+holderAt s p o = holderOk s (lockOf s (p * 8 + o))
+
+-- "a whole lock beside another's lock on that page"
 unfoldable pub besideAt : List ℕ → ℕ → ℕ → Bool
 besideAt s p o = eqb (lockOf s (p * 8 + o)) 0 || eqb (lockOf s (p * 8 + o)) (wholeOf s p)
 
-unfoldable pub namesOk : List ℕ → ℕ → ℕ → Bool
-namesOk s p h = not (eqb (wholeOf s p) (h + 1)) || not (eqb (latestOf s h) 0)
-
 unfoldable pub pageOk : List ℕ → ℕ → Bool
-pageOk s p = eqb (wholeOf s p) 0 || (allTo (besideAt s p) 8 && allTo (namesOk s p) 8)
+pageOk s p = cond (eqb (wholeOf s p) 0) (allTo (holderAt s p) 8) (holderOk s (wholeOf s p) && allTo (besideAt s p) 8)
+
+-- 19 was sent for a present 18
+unfoldable pub askedAt : List ℕ → ℕ → Bool
+askedAt s p = not (hasBit (askedOf s) p) || not (eqb (wholeOf s p) 0)
 
 -- "equal ages or arrivals": of unfinished transactions, of waiters
 unfoldable pub apartAt : List ℕ → ℕ → ℕ → Bool
 apartAt s i j =
-    eqb i j
-    || ((eqb (unfinishedOf s i) 0 || eqb (unfinishedOf s j) 0 || not (eqb (ageOf s i) (ageOf s j)))
-    && (eqb (wantOf s i) 0 || eqb (wantOf s j) 0 || not (eqb (arrivalOf s i) (arrivalOf s j))))
+    (eqb (unfinishedOf s i) 0 || eqb (unfinishedOf s j) 0 || not (eqb (ageOf s i) (ageOf s j)))
+    && (eqb (wantOf s i) 0 || eqb (wantOf s j) 0 || not (eqb (arrivalOf s i) (arrivalOf s j)))
 
+-- each pair is looked at once
 unfoldable pub apartOk : List ℕ → ℕ → Bool
-apartOk s i = allTo (apartAt s i) 8
+apartOk s i = allTo (apartAt s i) i
 
 unfoldable pub valid : List ℕ → Bool
 valid s =
     eqb (length s) serverLength
-    && (rangesOk s && countersOk s && allTo (stationOk s) 8 && allTo (pageOk s) 32 && allTo (apartOk s) 8)
+    && (rangesOk s && countersOk s && allTo (stationOk s) 8 && allTo (pageOk s) 32 && allTo (askedAt s) 32 && allTo (apartOk s) 8)
 
 -- the number and the state afterwards
 pub record Freshened : Type 0 where
@@ -67,11 +129,11 @@ freshened s n = record { state = s; number = n }
 -- the kinds of the first n stations
 unfoldable pub kindsTo : List ℕ → List ℕ → ℕ → List ℕ
 kindsTo kinds s zero = s
-kindsTo kinds s (suc i) = set (kindsTo kinds s i) (37016 + i) (getD kinds i 0)
+kindsTo kinds s (suc i) = set (kindsTo kinds s i) (kindFrom + i) (getD kinds i 0)
 
 -- "A fresh line has every value, version and last number 0, nothing open, cached, listed, locked or under way"; the counters start at 1
 unfoldable pub freshServer : List ℕ → List ℕ
-freshServer kinds = kindsTo kinds (setU64 (setU64 (replicate serverLength 0) 34944 1) 34952 1) 8
+freshServer kinds = kindsTo kinds (setU64 (setU64 (replicate serverLength 0) nextAgeFrom 1) nextArrivalFrom 1) 8
 
 unfoldable pub kindsOk : List ℕ → Bool
 kindsOk kinds = eqb (length kinds) 8 && most kinds 0 1 8

@@ -1,12 +1,82 @@
 // The bytes of the server's state: number 1, a fresh state, the age counter.
-// Where each field stands is in specs/Layout.antt and docs/STATE.md.
 ghost use mathlib.Core.Path.{_≡_};
 ghost use Prim.Native.Nat.{_+_, _≤_, _<_};
 ghost use lib.ListN.{length, replicate};
 ghost use Rattle.lists.specs.Tests.{allTo};
 ghost use Rattle.server_state.specs.Layout.{serverLength, otherB};
-ghost use Rattle.server_state.specs.Valid.{mostAt, most as Valid·most, rangesOk, countersOk, stationOk, besideAt, namesOk, pageOk, apartAt, apartOk, valid as Valid·valid, kindsOk, kindsTo, freshened, freshOf};
+ghost use Rattle.server_state.specs.Valid.{mostAt, most as Valid·most, rangesOk, countersOk, wordOf, onlyIn, blankOk, commitOk, requestOk, waiterOk, entryOk, owesAt, callsOk, agedOk, stationOk, holderOk, holderAt, besideAt, pageOk, askedAt, apartAt, apartOk, valid as Valid·valid, kindsOk, kindsTo, freshened, freshOf};
 ghost use Rattle.server_state.specs.Ages.{agedOf};
+use station_state::NUMBER_WIDTH;
+use station_state::PAGE_SET_WIDTH;
+use station_state::VALUE_WIDTH;
+
+// The width of an age or an arrival; what a station has too is as wide as there.
+pub const AGE_WIDTH: usize = 8;
+
+// The bytes of a row: a station's values by address, its versions by page, an object set for each page; of a page's eight values.
+pub const VALUE_ROW: usize = 256 * VALUE_WIDTH;
+
+pub const PAGE_ROW: usize = 8 * VALUE_WIDTH;
+
+pub const VERSION_ROW: usize = 32 * NUMBER_WIDTH;
+
+pub const SET_ROW: usize = 32;
+
+// Where each field stands: docs/STATE.md, "The server's state", in its order, each behind the field before it.
+pub const VALUE: usize = 0;
+
+pub const READ_VALUE: usize = VALUE + VALUE_ROW;
+
+pub const WRITTEN_VALUE: usize = READ_VALUE + 8 * VALUE_ROW;
+
+pub const AGE: usize = WRITTEN_VALUE + 8 * VALUE_ROW;
+
+pub const ARRIVAL: usize = AGE + 8 * AGE_WIDTH;
+
+pub const NEXT_AGE: usize = ARRIVAL + 8 * AGE_WIDTH;
+
+pub const NEXT_ARRIVAL: usize = NEXT_AGE + AGE_WIDTH;
+
+pub const VERSION: usize = NEXT_ARRIVAL + AGE_WIDTH;
+
+pub const SENT_VERSION: usize = VERSION + VERSION_ROW;
+
+pub const WORK: usize = SENT_VERSION + 8 * VERSION_ROW;
+
+pub const LATEST: usize = WORK + 8 * NUMBER_WIDTH;
+
+pub const LISTED: usize = LATEST + 8 * NUMBER_WIDTH;
+
+pub const LAST: usize = LISTED + 8 * PAGE_SET_WIDTH;
+
+pub const ASKED: usize = LAST + NUMBER_WIDTH;
+
+pub const LOCK: usize = ASKED + PAGE_SET_WIDTH;
+
+pub const WHOLE: usize = LOCK + 256;
+
+pub const READ_SET: usize = WHOLE + 32;
+
+pub const WRITTEN_SET: usize = READ_SET + 8 * SET_ROW;
+
+pub const KIND: usize = WRITTEN_SET + 8 * SET_ROW;
+
+pub const WANT: usize = KIND + 8;
+
+pub const REQUEST: usize = WANT + 8;
+
+pub const CALLED: usize = REQUEST + 8;
+
+pub const PEND: usize = CALLED + 8;
+
+pub const BUSY: usize = PEND + 8;
+
+pub const UNFINISHED: usize = BUSY + 8;
+
+pub const LENGTH: usize = UNFINISHED + 8;
+
+// "each transaction gets a new age, 2^63 being out of range": of ages and arrivals.
+pub const COUNTER_LIMIT: u64 = 9223372036854775808;
 
 // Whether the holder h is a station other than i.
 pub fn other(h: u8, i: usize) -> bool
@@ -41,29 +111,156 @@ fn ranges_ok(s: &[u8]) -> bool
     requires { ⌜ length (now s) ≡ serverLength ⌝ }
     ensures { λ r. ⌜ r ≡ rangesOk (now (s .entry)) ⌝ }
 {
-    most(s, 36216, 8, 256)
-        & most(s, 36472, 8, 32)
-        & most(s, 37016, 1, 8)
-        & most(s, 37024, 3, 8)
-        & most(s, 37040, 1, 8)
-        & most(s, 37064, 1, 8)
+    most(s, KIND, 1, 8) & most(s, WANT, 3, 8) & most(s, CALLED, 1, 8) & most(s, UNFINISHED, 1, 8)
 }
 
 fn counters_ok(s: &[u8]) -> bool
     requires { ⌜ length (now s) ≡ serverLength ⌝ }
     ensures { λ r. ⌜ r ≡ countersOk (now (s .entry)) ⌝ }
 {
-    (le::get_u64(s, 34944) < 9223372036854775808) & (le::get_u64(s, 34952) < 9223372036854775808)
+    (le::get_u64(s, NEXT_AGE) < COUNTER_LIMIT) & (le::get_u64(s, NEXT_ARRIVAL) < COUNTER_LIMIT)
+}
+
+// The word k of the object sets that have the address a alone.
+fn word(a: u8, k: u8) -> u64
+    ensures { λ r. ⌜ r ≡ wordOf a k ⌝ }
+{
+    if k != a / 64 {
+        return 0;
+    }
+    1u64 << (a % 64)
+}
+
+// Whether the object sets from `at` have the address a alone.
+fn only_in(s: &[u8], at: usize, a: u8) -> bool
+    requires { ⌜ at + 32 ≤ length (now s) ⌝ }
+    ensures { λ r. ⌜ r ≡ onlyIn (now (s .entry)) at a ⌝ }
+{
+    if le::get_u64(s, at) != word(a, 0) {
+        return false;
+    }
+    if le::get_u64(s, at + 8) != word(a, 1) {
+        return false;
+    }
+    if le::get_u64(s, at + 16) != word(a, 2) {
+        return false;
+    }
+    le::get_u64(s, at + 24) == word(a, 3)
+}
+
+// Whether the entry of station i is empty.
+fn blank_ok(s: &[u8], i: usize) -> bool
+    requires { ⌜ (length (now s) ≡ serverLength) × (i < 8) ⌝ }
+    ensures { λ r. ⌜ r ≡ blankOk (now (s .entry)) i ⌝ }
+{
+    if le::get_u64(s, ARRIVAL + i * AGE_WIDTH) != 0 {
+        return false;
+    }
+    if s[REQUEST + i] != 0 {
+        return false;
+    }
+    if !station_state::none_in(s, READ_SET + i * SET_ROW) {
+        return false;
+    }
+    station_state::none_in(s, WRITTEN_SET + i * SET_ROW)
+}
+
+// Whether station i may wait with a commit.
+fn commit_ok(s: &[u8], i: usize) -> bool
+    requires { ⌜ (length (now s) ≡ serverLength) × (i < 8) ⌝ }
+    ensures { λ r. ⌜ r ≡ commitOk (now (s .entry)) i ⌝ }
+{
+    (s[KIND + i] == 1)
+        & (s[REQUEST + i] == 0)
+        & (le::get_u32(s, WORK + i * NUMBER_WIDTH) == le::get_u32(s, LATEST + i * NUMBER_WIDTH))
+}
+
+// Whether it may wait with a read or a write: of the object requested.
+fn request_ok(s: &[u8], i: usize) -> bool
+    requires { ⌜ (length (now s) ≡ serverLength) × (i < 8) ⌝ }
+    ensures { λ r. ⌜ r ≡ requestOk (now (s .entry)) i ⌝ }
+{
+    if s[KIND + i] != 0 {
+        return false;
+    }
+    let a = s[REQUEST + i];
+    if s[WANT + i] == 1 {
+        return only_in(s, READ_SET + i * SET_ROW, a)
+            & station_state::none_in(s, WRITTEN_SET + i * SET_ROW);
+    }
+    only_in(s, WRITTEN_SET + i * SET_ROW, a) & station_state::none_in(s, READ_SET + i * SET_ROW)
+}
+
+fn waiter_ok(s: &[u8], i: usize) -> bool
+    requires { ⌜ (length (now s) ≡ serverLength) × (i < 8) ⌝ }
+    ensures { λ r. ⌜ r ≡ waiterOk (now (s .entry)) i ⌝ }
+{
+    if s[UNFINISHED + i] == 0 {
+        return false;
+    }
+    if le::get_u64(s, ARRIVAL + i * AGE_WIDTH) >= le::get_u64(s, NEXT_ARRIVAL) {
+        return false;
+    }
+    if s[WANT + i] == 3 {
+        return commit_ok(s, i);
+    }
+    request_ok(s, i)
+}
+
+fn entry_ok(s: &[u8], i: usize) -> bool
+    requires { ⌜ (length (now s) ≡ serverLength) × (i < 8) ⌝ }
+    ensures { λ r. ⌜ r ≡ entryOk (now (s .entry)) i ⌝ }
+{
+    if s[WANT + i] == 0 {
+        return blank_ok(s, i);
+    }
+    waiter_ok(s, i)
+}
+
+// Whether station j, if it owes station i a 7, is another, locking one.
+fn owes_at(s: &[u8], i: usize, j: usize) -> bool
+    requires { ⌜ (length (now s) ≡ serverLength) × (i < 8) × (j < 8) ⌝ }
+    ensures { λ r. ⌜ r ≡ owesAt (now (s .entry)) i j ⌝ }
+{
+    !station_state::has_bit8(s[PEND + i], j) | ((j != i) & (s[KIND + j] == 0))
+}
+
+fn owes_ok(s: &[u8], i: usize) -> bool
+    requires { ⌜ (length (now s) ≡ serverLength) × (i < 8) ⌝ }
+    ensures { λ r. ⌜ r ≡ allTo (owesAt (now (s .entry)) i) 8 ⌝ }
+{
+    let mut ok = true;
+    let mut j = 0;
+    while j < 8 {
+        ok &= owes_at(s, i, j);
+        j += 1;
+    }
+    ok
+}
+
+fn calls_ok(s: &[u8], i: usize) -> bool
+    requires { ⌜ (length (now s) ≡ serverLength) × (i < 8) ⌝ }
+    ensures { λ r. ⌜ r ≡ callsOk (now (s .entry)) i ⌝ }
+{
+    if s[CALLED + i] == 0 {
+        return (s[PEND + i] == 0) & (s[BUSY + i] == 0);
+    }
+    (s[WANT + i] >= 2) & (s[BUSY + i] | s[PEND + i] == s[PEND + i]) & owes_ok(s, i)
+}
+
+fn aged_ok(s: &[u8], i: usize) -> bool
+    requires { ⌜ (length (now s) ≡ serverLength) × (i < 8) ⌝ }
+    ensures { λ r. ⌜ r ≡ agedOk (now (s .entry)) i ⌝ }
+{
+    (le::get_u64(s, AGE + i * AGE_WIDTH) < le::get_u64(s, NEXT_AGE))
+        & ((s[UNFINISHED + i] == 0) | (le::get_u32(s, LATEST + i * NUMBER_WIDTH) != 0))
 }
 
 fn station_ok(s: &[u8], i: usize) -> bool
     requires { ⌜ (length (now s) ≡ serverLength) × (i < 8) ⌝ }
     ensures { λ r. ⌜ r ≡ stationOk (now (s .entry)) i ⌝ }
 {
-    ((s[37064 + i] == 0) | (le::get_u64(s, 34816 + i * 8) < le::get_u64(s, 34944)))
-        & ((s[37024 + i] == 0) | (le::get_u64(s, 34880 + i * 8) < le::get_u64(s, 34952)))
-        & ((s[37024 + i] == 0) | (le::get_u32(s, 36144 + i * 4) != 0))
-        & ((s[37024 + i] != 3) | (le::get_u32(s, 36112 + i * 4) != 0))
+    aged_ok(s, i) & entry_ok(s, i) & calls_ok(s, i)
 }
 
 fn stations_ok(s: &[u8]) -> bool
@@ -84,15 +281,7 @@ fn beside_at(s: &[u8], p: usize, o: usize) -> bool
     requires { ⌜ (length (now s) ≡ serverLength) × (p < 32) × (o < 8) ⌝ }
     ensures { λ r. ⌜ r ≡ besideAt (now (s .entry)) p o ⌝ }
 {
-    (s[36216 + (p * 8 + o)] == 0) | (s[36216 + (p * 8 + o)] == s[36472 + p])
-}
-
-// Whether station h, if it holds page p whole, has a transaction.
-fn names_ok(s: &[u8], p: usize, h: usize) -> bool
-    requires { ⌜ (length (now s) ≡ serverLength) × (p < 32) × (h < 8) ⌝ }
-    ensures { λ r. ⌜ r ≡ namesOk (now (s .entry)) p h ⌝ }
-{
-    (s[36472 + p] as usize != h + 1) | (le::get_u32(s, 36144 + h * 4) != 0)
+    (s[LOCK + (p * 8 + o)] == 0) | (s[LOCK + (p * 8 + o)] == s[WHOLE + p])
 }
 
 fn besides_ok(s: &[u8], p: usize) -> bool
@@ -108,15 +297,41 @@ fn besides_ok(s: &[u8], p: usize) -> bool
     ok
 }
 
+// Whether h is a locking station whose transaction is unfinished, or none.
+fn holder_ok(s: &[u8], h: u8) -> bool
+    requires { ⌜ length (now s) ≡ serverLength ⌝ }
+    ensures { λ r. ⌜ r ≡ holderOk (now (s .entry)) h ⌝ }
+{
+    if h == 0 {
+        return true;
+    }
+    if h > 8 {
+        return false;
+    }
+    let i = h as usize - 1;
+    (s[KIND + i] == 0) & (s[UNFINISHED + i] != 0)
+}
+
+fn holder_at(s: &[u8], p: usize, o: usize) -> bool
+    requires { ⌜ (length (now s) ≡ serverLength) × (p < 32) × (o < 8) ⌝ }
+    ensures { λ r. ⌜ r ≡ holderAt (now (s .entry)) p o ⌝ }
+{
+    holder_ok(s, s[LOCK + (p * 8 + o)])
+}
+
+// A page without locks is passed over.
 fn holders_ok(s: &[u8], p: usize) -> bool
     requires { ⌜ (length (now s) ≡ serverLength) × (p < 32) ⌝ }
-    ensures { λ r. ⌜ r ≡ allTo (namesOk (now (s .entry)) p) 8 ⌝ }
+    ensures { λ r. ⌜ r ≡ allTo (holderAt (now (s .entry)) p) 8 ⌝ }
 {
+    if le::get_u64(s, LOCK + p * 8) == 0 {
+        return true;
+    }
     let mut ok = true;
-    let mut h = 0;
-    while h < 8 {
-        ok &= names_ok(s, p, h);
-        h += 1;
+    let mut o = 0;
+    while o < 8 {
+        ok &= holder_at(s, p, o);
+        o += 1;
     }
     ok
 }
@@ -125,10 +340,10 @@ fn page_ok(s: &[u8], p: usize) -> bool
     requires { ⌜ (length (now s) ≡ serverLength) × (p < 32) ⌝ }
     ensures { λ r. ⌜ r ≡ pageOk (now (s .entry)) p ⌝ }
 {
-    if s[36472 + p] == 0 {
-        return true;
+    if s[WHOLE + p] == 0 {
+        return holders_ok(s, p);
     }
-    besides_ok(s, p) & holders_ok(s, p)
+    holder_ok(s, s[WHOLE + p]) & besides_ok(s, p)
 }
 
 fn pages_ok(s: &[u8]) -> bool
@@ -144,31 +359,54 @@ fn pages_ok(s: &[u8]) -> bool
     ok
 }
 
-// Whether stations i and j are one, or their unfinished transactions differ in age and their requests in arrival.
+// Whether page p, if a 19 was sent for it, is locked whole.
+fn asked_at(s: &[u8], p: usize) -> bool
+    requires { ⌜ (length (now s) ≡ serverLength) × (p < 32) ⌝ }
+    ensures { λ r. ⌜ r ≡ askedAt (now (s .entry)) p ⌝ }
+{
+    !station_state::has_bit32(le::get_u32(s, ASKED), p) | (s[WHOLE + p] != 0)
+}
+
+fn asked_ok(s: &[u8]) -> bool
+    requires { ⌜ length (now s) ≡ serverLength ⌝ }
+    ensures { λ r. ⌜ r ≡ allTo (askedAt (now (s .entry))) 32 ⌝ }
+{
+    if le::get_u32(s, ASKED) == 0 {
+        return true;
+    }
+    let mut ok = true;
+    let mut p = 0;
+    while p < 32 {
+        ok &= asked_at(s, p);
+        p += 1;
+    }
+    ok
+}
+
+// Whether the unfinished transactions of stations i and j differ in age, and their requests in arrival.
 fn apart_at(s: &[u8], i: usize, j: usize) -> bool
     requires { ⌜ (length (now s) ≡ serverLength) × (i < 8) × (j < 8) ⌝ }
     ensures { λ r. ⌜ r ≡ apartAt (now (s .entry)) i j ⌝ }
 {
-    (i == j)
-        | (((s[37064 + i] == 0)
-            | (s[37064 + j] == 0)
-            | (le::get_u64(s, 34816 + i * 8) != le::get_u64(s, 34816 + j * 8)))
-            & ((s[37024 + i] == 0)
-                | (s[37024 + j] == 0)
-                | (le::get_u64(s, 34880 + i * 8) != le::get_u64(s, 34880 + j * 8))))
+    ((s[UNFINISHED + i] == 0)
+        | (s[UNFINISHED + j] == 0)
+        | (le::get_u64(s, AGE + i * AGE_WIDTH) != le::get_u64(s, AGE + j * AGE_WIDTH)))
+        & ((s[WANT + i] == 0)
+            | (s[WANT + j] == 0)
+            | (le::get_u64(s, ARRIVAL + i * AGE_WIDTH) != le::get_u64(s, ARRIVAL + j * AGE_WIDTH)))
 }
 
-// A station that neither works nor waits is passed over.
+// A station that neither works nor waits is passed over; the others are looked at beside those before them.
 fn apart_ok(s: &[u8], i: usize) -> bool
     requires { ⌜ (length (now s) ≡ serverLength) × (i < 8) ⌝ }
     ensures { λ r. ⌜ r ≡ apartOk (now (s .entry)) i ⌝ }
 {
-    if (s[37064 + i] == 0) & (s[37024 + i] == 0) {
+    if (s[UNFINISHED + i] == 0) & (s[WANT + i] == 0) {
         return true;
     }
     let mut ok = true;
     let mut j = 0;
-    while j < 8 {
+    while j < i {
         ok &= apart_at(s, i, j);
         j += 1;
     }
@@ -192,10 +430,10 @@ fn all_apart(s: &[u8]) -> bool
 pub fn valid(s: &[u8]) -> bool
     ensures { λ r. ⌜ r ≡ Valid·valid (now (s .entry)) ⌝ }
 {
-    if s.len() != 37072 {
+    if s.len() != LENGTH {
         return false;
     }
-    ranges_ok(s) & counters_ok(s) & stations_ok(s) & pages_ok(s) & all_apart(s)
+    ranges_ok(s) & counters_ok(s) & stations_ok(s) & pages_ok(s) & asked_ok(s) & all_apart(s)
 }
 
 fn zero(s: &mut [u8])
@@ -223,7 +461,7 @@ fn put_kinds(kinds: &[u8], s: &mut [u8])
 {
     let mut i = 0;
     while i < 8 {
-        s[37016 + i] = kinds[i];
+        s[KIND + i] = kinds[i];
         i += 1;
     }
 }
@@ -233,15 +471,15 @@ fn put_kinds(kinds: &[u8], s: &mut [u8])
 pub fn fresh(kinds: &[u8], s: &mut [u8]) -> u32
     ensures { λ r. ⌜ freshened (now (s .exit)) r ≡ freshOf (now (kinds .entry)) (now (s .entry)) ⌝ }
 {
-    if s.len() != 37072 {
+    if s.len() != LENGTH {
         return 1;
     }
     if !kinds_ok(kinds) {
         return 4;
     }
     zero(s);
-    le::put_u64(s, 34944, 1);
-    le::put_u64(s, 34952, 1);
+    le::put_u64(s, NEXT_AGE, 1);
+    le::put_u64(s, NEXT_ARRIVAL, 1);
     put_kinds(kinds, s);
     0
 }

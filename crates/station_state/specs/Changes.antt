@@ -5,7 +5,7 @@ use mathlib.Core.Bool.{Bool}
 use lib.ListN.{getD, set}
 use lib.Bits.{bitAnd, bitOr}
 use Rattle.le.specs.Le.{u32At, setU32, setU64}
-use Rattle.station_state.specs.Layout.{copyOf, number, locks, writtenSet, readSetFrom, writtenSetFrom, locksFrom, namedFrom}
+use Rattle.station_state.specs.Layout.{waitingValueFrom, numberFrom, wholeFrom, openFrom, waitFrom, addressFrom, copyFrom, readValueFrom, writtenValueFrom, keptFrom, valueWidth, numberWidth, copyOf, number, locks, writtenSet, readSetFrom, writtenSetFrom, locksFrom, namedFrom}
 
 -- address a joins the object sets from `at`
 unfoldable pub addTo : List ℕ → ℕ → ℕ → List ℕ
@@ -29,40 +29,40 @@ copyTo s at sets zero = s
 copyTo s at sets (suc n) = set (copyTo s at sets n) (at + n) (getD sets n 0)
 
 unfoldable pub beginB : List ℕ → List ℕ
-beginB s = set (setU32 s 6312 (number s + 1)) 6710 1
+beginB s = set (setU32 s numberFrom (number s + 1)) openFrom 1
 
 -- "A transaction's first read of an object is recorded"
 unfoldable pub recordReadB : ℕ → List ℕ → List ℕ
-recordReadB a s = setU64 (addTo s readSetFrom a) (2048 + a * 8) (copyOf s a)
+recordReadB a s = setU64 (addTo s readSetFrom a) (readValueFrom + a * valueWidth) (copyOf s a)
 
 unfoldable pub writeLocalB : ℕ → ℕ → List ℕ → List ℕ
-writeLocalB a v s = setU64 (setU64 (addTo s writtenSetFrom a) (4096 + a * 8) v) (a * 8) v
+writeLocalB a v s = setU64 (setU64 (addTo s writtenSetFrom a) (writtenValueFrom + a * valueWidth) v) (copyFrom + a * valueWidth) v
 
 -- what is out: nothing, a read, a write, a commit
 unfoldable pub idleB : List ℕ → List ℕ
-idleB s = set s 6711 0
+idleB s = set s waitFrom 0
 
 unfoldable pub forReadB : ℕ → List ℕ → List ℕ
-forReadB a s = set (set s 6711 1) 6712 a
+forReadB a s = set (set s waitFrom 1) addressFrom a
 
 unfoldable pub forWriteB : ℕ → ℕ → List ℕ → List ℕ
-forWriteB a v s = setU64 (set (set s 6711 2) 6712 a) 6144 v
+forWriteB a v s = setU64 (set (set s waitFrom 2) addressFrom a) waitingValueFrom v
 
 unfoldable pub forCommitB : List ℕ → List ℕ
-forCommitB s = set s 6711 3
+forCommitB s = set s waitFrom 3
 
 -- "the whole lock becomes locks on those objects"
 unfoldable pub loosenB : ℕ → List ℕ → List ℕ
-loosenB p s = pageOff (set s (locksFrom + p) (bitOr (locks s p) (writtenSet s p))) 6320 p
+loosenB p s = pageOff (set s (locksFrom + p) (bitOr (locks s p) (writtenSet s p))) wholeFrom p
 
 -- "keep the callback, a newer one from that requester replacing it"
 unfoldable pub keepB : ℕ → ℕ → List ℕ → List ℕ → List ℕ
-keepB r t sets s = setU32 (copyTo s (namedFrom r) sets 32) (6152 + r * 4) t
+keepB r t sets s = setU32 (copyTo s (namedFrom r) sets 32) (keptFrom + r * numberWidth) t
 
 unfoldable pub unkeepB : ℕ → List ℕ → List ℕ
-unkeepB r s = setU32 s (6152 + r * 4) 0
+unkeepB r s = setU32 s (keptFrom + r * numberWidth) 0
 
 -- the transaction's end: no lock, no read, no write, nothing out, nothing open
 unfoldable pub closedB : List ℕ → List ℕ
 closedB s =
-    set (idleB (clearTo (clearTo (clearTo (setU32 s 6320 0) locksFrom 32) writtenSetFrom 32) readSetFrom 32)) 6710 0
+    set (idleB (clearTo (clearTo (clearTo (setU32 s wholeFrom 0) locksFrom 32) writtenSetFrom 32) readSetFrom 32)) openFrom 0

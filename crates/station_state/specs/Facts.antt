@@ -1,14 +1,28 @@
 -- What number 1 tells of a state that passes.
-use Prim.Native.Nat.{ℕ, _≤_}
+use Prim.Native.Nat.{ℕ, _+_, _≤_}
 use mathlib.Core.Path.{_≡_}
 use mathlib.Core.List.{List}
-use mathlib.Core.Bool.{Bool, true, not, _&&_, _||_}
+use mathlib.Core.Logic.{_≢_}
+use mathlib.Core.Bool.{Bool, true, false, not, _&&_, _||_, cond}
 use lib.ListN.{length}
 use lib.Dec.{eqb, leb}
-use borrow.Author.Tests.{eqb-true, leb-true}
+use borrow.Author.Tests.{eqb-true, eqb-false, leb-true, eq-eqb, ne-eqb, not-true, not-false}
+use Rattle.le.specs.Le.{u64At}
 use Rattle.lists.specs.Tests.{and-l, and-r}
-use Rattle.station_state.specs.Layout.{stateLength, number, station, kind, opened, wait}
-use Rattle.station_state.specs.Valid.{fieldsOk, ownKept, valid}
+use Rattle.station_state.specs.Layout.{keptFrom, readSetFrom, writtenSetFrom, locksFrom, stateLength, keptOf, number, whole, station, kind, opened, wait, address, member, noneIn}
+use Rattle.station_state.specs.Valid.{fieldsOk, ownKept, closedOk, firstOk, worksOk, locklessOk, holdsOk, valid}
+
+-- no transaction is open
+pub record Closed (s : List ℕ) : Type 0 where
+  pub nothing-out : wait s ≡ 0
+  pub nothing-read : noneIn s readSetFrom ≡ true
+  pub nothing-written : noneIn s writtenSetFrom ≡ true
+
+-- no lock, and no callback kept
+pub record Lockless (s : List ℕ) : Type 0 where
+  pub no-page : whole s ≡ 0
+  pub no-object : noneIn s locksFrom ≡ true
+  pub nothing-kept : noneIn s keptFrom ≡ true
 
 pub record Ranged (s : List ℕ) : Type 0 where
   pub size : length s ≡ stateLength
@@ -16,21 +30,73 @@ pub record Ranged (s : List ℕ) : Type 0 where
   pub kind-fits : kind s ≤ 1
   pub open-fits : opened s ≤ 1
   pub wait-fits : wait s ≤ 3
+  pub numbered : opened s ≢ 0 → number s ≢ 0
+  pub not-own : keptOf s (station s) ≡ 0
+  pub closed : opened s ≡ 0 → Closed s
+  pub first : opened s ≢ 0 → wait s ≡ 1 → (member s readSetFrom (address s) ≡ false) × (member s writtenSetFrom (address s) ≡ false)
+  pub lockless : (eqb (kind s) 0 && not (eqb (opened s) 0)) ≡ false → Lockless s
+
+all-3 : (a b c : Bool) → a && b && c ≡ true → (a ≡ true) × (b ≡ true) × (c ≡ true)
+all-3 a b c h = let u = and-l (a && b) c h in (and-l a b u, and-r a b u, and-r (a && b) c h)
+
+all-4 : (a b c d : Bool) → a && b && c && d ≡ true → (a ≡ true) × (b ≡ true) × (c ≡ true) × (d ≡ true)
+all-4 a b c d h = let u = all-3 a b c (and-l (a && b && c) d h) in (u .0, u .1, u .2, and-r (a && b && c) d h)
+
+-- the way that was taken
+taken : (a b c : Bool) → a ≡ true → cond a b c ≡ true → b ≡ true
+taken a b c e h = rw e at h
+
+passed : (a b c : Bool) → a ≡ false → cond a b c ≡ true → c ≡ true
+passed a b c e h = rw e at h
+
+or-else : (a b : Bool) → a ≡ false → a || b ≡ true → b ≡ true
+or-else a b e h = rw e at h
+
+closed-of : (s : List ℕ) → closedOk s ≡ true → Closed s
+unfolding closedOk
+closed-of s h =
+    let u = all-3 (eqb (wait s) 0) (noneIn s readSetFrom) (noneIn s writtenSetFrom) h in
+    record { nothing-out = eqb-true _ _ (u .0); nothing-read = u .1; nothing-written = u .2 }
+
+lockless-of : (s : List ℕ) → locklessOk s ≡ true → Lockless s
+unfolding locklessOk
+lockless-of s h =
+    let u = all-3 (eqb (whole s) 0) (noneIn s locksFrom) (noneIn s keptFrom) h in
+    record { no-page = eqb-true _ _ (u .0); no-object = u .1; nothing-kept = u .2 }
 
 pub valid-ranged : (s : List ℕ) → valid s ≡ true → Ranged s
-unfolding valid fieldsOk
+unfolding valid fieldsOk ownKept worksOk firstOk holdsOk
 valid-ranged s h =
-    let front = eqb (length s) stateLength && leb (station s) 7 in
-    let three = leb (kind s) 1 && leb (opened s) 1 && leb (wait s) 3 in
+    let sized = eqb (length s) stateLength in
+    let front = sized && leb (station s) 7 in
     let counted = eqb (opened s) 0 || not (eqb (number s) 0) in
-    let own = not (ownKept s) in
-    let hf : front ≡ true = and-l front (three && counted && own) h in
-    let ht : three ≡ true = and-l three counted (and-l (three && counted) own (and-r front (three && counted && own) h)) in
-    let h2 : leb (kind s) 1 && leb (opened s) 1 ≡ true = and-l (leb (kind s) 1 && leb (opened s) 1) (leb (wait s) 3) ht in
+    let fields = leb (kind s) 1 && leb (opened s) 1 && leb (wait s) 3 && counted in
+    let others = not (not (eqb (keptOf s (station s)) 0)) in
+    let works = worksOk s in
+    let holds = holdsOk s in
+    let own-in = eqb (kind s) 0 && not (eqb (opened s) 0) in
+    let hf : front ≡ true = and-l front (fields && others && works && holds) h in
+    let u = all-4 fields others works holds (and-r front (fields && others && works && holds) h) in
+    let f = all-4 (leb (kind s) 1) (leb (opened s) 1) (leb (wait s) 3) counted (u .0) in
+    let later = not (eqb (wait s) 1) || firstOk s in
     record {
-      size = eqb-true _ _ (and-l (eqb (length s) stateLength) (leb (station s) 7) hf);
-      station-fits = leb-true _ _ (and-r (eqb (length s) stateLength) (leb (station s) 7) hf);
-      kind-fits = leb-true _ _ (and-l (leb (kind s) 1) (leb (opened s) 1) h2);
-      open-fits = leb-true _ _ (and-r (leb (kind s) 1) (leb (opened s) 1) h2);
-      wait-fits = leb-true _ _ (and-r (leb (kind s) 1 && leb (opened s) 1) (leb (wait s) 3) ht);
+      size = eqb-true _ _ (and-l sized (leb (station s) 7) hf);
+      station-fits = leb-true _ _ (and-r sized (leb (station s) 7) hf);
+      kind-fits = leb-true _ _ (f .0);
+      open-fits = leb-true _ _ (f .1);
+      wait-fits = leb-true _ _ (f .2);
+      numbered = λ n. eqb-false _ _ (not-true (eqb (number s) 0) (or-else (eqb (opened s) 0) (not (eqb (number s) 0)) (ne-eqb _ _ n) (f .3)));
+      not-own = eqb-true _ _ (not-false (eqb (keptOf s (station s)) 0) (not-true (not (eqb (keptOf s (station s)) 0)) (u .1)));
+      closed = λ e. closed-of s (taken (eqb (opened s) 0) (closedOk s) later (eq-eqb _ _ e) (u .2));
+      first = λ n e.
+          let one : firstOk s ≡ true = or-else (not (eqb (wait s) 1)) (firstOk s) (rw (eq-eqb (wait s) 1 e)) (passed (eqb (opened s) 0) (closedOk s) later (ne-eqb _ _ n) (u .2)) in
+          let a = not (member s readSetFrom (address s)) in
+          (not-true (member s readSetFrom (address s)) (and-l a _ one), not-true (member s writtenSetFrom (address s)) (and-r a _ one));
+      lockless = λ e. lockless-of s (passed own-in true (locklessOk s) e (u .3));
     }
+
+-- the last of four words, the others being 0
+pub none-last : (s : List ℕ) (at : ℕ) {a b c d : ℕ} → a ≡ u64At s at → b ≡ u64At s (at + 8) → c ≡ u64At s (at + 16) → d ≡ u64At s (at + 24)
+    → a ≡ 0 → b ≡ 0 → c ≡ 0 → eqb d 0 ≡ noneIn s at
+unfolding noneIn
+none-last s at {a} {b} {c} {d} ea eb ec ed za zb zc = rw (← ea, ← eb, ← ec, ← ed, eq-eqb a 0 za, eq-eqb b 0 zb, eq-eqb c 0 zc)

@@ -1,90 +1,226 @@
--- Where each field of a station's state stands: docs/STATE.md, "A station's state".
+-- Where each field of a station's state stands: docs/STATE.md, "A station's state". Said here alone; the code has the same in src/lib.rt.
 use Prim.Native.Nat.{ℕ, _+_, _*_, _/_, _%_, _^_}
-use mathlib.Core.List.{List}
+use mathlib.Core.List.{List, [], _∷_}
 use mathlib.Core.Bool.{Bool, not, _&&_, _||_}
 use lib.ListN.{getD}
 use lib.Bits.{bitAnd}
 use lib.Dec.{eqb}
 use Rattle.le.specs.Le.{u32At, u64At}
+use Rattle.cells.specs.Cells.{Region, region}
+
+-- WIDTHS: of a value, of a transaction's number or a version, of a page set
+abbrev pub valueWidth : ℕ
+valueWidth = 8
+
+abbrev pub numberWidth : ℕ
+numberWidth = 4
+
+abbrev pub pageSetWidth : ℕ
+pageSetWidth = 4
+
+-- PLACES, each behind the field before it
+abbrev pub copyFrom : ℕ
+copyFrom = 0
+
+abbrev pub readValueFrom : ℕ
+readValueFrom = copyFrom + 256 * valueWidth
+
+abbrev pub writtenValueFrom : ℕ
+writtenValueFrom = readValueFrom + 256 * valueWidth
+
+abbrev pub waitingValueFrom : ℕ
+waitingValueFrom = writtenValueFrom + 256 * valueWidth
+
+abbrev pub keptFrom : ℕ
+keptFrom = waitingValueFrom + valueWidth
+
+abbrev pub versionFrom : ℕ
+versionFrom = keptFrom + 8 * numberWidth
+
+abbrev pub numberFrom : ℕ
+numberFrom = versionFrom + 32 * numberWidth
+
+abbrev pub cachedFrom : ℕ
+cachedFrom = numberFrom + numberWidth
+
+abbrev pub wholeFrom : ℕ
+wholeFrom = cachedFrom + pageSetWidth
+
+abbrev pub unavailableFrom : ℕ
+unavailableFrom = wholeFrom + pageSetWidth
+
+abbrev pub readSetFrom : ℕ
+readSetFrom = unavailableFrom + 32
+
+abbrev pub writtenSetFrom : ℕ
+writtenSetFrom = readSetFrom + 32
+
+abbrev pub locksFrom : ℕ
+locksFrom = writtenSetFrom + 32
+
+-- by requester
+abbrev pub namedFrom : ℕ → ℕ
+namedFrom r = locksFrom + 32 + r * 32
+
+abbrev pub stationFrom : ℕ
+stationFrom = namedFrom 8
+
+abbrev pub kindFrom : ℕ
+kindFrom = stationFrom + 1
+
+abbrev pub openFrom : ℕ
+openFrom = kindFrom + 1
+
+abbrev pub waitFrom : ℕ
+waitFrom = openFrom + 1
+
+abbrev pub addressFrom : ℕ
+addressFrom = waitFrom + 1
 
 abbrev pub stateLength : ℕ
-stateLength = 6713
+stateLength = addressFrom + 1
 
--- by address
+-- THE SAME AS A TABLE OF REGIONS for crate cells: width, rows, columns
+abbrev pub table : List Region
+table =
+    region valueWidth 1 256  -- copy
+    ∷ region valueWidth 1 256  -- read value
+    ∷ region valueWidth 1 256  -- written value
+    ∷ region valueWidth 1 1  -- waiting value
+    ∷ region numberWidth 8 1  -- kept, by requester
+    ∷ region numberWidth 1 32  -- version
+    ∷ region numberWidth 1 1  -- number
+    ∷ region pageSetWidth 1 1  -- cached
+    ∷ region pageSetWidth 1 1  -- whole
+    ∷ region 1 1 32  -- unavailable
+    ∷ region 1 1 32  -- read set
+    ∷ region 1 1 32  -- written set
+    ∷ region 1 1 32  -- locks
+    ∷ region 1 8 32  -- named, by requester
+    ∷ region 1 1 1  -- station
+    ∷ region 1 1 1  -- kind
+    ∷ region 1 1 1  -- open
+    ∷ region 1 1 1  -- wait
+    ∷ region 1 1 1  -- address
+    ∷ []
+
+-- each region's position in it
+abbrev pub copyCell : ℕ
+copyCell = 0
+
+abbrev pub readValueCell : ℕ
+readValueCell = copyCell + 1
+
+abbrev pub writtenValueCell : ℕ
+writtenValueCell = readValueCell + 1
+
+abbrev pub waitingValueCell : ℕ
+waitingValueCell = writtenValueCell + 1
+
+abbrev pub keptCell : ℕ
+keptCell = waitingValueCell + 1
+
+abbrev pub versionCell : ℕ
+versionCell = keptCell + 1
+
+abbrev pub numberCell : ℕ
+numberCell = versionCell + 1
+
+abbrev pub cachedCell : ℕ
+cachedCell = numberCell + 1
+
+abbrev pub wholeCell : ℕ
+wholeCell = cachedCell + 1
+
+abbrev pub unavailableCell : ℕ
+unavailableCell = wholeCell + 1
+
+abbrev pub readSetCell : ℕ
+readSetCell = unavailableCell + 1
+
+abbrev pub writtenSetCell : ℕ
+writtenSetCell = readSetCell + 1
+
+abbrev pub locksCell : ℕ
+locksCell = writtenSetCell + 1
+
+abbrev pub namedCell : ℕ
+namedCell = locksCell + 1
+
+abbrev pub stationCell : ℕ
+stationCell = namedCell + 1
+
+abbrev pub kindCell : ℕ
+kindCell = stationCell + 1
+
+abbrev pub openCell : ℕ
+openCell = kindCell + 1
+
+abbrev pub waitCell : ℕ
+waitCell = openCell + 1
+
+abbrev pub addressCell : ℕ
+addressCell = waitCell + 1
+
+-- FIELDS, by address
 abbrev pub copyOf : List ℕ → ℕ → ℕ
-copyOf s a = u64At s (a * 8)
+copyOf s a = u64At s (copyFrom + a * valueWidth)
 
 abbrev pub readValue : List ℕ → ℕ → ℕ
-readValue s a = u64At s (2048 + a * 8)
+readValue s a = u64At s (readValueFrom + a * valueWidth)
 
 abbrev pub writtenValue : List ℕ → ℕ → ℕ
-writtenValue s a = u64At s (4096 + a * 8)
+writtenValue s a = u64At s (writtenValueFrom + a * valueWidth)
 
 abbrev pub waitingValue : List ℕ → ℕ
-waitingValue s = u64At s 6144
+waitingValue s = u64At s waitingValueFrom
 
 -- by requester: the kept callback's transaction, 0 for none
 abbrev pub keptOf : List ℕ → ℕ → ℕ
-keptOf s r = u32At s (6152 + r * 4)
+keptOf s r = u32At s (keptFrom + r * numberWidth)
 
 -- by page
 abbrev pub versionOf : List ℕ → ℕ → ℕ
-versionOf s p = u32At s (6184 + p * 4)
+versionOf s p = u32At s (versionFrom + p * numberWidth)
 
 abbrev pub number : List ℕ → ℕ
-number s = u32At s 6312
+number s = u32At s numberFrom
 
 -- page sets
 abbrev pub cached : List ℕ → ℕ
-cached s = u32At s 6316
+cached s = u32At s cachedFrom
 
 abbrev pub whole : List ℕ → ℕ
-whole s = u32At s 6320
+whole s = u32At s wholeFrom
 
--- object sets by page, from these places on
-abbrev pub unavailableFrom : ℕ
-unavailableFrom = 6324
-
-abbrev pub readSetFrom : ℕ
-readSetFrom = 6356
-
-abbrev pub writtenSetFrom : ℕ
-writtenSetFrom = 6388
-
-abbrev pub locksFrom : ℕ
-locksFrom = 6420
-
+-- object sets by page
 abbrev pub unavailable : List ℕ → ℕ → ℕ
-unavailable s p = getD s (6324 + p) 0
+unavailable s p = getD s (unavailableFrom + p) 0
 
 abbrev pub readSet : List ℕ → ℕ → ℕ
-readSet s p = getD s (6356 + p) 0
+readSet s p = getD s (readSetFrom + p) 0
 
 abbrev pub writtenSet : List ℕ → ℕ → ℕ
-writtenSet s p = getD s (6388 + p) 0
+writtenSet s p = getD s (writtenSetFrom + p) 0
 
 abbrev pub locks : List ℕ → ℕ → ℕ
-locks s p = getD s (6420 + p) 0
-
--- by requester: the object sets that the kept callback names
-abbrev pub namedFrom : ℕ → ℕ
-namedFrom r = 6452 + r * 32
+locks s p = getD s (locksFrom + p) 0
 
 abbrev pub station : List ℕ → ℕ
-station s = getD s 6708 0
+station s = getD s stationFrom 0
 
 abbrev pub kind : List ℕ → ℕ
-kind s = getD s 6709 0
+kind s = getD s kindFrom 0
 
 abbrev pub opened : List ℕ → ℕ
-opened s = getD s 6710 0
+opened s = getD s openFrom 0
 
 -- 0 nothing, 1 a read, 2 a write, 3 a commit
 abbrev pub wait : List ℕ → ℕ
-wait s = getD s 6711 0
+wait s = getD s waitFrom 0
 
 abbrev pub address : List ℕ → ℕ
-address s = getD s 6712 0
+address s = getD s addressFrom 0
 
 -- bit k of a set
 unfoldable pub hasBit : ℕ → ℕ → Bool
@@ -93,6 +229,10 @@ hasBit x k = not (eqb (bitAnd x (2 ^ k)) 0)
 -- address a in the object sets from `at`
 unfoldable pub member : List ℕ → ℕ → ℕ → Bool
 member s at a = hasBit (getD s (at + a / 8) 0) (a % 8)
+
+-- the object sets from `at` have nothing: 32 bytes, eight at a time
+unfoldable pub noneIn : List ℕ → ℕ → Bool
+noneIn s at = eqb (u64At s at) 0 && eqb (u64At s (at + 8)) 0 && eqb (u64At s (at + 16)) 0 && eqb (u64At s (at + 24)) 0
 
 -- "a request is out" for the page
 unfoldable pub requestedB : List ℕ → ℕ → Bool

@@ -4,3 +4,4 @@ pub mod Valid
 pub mod Changes
 pub mod Stores
 pub mod Facts
+pub mod Sets

@@ -1,10 +1,11 @@
--- Number 1 of a station's state, and a fresh state.
+-- Number 1 of a station's state, and a fresh state. The range of a field that does not count is 0 (docs/STATE.md), so that what is taken
+-- stays so: `valid-stays` of crate call_meaning.
 use Prim.Native.Nat.{ℕ, _+_, _*_}
 use mathlib.Core.List.{List}
-use mathlib.Core.Bool.{Bool, not, _&&_, _||_, cond}
+use mathlib.Core.Bool.{Bool, true, not, _&&_, _||_, cond}
 use lib.ListN.{length, set, replicate}
 use lib.Dec.{eqb, leb}
-use Rattle.station_state.specs.Layout.{stateLength, keptOf, number, station, kind, opened, wait}
+use Rattle.station_state.specs.Layout.{keptFrom, readSetFrom, writtenSetFrom, locksFrom, stationFrom, kindFrom, stateLength, keptOf, number, whole, station, kind, opened, wait, address, member, noneIn}
 
 -- "a field out of range": transactions are numbered from 1
 unfoldable pub fieldsOk : List ℕ → Bool
@@ -14,9 +15,28 @@ fieldsOk s = leb (kind s) 1 && leb (opened s) 1 && leb (wait s) 3 && (eqb (opene
 unfoldable pub ownKept : List ℕ → Bool
 ownKept s = not (eqb (keptOf s (station s)) 0)
 
+-- no transaction is open: nothing is out, read or written
+unfoldable pub closedOk : List ℕ → Bool
+closedOk s = eqb (wait s) 0 && noneIn s readSetFrom && noneIn s writtenSetFrom
+
+-- a read that is out is the transaction's first of its object, which it has not written
+unfoldable pub firstOk : List ℕ → Bool
+firstOk s = not (member s readSetFrom (address s)) && not (member s writtenSetFrom (address s))
+
+unfoldable pub worksOk : List ℕ → Bool
+worksOk s = cond (eqb (opened s) 0) (closedOk s) (not (eqb (wait s) 1) || firstOk s)
+
+-- no lock, and no callback kept (eight transactions of four bytes)
+unfoldable pub locklessOk : List ℕ → Bool
+locklessOk s = eqb (whole s) 0 && noneIn s locksFrom && noneIn s keptFrom
+
+-- but for the open transaction of a locking station
+unfoldable pub holdsOk : List ℕ → Bool
+holdsOk s = cond (eqb (kind s) 0 && not (eqb (opened s) 0)) true (locklessOk s)
+
 -- "a lent state has a wrong length, a field out of range, a kept callback from the station itself"
 unfoldable pub valid : List ℕ → Bool
-valid s = eqb (length s) stateLength && leb (station s) 7 && (fieldsOk s && not (ownKept s))
+valid s = eqb (length s) stateLength && leb (station s) 7 && (fieldsOk s && not (ownKept s) && worksOk s && holdsOk s)
 
 -- the number and the state afterwards
 pub record Freshened : Type 0 where
@@ -28,7 +48,7 @@ freshened s n = record { state = s; number = n }
 
 -- "nothing open, cached, .."
 unfoldable pub freshState : ℕ → ℕ → List ℕ
-freshState st k = set (set (replicate stateLength 0) 6708 st) 6709 k
+freshState st k = set (set (replicate stateLength 0) stationFrom st) kindFrom k
 
 -- 1: the length; 4: station or kind
 unfoldable pub freshOf : ℕ → ℕ → List ℕ → Freshened

@@ -1,11 +1,59 @@
 // The bytes of a station's state: number 1, a fresh state, and the changes that touch one place or one set.
-// Where each field stands is in specs/Layout.antt and docs/STATE.md.
+// Where each field stands is said here for all code, in specs/Layout.antt for the definitions and in docs/STATE.md for readers.
 ghost use mathlib.Core.Path.{_≡_};
 ghost use Prim.Native.Nat.{_+_, _^_, _≤_, _<_};
 ghost use lib.ListN.{length, replicate};
-ghost use Rattle.station_state.specs.Layout.{stateLength, station as Layout·station, number, hasBit, member as Layout·member, requestedB};
-ghost use Rattle.station_state.specs.Valid.{fieldsOk, ownKept, valid as Valid·valid, freshened, freshOf};
+ghost use Rattle.station_state.specs.Layout.{stateLength, station as Layout·station, number, hasBit, member as Layout·member, noneIn, requestedB};
+ghost use Rattle.station_state.specs.Valid.{fieldsOk, ownKept, closedOk, firstOk, worksOk, locklessOk, holdsOk, valid as Valid·valid, freshened, freshOf};
 ghost use Rattle.station_state.specs.Changes.{addTo, pageOn, pageOff, clearTo, copyTo, beginB, recordReadB, writeLocalB, idleB, forReadB, forWriteB, forCommitB, loosenB, keepB, unkeepB, closedB};
+
+// Widths: of a value, of a transaction's number or a version, of a page set. An object set has one byte.
+pub const VALUE_WIDTH: usize = 8;
+
+pub const NUMBER_WIDTH: usize = 4;
+
+pub const PAGE_SET_WIDTH: usize = 4;
+
+// Places, each behind the field before it.
+pub const COPY: usize = 0;
+
+pub const READ_VALUES: usize = COPY + 256 * VALUE_WIDTH;
+
+pub const WRITTEN_VALUES: usize = READ_VALUES + 256 * VALUE_WIDTH;
+
+pub const WAITING_VALUE: usize = WRITTEN_VALUES + 256 * VALUE_WIDTH;
+
+pub const KEPT: usize = WAITING_VALUE + VALUE_WIDTH;
+
+pub const VERSIONS: usize = KEPT + 8 * NUMBER_WIDTH;
+
+pub const NUMBER: usize = VERSIONS + 32 * NUMBER_WIDTH;
+
+pub const CACHED: usize = NUMBER + NUMBER_WIDTH;
+
+pub const WHOLE: usize = CACHED + PAGE_SET_WIDTH;
+
+pub const UNAVAILABLE: usize = WHOLE + PAGE_SET_WIDTH;
+
+pub const READ_SET: usize = UNAVAILABLE + 32;
+
+pub const WRITTEN_SET: usize = READ_SET + 32;
+
+pub const LOCKS: usize = WRITTEN_SET + 32;
+
+pub const NAMED: usize = LOCKS + 32;
+
+pub const STATION: usize = NAMED + 8 * 32;
+
+pub const KIND: usize = STATION + 1;
+
+pub const OPEN: usize = KIND + 1;
+
+pub const WAIT: usize = OPEN + 1;
+
+pub const ADDRESS: usize = WAIT + 1;
+
+pub const LENGTH: usize = ADDRESS + 1;
 
 pub fn bit8(k: usize) -> u8
     requires { ⌜ k < 8 ⌝ }
@@ -43,12 +91,29 @@ pub fn member(s: &[u8], at: usize, a: usize) -> bool
     has_bit8(s[at + a / 8], a % 8)
 }
 
+// Whether the object sets from `at` have nothing. Eight at a time, and no further than the first that has something.
+pub fn none_in(s: &[u8], at: usize) -> bool
+    requires { ⌜ at + 32 ≤ length (now s) ⌝ }
+    ensures { λ r. ⌜ r ≡ noneIn (now (s .entry)) at ⌝ }
+{
+    if le::get_u64(s, at) != 0 {
+        return false;
+    }
+    if le::get_u64(s, at + 8) != 0 {
+        return false;
+    }
+    if le::get_u64(s, at + 16) != 0 {
+        return false;
+    }
+    le::get_u64(s, at + 24) == 0
+}
+
 // Whether a read or a write of an object of page p is out.
 pub fn requested(s: &[u8], p: usize) -> bool
     requires { ⌜ length (now s) ≡ stateLength ⌝ }
     ensures { λ r. ⌜ r ≡ requestedB (now (s .entry)) p ⌝ }
 {
-    ((s[6711] == 1) | (s[6711] == 2)) & (p == (s[6712] / 8) as usize)
+    ((s[WAIT] == 1) | (s[WAIT] == 2)) & (p == (s[ADDRESS] / 8) as usize)
 }
 
 // Whether the fields other than the station's number are in range.
@@ -56,10 +121,10 @@ pub fn fields_ok(s: &[u8]) -> bool
     requires { ⌜ length (now s) ≡ stateLength ⌝ }
     ensures { λ r. ⌜ r ≡ fieldsOk (now (s .entry)) ⌝ }
 {
-    (s[6709] <= 1)
-        & (s[6710] <= 1)
-        & (s[6711] <= 3)
-        & ((s[6710] == 0) | (le::get_u32(s, 6312) != 0))
+    (s[KIND] <= 1)
+        & (s[OPEN] <= 1)
+        & (s[WAIT] <= 3)
+        & ((s[OPEN] == 0) | (le::get_u32(s, NUMBER) != 0))
 }
 
 // Whether a callback from the station itself is kept.
@@ -67,21 +132,81 @@ pub fn own_kept(s: &[u8]) -> bool
     requires { ⌜ (length (now s) ≡ stateLength) × (Layout·station (now s) ≤ 7) ⌝ }
     ensures { λ r. ⌜ r ≡ ownKept (now (s .entry)) ⌝ }
 {
-    let st = s[6708] as usize;
-    le::get_u32(s, 6152 + st * 4) != 0
+    let st = s[STATION] as usize;
+    le::get_u32(s, KEPT + st * NUMBER_WIDTH) != 0
+}
+
+// Whether nothing is out, read or written.
+fn closed_ok(s: &[u8]) -> bool
+    requires { ⌜ length (now s) ≡ stateLength ⌝ }
+    ensures { λ r. ⌜ r ≡ closedOk (now (s .entry)) ⌝ }
+{
+    if s[WAIT] != 0 {
+        return false;
+    }
+    if !none_in(s, READ_SET) {
+        return false;
+    }
+    none_in(s, WRITTEN_SET)
+}
+
+// Whether the object of the read that is out was neither read nor written.
+fn first_ok(s: &[u8]) -> bool
+    requires { ⌜ length (now s) ≡ stateLength ⌝ }
+    ensures { λ r. ⌜ r ≡ firstOk (now (s .entry)) ⌝ }
+{
+    let a = s[ADDRESS] as usize;
+    !member(s, READ_SET, a) & !member(s, WRITTEN_SET, a)
+}
+
+fn works_ok(s: &[u8]) -> bool
+    requires { ⌜ length (now s) ≡ stateLength ⌝ }
+    ensures { λ r. ⌜ r ≡ worksOk (now (s .entry)) ⌝ }
+{
+    if s[OPEN] == 0 {
+        return closed_ok(s);
+    }
+    if s[WAIT] != 1 {
+        return true;
+    }
+    first_ok(s)
+}
+
+// Whether there is no lock, and no callback kept.
+fn lockless_ok(s: &[u8]) -> bool
+    requires { ⌜ length (now s) ≡ stateLength ⌝ }
+    ensures { λ r. ⌜ r ≡ locklessOk (now (s .entry)) ⌝ }
+{
+    if le::get_u32(s, WHOLE) != 0 {
+        return false;
+    }
+    if !none_in(s, LOCKS) {
+        return false;
+    }
+    none_in(s, KEPT)
+}
+
+fn holds_ok(s: &[u8]) -> bool
+    requires { ⌜ length (now s) ≡ stateLength ⌝ }
+    ensures { λ r. ⌜ r ≡ holdsOk (now (s .entry)) ⌝ }
+{
+    if (s[KIND] == 0) & (s[OPEN] != 0) {
+        return true;
+    }
+    lockless_ok(s)
 }
 
 // False is number 1.
 pub fn valid(s: &[u8]) -> bool
     ensures { λ r. ⌜ r ≡ Valid·valid (now (s .entry)) ⌝ }
 {
-    if s.len() != 6713 {
+    if s.len() != LENGTH {
         return false;
     }
-    if s[6708] > 7 {
+    if s[STATION] > 7 {
         return false;
     }
-    fields_ok(s) & !own_kept(s)
+    fields_ok(s) & !own_kept(s) & works_ok(s) & holds_ok(s)
 }
 
 fn zero(s: &mut [u8])
@@ -99,7 +224,7 @@ fn zero(s: &mut [u8])
 pub fn fresh(station: u32, kind: u32, s: &mut [u8]) -> u32
     ensures { λ r. ⌜ freshened (now (s .exit)) r ≡ freshOf station kind (now (s .entry)) ⌝ }
 {
-    if s.len() != 6713 {
+    if s.len() != LENGTH {
         return 1;
     }
     if station > 7 {
@@ -109,8 +234,8 @@ pub fn fresh(station: u32, kind: u32, s: &mut [u8]) -> u32
         return 4;
     }
     zero(s);
-    le::put_u8(s, 6708, station as u8);
-    le::put_u8(s, 6709, kind as u8);
+    le::put_u8(s, STATION, station as u8);
+    le::put_u8(s, KIND, kind as u8);
     0
 }
 
@@ -170,9 +295,9 @@ pub fn begin(s: &mut [u8])
     requires { ⌜ (length (now s) ≡ stateLength) × (number (now s) < 4294967295) ⌝ }
     ensures { λ _. ⌜ now (s .exit) ≡ beginB (now (s .entry)) ⌝ }
 {
-    let n = le::get_u32(s, 6312);
-    le::put_u32(s, 6312, n + 1);
-    le::put_u8(s, 6710, 1);
+    let n = le::get_u32(s, NUMBER);
+    le::put_u32(s, NUMBER, n + 1);
+    le::put_u8(s, OPEN, 1);
 }
 
 // The copy's value of a is recorded as read.
@@ -180,9 +305,9 @@ pub fn record_read(s: &mut [u8], a: usize)
     requires { ⌜ (length (now s) ≡ stateLength) × (a < 256) ⌝ }
     ensures { λ _. ⌜ now (s .exit) ≡ recordReadB a (now (s .entry)) ⌝ }
 {
-    let v = le::get_u64(s, a * 8);
-    add_to(s, 6356, a);
-    le::put_u64(s, 2048 + a * 8, v);
+    let v = le::get_u64(s, COPY + a * VALUE_WIDTH);
+    add_to(s, READ_SET, a);
+    le::put_u64(s, READ_VALUES + a * VALUE_WIDTH, v);
 }
 
 // v is written to a, in the transaction and in the copy.
@@ -190,9 +315,9 @@ pub fn write_local(s: &mut [u8], a: usize, v: u64)
     requires { ⌜ (length (now s) ≡ stateLength) × (a < 256) ⌝ }
     ensures { λ _. ⌜ now (s .exit) ≡ writeLocalB a v (now (s .entry)) ⌝ }
 {
-    add_to(s, 6388, a);
-    le::put_u64(s, 4096 + a * 8, v);
-    le::put_u64(s, a * 8, v);
+    add_to(s, WRITTEN_SET, a);
+    le::put_u64(s, WRITTEN_VALUES + a * VALUE_WIDTH, v);
+    le::put_u64(s, COPY + a * VALUE_WIDTH, v);
 }
 
 // Nothing is out.
@@ -200,7 +325,7 @@ pub fn idle(s: &mut [u8])
     requires { ⌜ length (now s) ≡ stateLength ⌝ }
     ensures { λ _. ⌜ now (s .exit) ≡ idleB (now (s .entry)) ⌝ }
 {
-    le::put_u8(s, 6711, 0);
+    le::put_u8(s, WAIT, 0);
 }
 
 // A read of a is out.
@@ -208,8 +333,8 @@ pub fn for_read(s: &mut [u8], a: u8)
     requires { ⌜ length (now s) ≡ stateLength ⌝ }
     ensures { λ _. ⌜ now (s .exit) ≡ forReadB a (now (s .entry)) ⌝ }
 {
-    le::put_u8(s, 6711, 1);
-    le::put_u8(s, 6712, a);
+    le::put_u8(s, WAIT, 1);
+    le::put_u8(s, ADDRESS, a);
 }
 
 // A write of v to a is out.
@@ -217,9 +342,9 @@ pub fn for_write(s: &mut [u8], a: u8, v: u64)
     requires { ⌜ length (now s) ≡ stateLength ⌝ }
     ensures { λ _. ⌜ now (s .exit) ≡ forWriteB a v (now (s .entry)) ⌝ }
 {
-    le::put_u8(s, 6711, 2);
-    le::put_u8(s, 6712, a);
-    le::put_u64(s, 6144, v);
+    le::put_u8(s, WAIT, 2);
+    le::put_u8(s, ADDRESS, a);
+    le::put_u64(s, WAITING_VALUE, v);
 }
 
 // A commit is out.
@@ -227,7 +352,7 @@ pub fn for_commit(s: &mut [u8])
     requires { ⌜ length (now s) ≡ stateLength ⌝ }
     ensures { λ _. ⌜ now (s .exit) ≡ forCommitB (now (s .entry)) ⌝ }
 {
-    le::put_u8(s, 6711, 3);
+    le::put_u8(s, WAIT, 3);
 }
 
 // The whole lock on page p becomes locks on the objects written there.
@@ -235,9 +360,9 @@ pub fn loosen(s: &mut [u8], p: usize)
     requires { ⌜ (length (now s) ≡ stateLength) × (p < 32) ⌝ }
     ensures { λ _. ⌜ now (s .exit) ≡ loosenB p (now (s .entry)) ⌝ }
 {
-    let x = s[6420 + p] | s[6388 + p];
-    le::put_u8(s, 6420 + p, x);
-    page_off(s, 6320, p);
+    let x = s[LOCKS + p] | s[WRITTEN_SET + p];
+    le::put_u8(s, LOCKS + p, x);
+    page_off(s, WHOLE, p);
 }
 
 // The callback of r's transaction t, which names `sets`, is kept in the place of an older one.
@@ -245,8 +370,8 @@ pub fn keep(s: &mut [u8], r: usize, t: u32, sets: &[u8])
     requires { ⌜ (length (now s) ≡ stateLength) × (r < 8) × (32 ≤ length (now sets)) ⌝ }
     ensures { λ _. ⌜ now (s .exit) ≡ keepB r t (now (sets .entry)) (now (s .entry)) ⌝ }
 {
-    copy_sets(s, 6452 + r * 32, sets);
-    le::put_u32(s, 6152 + r * 4, t);
+    copy_sets(s, NAMED + r * 32, sets);
+    le::put_u32(s, KEPT + r * NUMBER_WIDTH, t);
 }
 
 // No callback of r is kept.
@@ -254,7 +379,7 @@ pub fn unkeep(s: &mut [u8], r: usize)
     requires { ⌜ (length (now s) ≡ stateLength) × (r < 8) ⌝ }
     ensures { λ _. ⌜ now (s .exit) ≡ unkeepB r (now (s .entry)) ⌝ }
 {
-    le::put_u32(s, 6152 + r * 4, 0);
+    le::put_u32(s, KEPT + r * NUMBER_WIDTH, 0);
 }
 
 // The transaction is over: no lock, no read, no write, nothing out, nothing open.
@@ -262,10 +387,10 @@ pub fn closed(s: &mut [u8])
     requires { ⌜ length (now s) ≡ stateLength ⌝ }
     ensures { λ _. ⌜ now (s .exit) ≡ closedB (now (s .entry)) ⌝ }
 {
-    le::put_u32(s, 6320, 0);
-    clear(s, 6420);
-    clear(s, 6388);
-    clear(s, 6356);
+    le::put_u32(s, WHOLE, 0);
+    clear(s, LOCKS);
+    clear(s, WRITTEN_SET);
+    clear(s, READ_SET);
     idle(s);
-    le::put_u8(s, 6710, 0);
+    le::put_u8(s, OPEN, 0);
 }

@@ -7,8 +7,8 @@ use Prim.Native.Nat.{ℕ, _<_}
 use Rattle.sets.specs.Base.{upd, any}
 use Rattle.line.specs.Messages.{pageOf, Up, Down}
 use Rattle.line.specs.Station.{stationStep}
-use Rattle.line.specs.Server.{Serving, WantRead, WantWrite, WantCommit, waits, shut, hinders, fault, abort, ask, serveRead, call, grantObject, grantPage, installWaiter, unexpected, accept, start}
-use Rattle.line.specs.Pass.{Clear, Ready}
+use Rattle.line.specs.Server.{Serving, WantRead, WantWrite, WantCommit, waits, hinders, fault, abort, ask, serveRead, call, grantObject, grantPage, installWaiter, unexpected, accept, start}
+use Rattle.line.specs.Pass.{Clear, Ready, Shut}
 use Rattle.line.specs.Apart.{Apart}
 use Rattle.line.specs.Line.{World, worldUp, worldDown, Op, perform, tell, carryUp, carryDown, isRefused, fresh}
 use Rattle.truth.specs.Clauses.{TokensAt, CoverageAt, CallbacksAt, G4At, LockedAt, CalledAt, A2At, ValuesAt, Versions, ValidatedAt, Archived, OwnedAt}
@@ -67,7 +67,7 @@ taken i l w = worldUp w (upd (w .up) i l)
 -- each action of the pass takes P to Q (the guards are those of `Atomic`)
 pub record Acts (P Q : Serving → Type 0) : Type 0 where
   pub aborts : (i c : ℕ) (x : Serving) → i < 8 → waits (x .server) i ≡ true → P x → Q (abort i c x)
-  pub asks : (i h p : ℕ) (x : Serving) → p < 32 → shut (x .server) i p ≡ true → x .server .asked p ≡ false → P x → Q (ask h p x)
+  pub asks : (i h p : ℕ) (x : Serving) → p < 32 → Shut i h p x → x .server .asked p ≡ false → P x → Q (ask h p x)
   pub reads : (i : ℕ) (x : Serving) → i < 8 → x .server .queue i .want ≡ WantRead → Clear i x → P x → Q (serveRead i x)
   pub calls : (i : ℕ) (x : Serving) → i < 8 → waits (x .server) i ≡ true → x .server .queue i .called ≡ false → (x .server .queue i .want ≡ WantRead → ⊥) → Clear i x → P x → Q (call i x)
   pub objects : (i : ℕ) (x : Serving) → i < 8 → x .server .queue i .want ≡ WantWrite → Ready i x → P x → Q (grantObject i x)

@@ -1,6 +1,6 @@
 -- `server_state::apart_at` meets its contract.
-use Rattle.server_state.specs.Valid.{apartAt}
 use mathlib.Core.Path.{sym}
+use Rattle.server_state.specs.Valid.{apartAt}
 use borrow.Author.Needs.{needs}
 use Rattle.server_state.proofs.apart_at.Statement.{statement}
 use Rattle.server_state.proofs.apart_at.Tie as tie

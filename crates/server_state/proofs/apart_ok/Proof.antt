@@ -1,4 +1,5 @@
--- `server_state::apart_ok` meets its contract. The loop's invariant: the answer is the definition's at the count of stations passed.
+-- `server_state::apart_ok` meets its contract. The loop's invariant: the answer is the definition's at the count passed.
+use Rattle.server_state.specs.Facts.{apart-idle}
 use Prim.Native.Nat.{_≤_, _-_}
 use mathlib.Core.Path.{_≡_, ap, _∙_}
 use native.Mathlib.Numerals.{add-one}
@@ -6,15 +7,14 @@ use native.Mathlib.Omega.{arith}
 use borrow.Author.Needs.{needs}
 use Rattle.lists.specs.Tests.{allTo}
 use Rattle.server_state.specs.Valid.{apartAt, apartOk}
-use Rattle.server_state.specs.Facts.{apart-idle}
 use Rattle.server_state.proofs.apart_ok.Statement.{statement}
 use Rattle.server_state.proofs.apart_ok.Tie as tie
 
 abbrev Inv-loop : tie.InvT-loop
-Inv-loop s i ok₀ j₀ ok j = (j ≤ 8) × (ok ≡ allTo (apartAt s i) j)
+Inv-loop s i ok₀ j₀ ok j = (j ≤ i) × (ok ≡ allTo (apartAt s i) j)
 
 abbrev μ-loop : tie.MeasureT-loop
-μ-loop s i ok₀ j₀ ok j = 8 - j
+μ-loop s i ok₀ j₀ ok j = i - j
 
 add-if1 : tie.Need-add-if1 Inv-loop μ-loop
 add-if1 c = search needs

@@ -1,29 +1,42 @@
--- `server_state::holders_ok` meets its contract. The loop's invariant: the answer is the definition's at the count of stations passed.
+-- `server_state::holders_ok` meets its contract. The loop's invariant: the answer is the definition's at the count passed.
+use Rattle.server_state.specs.Facts.{page-unlocked}
+use mathlib.Core.Path.{sym, _≡_, ap, _∙_}
 use Prim.Native.Nat.{_≤_, _-_}
-use mathlib.Core.Path.{_≡_, ap, _∙_}
 use native.Mathlib.Numerals.{add-one}
 use native.Mathlib.Omega.{arith}
 use borrow.Author.Needs.{needs}
 use Rattle.lists.specs.Tests.{allTo}
-use Rattle.server_state.specs.Valid.{namesOk}
+use Rattle.server_state.specs.Valid.{holderAt}
 use Rattle.server_state.proofs.holders_ok.Statement.{statement}
 use Rattle.server_state.proofs.holders_ok.Tie as tie
 
 abbrev Inv-loop : tie.InvT-loop
-Inv-loop s p ok₀ h₀ ok h = (h ≤ 8) × (ok ≡ allTo (namesOk s p) h)
+Inv-loop s p ok₀ o₀ ok o = (o ≤ 8) × (ok ≡ allTo (holderAt s p) o)
 
 abbrev μ-loop : tie.MeasureT-loop
-μ-loop s p ok₀ h₀ ok h = 8 - h
+μ-loop s p ok₀ o₀ ok o = 8 - o
+
+mul-get-u64 : tie.Need-mul-get-u64 Inv-loop μ-loop
+mul-get-u64 c = search needs
+
+add-get-u64 : tie.Need-add-get-u64 Inv-loop μ-loop
+add-get-u64 c = search needs
+
+get-u64-requires : tie.Need-get-u64-requires Inv-loop μ-loop
+get-u64-requires c κs = search needs
+
+returns : tie.Need-returns Inv-loop μ-loop
+returns c = page-unlocked _ _ (sym (c .before .get-u64 .ensures) ∙ c .if1 .taken)
 
 loop-holds : tie.Need-loop-holds Inv-loop μ-loop
 unfolding allTo
 loop-holds c = search needs
 
-names-ok-requires : tie.Need-names-ok-requires Inv-loop μ-loop
-names-ok-requires c κs = search needs
+holder-at-requires : tie.Need-holder-at-requires Inv-loop μ-loop
+holder-at-requires c κs = search needs
 
-add-h : tie.Need-add-h Inv-loop μ-loop
-add-h c = search needs
+add-o : tie.Need-add-o Inv-loop μ-loop
+add-o c = search needs
 
 loop-less : tie.Need-loop-less Inv-loop μ-loop
 loop-less c = search needs
@@ -32,10 +45,22 @@ loop-again : tie.Need-loop-again Inv-loop μ-loop
 unfolding allTo
 loop-again c = (search needs, rw add-one (cc))
 
-returns : tie.Need-returns Inv-loop μ-loop
-returns c = c .before .loop .inv .1 ∙ ap (allTo _) (omega arith)
+returns-2 : tie.Need-returns-2 Inv-loop μ-loop
+returns-2 c = c .before .loop .inv .1 ∙ ap (allTo _) (omega arith)
 
 pub holders-ok-spec : {M : Type 1} → statement M
 holders-ok-spec =
     tie.close
-    (tie.spec Inv-loop μ-loop loop-holds names-ok-requires add-h loop-less loop-again returns)
+    (tie.spec
+    Inv-loop
+    μ-loop
+    mul-get-u64
+    add-get-u64
+    get-u64-requires
+    returns
+    loop-holds
+    holder-at-requires
+    add-o
+    loop-less
+    loop-again
+    returns-2)

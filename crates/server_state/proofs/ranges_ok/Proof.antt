@@ -1,6 +1,6 @@
 -- `server_state::ranges_ok` meets its contract.
-use Rattle.server_state.specs.Valid.{rangesOk}
 use mathlib.Core.Path.{sym}
+use Rattle.server_state.specs.Valid.{rangesOk}
 use borrow.Author.Needs.{needs}
 use Rattle.server_state.proofs.ranges_ok.Statement.{statement}
 use Rattle.server_state.proofs.ranges_ok.Tie as tie
@@ -17,24 +17,10 @@ most-requires-3 c κs = search needs
 most-requires-4 : tie.Need-most-requires-4
 most-requires-4 c κs = search needs
 
-most-requires-5 : tie.Need-most-requires-5
-most-requires-5 c κs = search needs
-
-most-requires-6 : tie.Need-most-requires-6
-most-requires-6 c κs = search needs
-
 returns : tie.Need-returns
 unfolding rangesOk
-returns c = simp (sym (c .before .before .before .before .before .most .ensures), sym (c .before .before .before .before .most2 .ensures), sym (c .before .before .before .most3 .ensures), sym (c .before .before .most4 .ensures), sym (c .before .most5 .ensures), sym (c .most6 .ensures))
+returns c = simp (sym (c .before .before .before .most .ensures), sym (c .before .before .most2 .ensures), sym (c .before .most3 .ensures), sym (c .most4 .ensures))
 
 pub ranges-ok-spec : {M : Type 1} → statement M
 ranges-ok-spec =
-    tie.close
-    (tie.spec
-    most-requires
-    most-requires-2
-    most-requires-3
-    most-requires-4
-    most-requires-5
-    most-requires-6
-    returns)
+    tie.close (tie.spec most-requires most-requires-2 most-requires-3 most-requires-4 returns)

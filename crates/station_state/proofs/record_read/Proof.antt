@@ -7,6 +7,9 @@ use Rattle.station_state.proofs.record_read.Tie as tie
 mul-get-u64 : tie.Need-mul-get-u64
 mul-get-u64 c = search needs
 
+add-get-u64 : tie.Need-add-get-u64
+add-get-u64 c = search needs
+
 get-u64-requires : tie.Need-get-u64-requires
 get-u64-requires c κs = search needs
 
@@ -34,6 +37,7 @@ record-read-spec =
     tie.close
     (tie.spec
     mul-get-u64
+    add-get-u64
     get-u64-requires
     add-to-requires
     mul-put-u64

@@ -1,5 +1,5 @@
 -- `station_state::requested` meets its contract.
-use Rattle.station_state.specs.Layout.{requestedB}
+use Rattle.station_state.specs.Layout.{addressFrom, requestedB}
 use native.Mathlib.Omega.{arith}
 use borrow.Author.Needs.{needs}
 use Rattle.station_state.proofs.requested.Statement.{statement}
@@ -15,7 +15,7 @@ shared-slice-read-result-3 : tie.Need-shared-slice-read-result-3
 shared-slice-read-result-3 c = search needs
 
 cast-result : tie.Need-cast-result
-cast-result c = omega (arith, c .shared-slice-known3 .given 6712)
+cast-result c = omega (arith, c .shared-slice-known3 .given addressFrom)
 
 returns : tie.Need-returns
 unfolding requestedB

@@ -19,6 +19,9 @@ put-u64-requires c κs = search needs
 mul-put-u64-2 : tie.Need-mul-put-u64-2
 mul-put-u64-2 c = search needs
 
+add-put-u64-2 : tie.Need-add-put-u64-2
+add-put-u64-2 c = search needs
+
 put-u64-requires-2 : tie.Need-put-u64-requires-2
 put-u64-requires-2 c κs = search needs
 
@@ -38,6 +41,7 @@ write-local-spec =
     add-put-u64
     put-u64-requires
     mul-put-u64-2
+    add-put-u64-2
     put-u64-requires-2
     same-length
     returns)

@@ -4,10 +4,9 @@ use crate::tally::Tallies;
 use second::buffers::{show_state, Agreed, Difference, Lends, Pair, Room};
 use second::ffi::server as proved;
 use second::line::lent::BUFFER;
-use second::line::message::{Down, LENGTH as MESSAGE};
+use second::line::message::{self, Down, LENGTH as MESSAGE};
 use second::line::places::Place;
 use second::line::server::state::{self, Field, COUNTERS_END};
-use second::line::sets::STATIONS;
 use second::numbers::OK;
 use second::random::Random;
 use second::record::Record;
@@ -37,52 +36,43 @@ impl Judge {
         self.lent.seed(seed);
     }
 
-    /// A step on these bytes: compared in full where this implementation can hold the state, else as far as can be said.
+    /// A step on these bytes, compared in full; and what it leaves and sends is looked at, whatever the two agree on.
     pub fn step(&mut self, message: &[u8], state: &[u8], room: Room) -> Agreed<()> {
         if self.show {
             println!("step {} on {}, {room:?}", hex(message), sort(state));
         }
         self.lent.lend(state, room);
         let number = proved::step(message, &mut self.lent.given.lent());
-        let expected = self.expect(message, number);
+        let expected = self.expect(message);
         let sent = self.lent.given.sent();
         self.tallies.stepped(message, number, sent);
-        if number != expected || !self.lent.same() {
+        let closed = number != OK || self.is_closed(state);
+        if number != expected || !self.lent.same() || !closed {
             return Err(self.differ(message, state, room, [expected, number]));
         }
         Ok(())
     }
 
-    /// The number; lays what is known, or takes what may be, into the buffers expected.
-    fn expect(&mut self, message: &[u8], given: u32) -> u32 {
+    /// The number; lays what is to be left into the buffers expected.
+    fn expect(&mut self, message: &[u8]) -> u32 {
         let mut lent = self.lent.expected.lent();
         if !lent.fits() {
             return BUFFER;
         }
-        if let Some(mut server) = state::decode(lent.state) {
-            return lent.step(message, &mut server);
-        }
-        let server = state::near(lent.state).expect("a valid state");
-        match server.admits(message) {
-            Err(number) => number as u32,
-            Ok(_) => {
-                if given == OK && self.may_leave() {
-                    self.lent.take();
-                }
-                OK
-            }
-        }
+        let mut server = state::decode(lent.state).expect("a valid state");
+        lent.step(message, &mut server)
     }
 
-    /// A valid state with the same kinds, messages that stations take, and the next records.
-    fn may_leave(&self) -> bool {
-        let (before, after) = (self.lent.expected.state(), self.lent.given.state());
-        let kinds = Field::Kind.range();
+    /// "Whatever message comes, the state left is taken again, unless the next age or the next arrival has come to 2^63; and
+    /// what is sent is taken by its station up to number 4, and fits its kind": and records are the next.
+    fn is_closed(&self, before: &[u8]) -> bool {
+        let after = self.lent.given.state();
         let last = |state: &[u8]| Field::Last.word(state, 0);
-        (state::valid(after) || counters_spent(after) || locks_unasked(before))
-            && before[kinds.clone()] == after[kinds]
+        (state::valid(after) || counters_spent(after))
             && self.lent.given.sent().is_some_and(|(messages, records)| {
-                messages.chunks(MESSAGE).all(taken_below)
+                messages
+                    .chunks(MESSAGE)
+                    .all(|message| taken_below(message, before))
                     && next_records(last(before), records) == Some(last(after))
             })
     }
@@ -108,19 +98,16 @@ fn counters_spent(state: &[u8]) -> bool {
         .any(|counter| counter.long(state, 0) == COUNTERS_END)
 }
 
-/// A write waits for an object that its set does not name: the gates look at the set, and the lock may come beside
-/// another's whole lock. No run reaches that.
-fn locks_unasked(state: &[u8]) -> bool {
-    (0..STATIONS).any(|station| {
-        let requested = Field::Request.byte_of(state, station);
-        Field::Want.byte_of(state, station) == 2
-            && !Field::WrittenSet.sets(state, station).has(requested)
-    })
-}
-
-/// The station that a message names takes it, but for number 6.
-fn taken_below(message: &[u8]) -> bool {
-    Down::decode(message, message[1]).is_ok_and(|(station, _)| station == message[1])
+/// The station that a message names takes it, but for number 6 of its wait: 17 to 20 a locking one, 23 a validating one.
+fn taken_below(message: &[u8], state: &[u8]) -> bool {
+    let named = message::Field::Station.byte(message);
+    let locking = Field::Kind.byte_of(state, named.into()) == 0;
+    let kind_fits = match message::Field::Kind.byte(message) {
+        17..=20 => locking,
+        23 => !locking,
+        _ => true,
+    };
+    kind_fits && Down::decode(message, named).is_ok_and(|(station, _)| station == named)
 }
 
 /// The last number, if these are well-formed records one behind the other with the numbers behind this one.
@@ -134,14 +121,10 @@ fn next_records(mut last: u32, mut bytes: &[u8]) -> Option<u32> {
 }
 
 /// What this implementation makes of a state.
-pub const SORTS: [&str; 3] = ["decoded", "valid but not decoded", "not valid"];
+pub const SORTS: [&str; 2] = ["valid", "not valid"];
 
 pub fn sort(state: &[u8]) -> &'static str {
-    SORTS[match state::decode(state) {
-        Some(_) => 0,
-        None if state::valid(state) => 1,
-        None => 2,
-    }]
+    SORTS[usize::from(!state::valid(state))]
 }
 
 /// Mostly enough; else one of them is too short, or all.

@@ -21,8 +21,8 @@ pub fn damaged(random: &mut Random, real: &[u8]) -> (&'static str, Vec<u8>) {
             spoil::field_changed::<Field>(random, real),
         ),
         8 => ("at its limits", at_limits(random, real)),
-        9..=12 => ("random that decodes", decoded(random)),
-        13 | 14 => ("random in range", in_range(random)),
+        9..=12 => ("random that is taken", taken(random)),
+        13 | 14 => ("random, some fields beside", beside(random)),
         _ => ("random", random.bytes(LENGTH)),
     }
 }
@@ -68,8 +68,8 @@ impl Density {
     }
 }
 
-/// Nothing that this implementation cannot hold, and little that a run could not reach.
-fn decoded(random: &mut Random) -> Vec<u8> {
+/// What number 1 takes, and little that a run could not reach.
+fn taken(random: &mut Random) -> Vec<u8> {
     let mut state = random.bytes(LENGTH);
     for field in [Field::Kind, Field::Unfinished] {
         for byte in &mut state[field.range()] {
@@ -96,6 +96,9 @@ fn decoded(random: &mut Random) -> Vec<u8> {
     for station in 0..STATIONS {
         enter(random, station, &mut state);
     }
+    for station in 0..STATIONS {
+        call_back(random, station, &mut state);
+    }
     state
 }
 
@@ -113,14 +116,18 @@ fn number(random: &mut Random, field: Field, next: Field, state: &mut [u8]) {
     next.put_long(state, 0, first + STATIONS as u64);
 }
 
+/// Locks of locking stations whose transactions are unfinished.
 fn lock(random: &mut Random, state: &mut [u8]) {
     let (objects, pages) = (Density::any(random), Density::any(random));
-    let holders = 1 + random.below(STATIONS);
+    let may = |station: &usize| {
+        Field::Kind.byte_of(state, *station) == 0 && Field::Unfinished.byte_of(state, *station) == 1
+    };
+    let holders: Vec<u8> = (0..STATIONS).filter(may).map(|i| i as u8 + 1).collect();
     let mut asked = 0;
     for page in 0..PAGES {
         let mut holder = |density: Density| match density.here(random) {
-            true => 1 + random.below(holders) as u8,
-            false => 0,
+            true if !holders.is_empty() => random.pick(&holders),
+            _ => 0,
         };
         let whole = holder(pages);
         Field::Whole.put_byte_of(state, page, whole);
@@ -148,7 +155,11 @@ fn list(random: &mut Random, state: &mut [u8]) {
 /// A station's entry in the waiting list, or that it has none.
 fn enter(random: &mut Random, station: usize, state: &mut [u8]) {
     let unfinished = Field::Unfinished.byte_of(state, station) != 0;
-    let want = if unfinished { random.below(4) as u8 } else { 0 };
+    let want = match Field::Kind.byte_of(state, station) {
+        _ if !unfinished => 0,
+        0 => random.below(3) as u8,
+        _ => random.pick(&[0, 3]),
+    };
     Field::Want.put_byte_of(state, station, want);
     let few = Addresses(array::from_fn(|_| {
         random.byte() & random.byte() & random.byte()
@@ -170,7 +181,6 @@ fn enter(random: &mut Random, station: usize, state: &mut [u8]) {
     if want == 0 {
         Field::Arrival.put_long(state, station, 0);
     }
-    call_back(random, station, want, state);
     let transaction = Field::Latest.word(state, station);
     Field::Work.put_word(state, station, transaction);
     for page in 0..PAGES {
@@ -182,20 +192,24 @@ fn enter(random: &mut Random, station: usize, state: &mut [u8]) {
     }
 }
 
-/// What is owed to a waiter.
-fn call_back(random: &mut Random, station: usize, want: u8, state: &mut [u8]) {
-    let called = want > 1 && random.one_in(2);
+/// What other, locking stations owe a waiter.
+fn call_back(random: &mut Random, station: usize, state: &mut [u8]) {
+    let called = Field::Want.byte_of(state, station) > 1 && random.one_in(2);
+    let locking = |other: &usize| *other != station && Field::Kind.byte_of(state, *other) == 0;
+    let others = (0..STATIONS)
+        .filter(locking)
+        .fold(0, |set, other| set | 1 << other);
     let [any, other] = [random.byte(), random.byte()];
-    let owed = random.pick(&[0, any, any & other]);
+    let owed = others & random.pick(&[0, any, any & other]);
     let owed = if called { owed } else { 0 };
     Field::Called.put_byte_of(state, station, called.into());
     Field::Pend.put_byte_of(state, station, owed);
     Field::Busy.put_byte_of(state, station, owed & random.byte());
 }
 
-/// In range, and often with what this implementation cannot hold.
-fn in_range(random: &mut Random) -> Vec<u8> {
-    let mut state = decoded(random);
+/// Nearly so: fields that do not count have something, or a request and its sets differ.
+fn beside(random: &mut Random) -> Vec<u8> {
+    let mut state = taken(random);
     for _ in 0..1 + random.below(4) {
         let station = random.below(STATIONS);
         let byte = random.byte();
@@ -288,16 +302,16 @@ fn many_messages(random: &mut Random) -> Vec<u8> {
 #[cfg(test)]
 mod tests {
     use super::*;
-    use second::line::server::state::{decode, valid};
+    use second::line::server::state::valid;
 
     #[test]
-    fn random_states_decode() {
+    fn random_states_are_taken() {
         let mut random = Random::new(1);
         for _ in 0..1_000 {
-            assert!(decode(&decoded(&mut random)).is_some());
+            assert!(valid(&taken(&mut random)));
         }
-        let states: Vec<Vec<u8>> = (0..1_000).map(|_| in_range(&mut random)).collect();
-        assert!(states.iter().all(|state| valid(state)));
-        assert!(states.iter().any(|state| decode(state).is_none()));
+        let states: Vec<Vec<u8>> = (0..1_000).map(|_| beside(&mut random)).collect();
+        assert!(states.iter().any(|state| valid(state)));
+        assert!(states.iter().any(|state| !valid(state)));
     }
 }

@@ -3,7 +3,8 @@
 use crate::judge::SORTS;
 use second::line::counts::Counts;
 use second::line::lent::BUFFER;
-use second::line::message::LENGTH as MESSAGE;
+use second::line::message::{Field, LENGTH as MESSAGE};
+use second::line::places::Place;
 use second::line::served::RECORDS;
 use second::numbers::OK;
 use second::tally::Tally;
@@ -48,9 +49,10 @@ impl Tallies {
         self.accepted.count(message.first().copied().unwrap_or(0));
         let (messages, records) = sent.unwrap_or_default();
         for message in messages.chunks(MESSAGE) {
-            self.sent.count(message[0]);
-            if message[0] == 22 {
-                self.causes.count(message[3]);
+            let kind = Field::Kind.byte(message);
+            self.sent.count(kind);
+            if kind == 22 {
+                self.causes.count(Field::ObjectOrCause.byte(message));
             }
         }
         self.most_messages = self.most_messages.max(messages.len() / MESSAGE);

@@ -51,7 +51,8 @@ impl Judge {
         if number == OK {
             self.lent.expected.take_fields(free, &self.lent.given);
         }
-        if number != expected || !self.lent.same() {
+        let closed = number != OK || self.may_leave(state);
+        if number != expected || !self.lent.same() || !closed {
             return self.differ(operation, state, room, &expected.to_string(), number);
         }
         state.copy_from_slice(self.lent.given.state());
@@ -110,7 +111,7 @@ impl Judge {
         number
     }
 
-    /// A valid state of the same station, which sends what the server's checks let pass.
+    /// A valid state of the same station, which sends what the server's checks let pass, and what a station of its kind may.
     fn may_leave(&self, before: &[u8]) -> bool {
         let after = self.lent.given.state();
         let stays = |field: Field| field.byte(after) == field.byte(before);
@@ -147,11 +148,14 @@ impl Judge {
     }
 }
 
-/// A message from this state's station passes numbers 2 to 5.
+/// A message from this state's station passes numbers 2 to 5, and is none of those that a validating one may not send.
 fn passes(message: &[u8], state: &[u8]) -> bool {
     let Some(kind) = Kind::of(Field::Kind.byte(state).into()) else {
         return false;
     };
+    if kind == Kind::Validating && ![1, 3, 5].contains(&message[0]) {
+        return false;
+    }
     let decoded = Up::decode(message, &[kind; STATIONS]);
     decoded.is_ok_and(|(station, _)| station == Field::Station.byte(state))
 }

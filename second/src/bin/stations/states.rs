@@ -1,5 +1,6 @@
 //! States for damaged cases: real ones changed, and random ones.
 
+use second::line::little::LONG;
 use second::line::places::Place;
 use second::line::sets::{object_bit, page_bit, page_of, rising, Addresses};
 use second::line::sets::{OBJECTS, PAGES, STATIONS};
@@ -62,6 +63,9 @@ fn decoded(random: &mut Random) -> Vec<u8> {
     if Field::Open.byte(&state) == 0 {
         clear(&Field::OF_TRANSACTION, &mut state);
     }
+    if Field::Open.byte(&state) == 0 || Field::Kind.byte(&state) == 1 {
+        clear(&Field::OF_LOCKS, &mut state);
+    }
     ask_once(&mut state);
     let mut cached = random.number() as u32 | random.pick(&[0, 0x5555_5555, u32::MAX]);
     if Field::Kind.byte(&state) == 0 {
@@ -109,8 +113,8 @@ fn copy_written(state: &mut [u8]) {
     let cached = Field::Cached.word(state, 0);
     for address in (0..=u8::MAX).filter(|address| written.has(*address)) {
         if cached & page_bit(page_of(address)) != 0 {
-            let from = Field::WrittenValue.start() + 8 * usize::from(address);
-            let to = Field::Copy.start() + 8 * usize::from(address);
+            let from = Field::WrittenValue.start() + LONG * usize::from(address);
+            let to = Field::Copy.start() + LONG * usize::from(address);
             state.copy_within(from..from + 8, to);
         }
     }
@@ -120,8 +124,8 @@ fn copy_written(state: &mut [u8]) {
 fn cache_only(pages: u32, state: &mut [u8]) {
     Field::Cached.put_word(state, 0, pages);
     for page in rising(!pages).map(usize::from) {
-        let values = Field::Copy.start() + 8 * OBJECTS * page;
-        state[values..values + 8 * OBJECTS].fill(0);
+        let values = Field::Copy.start() + LONG * OBJECTS * page;
+        state[values..values + LONG * OBJECTS].fill(0);
         state[Field::Unavailable.start() + page] = 0;
         Field::Version.put_word(state, page, 0);
     }
@@ -130,14 +134,9 @@ fn cache_only(pages: u32, state: &mut [u8]) {
 /// What `Station::keeps_rules` asks for.
 fn by_the_rules(random: &mut Random) -> Vec<u8> {
     let mut state = decoded(random);
-    let locking = Field::Kind.byte(&state) == 0;
-    if Field::Open.byte(&state) == 0 || !locking {
-        clear(&[Field::Kept], &mut state);
-    }
     if Field::Open.byte(&state) == 1 {
-        match locking {
-            true => lock_written(&mut state),
-            false => clear(&[Field::Locks, Field::Whole], &mut state),
+        if Field::Kind.byte(&state) == 0 {
+            lock_written(&mut state);
         }
         cache_held(&mut state);
         copy_written(&mut state);

@@ -2,54 +2,22 @@
 
 use super::{Callbacks, Request, Seen, Server, Waiter, WholeLock};
 use crate::line::message::{pages_of, Commit, Up};
-use crate::line::places::{fields, Place};
+use crate::line::places::Place;
 use crate::line::sets::{address, object_bit, page_bit, rising, Addresses, ADDRESSES};
 use crate::line::sets::{OBJECTS, PAGES, STATIONS};
 use crate::line::Kind;
 use crate::record::Record;
 use std::array;
 
-/// "The server's state, 37,072 bytes"
-pub const LENGTH: usize = 37_072;
-
-fields! {
-    LENGTH:
-    Value = 0,
-    ReadValue = 2048,
-    WrittenValue = 18432,
-    Age = 34816,
-    Arrival = 34880,
-    NextAge = 34944,
-    NextArrival = 34952,
-    Version = 34960,
-    SentVersion = 35088,
-    Work = 36112,
-    Latest = 36144,
-    Listed = 36176,
-    Last = 36208,
-    Asked = 36212,
-    Lock = 36216,
-    Whole = 36472,
-    ReadSet = 36504,
-    WrittenSet = 36760,
-    Kind = 37016,
-    Want = 37024,
-    Request = 37032,
-    Called = 37040,
-    Pend = 37048,
-    Busy = 37056,
-    Unfinished = 37064,
-}
+pub use crate::line::places::server::{Field, LENGTH};
 
 impl Field {
-    /// Bytes that have a range of their own: how many, and the highest that is in it.
-    pub const RANGES: [(Field, usize, u8); 6] = [
-        (Field::Lock, ADDRESSES, STATIONS as u8),
-        (Field::Whole, PAGES, STATIONS as u8),
-        (Field::Kind, STATIONS, 1),
-        (Field::Want, STATIONS, 3),
-        (Field::Called, STATIONS, 1),
-        (Field::Unfinished, STATIONS, 1),
+    /// Bytes that have a range of their own, one for each station: the highest that is in it.
+    pub const RANGES: [(Field, u8); 4] = [
+        (Field::Kind, 1),
+        (Field::Want, 3),
+        (Field::Called, 1),
+        (Field::Unfinished, 1),
     ];
 }
 
@@ -63,20 +31,17 @@ pub fn valid(bytes: &[u8]) -> bool {
     bytes.len() == LENGTH
         && in_range(bytes)
         && (0..STATIONS).all(|station| station_fits(bytes, station))
-        && (0..PAGES).all(|page| whole_lock_fits(bytes, page))
+        && (0..PAGES).all(|page| locks_fit(bytes, page))
+        && asked_are_held(bytes)
         && apart(bytes, Field::Unfinished, Field::Age)
         && apart(bytes, Field::Want, Field::Arrival)
 }
 
 fn in_range(bytes: &[u8]) -> bool {
-    // one test behind the loop is faster than one in it
-    let highest = |field: Field, entries: usize| {
-        let bytes = &bytes[field.start()..][..entries];
-        bytes.iter().fold(0, |a, b| a.max(*b))
-    };
+    let most = |field: Field, most: u8| bytes[field.range()].iter().all(|byte| *byte <= most);
     Field::RANGES
         .into_iter()
-        .all(|(field, entries, most)| highest(field, entries) <= most)
+        .all(|(field, highest)| most(field, highest))
         && Field::NextAge.long(bytes, 0) < COUNTERS_END
         && Field::NextArrival.long(bytes, 0) < COUNTERS_END
 }
@@ -85,27 +50,74 @@ fn waits(bytes: &[u8], station: usize) -> bool {
     Field::Want.byte_of(bytes, station) != 0
 }
 
-fn station_fits(bytes: &[u8], station: usize) -> bool {
-    let unfinished = Field::Unfinished.byte_of(bytes, station) != 0;
-    let waits = waits(bytes, station);
-    let commits = Field::Want.byte_of(bytes, station) == 3;
-    // "below the next age while that is unfinished", "below the next arrival while it waits"
-    (!unfinished || Field::Age.long(bytes, station) < Field::NextAge.long(bytes, 0))
-        && (!waits || Field::Arrival.long(bytes, station) < Field::NextArrival.long(bytes, 0))
-        // "A transaction number of 0 is out of range where a transaction must be"
-        && (!waits || Field::Latest.word(bytes, station) != 0)
-        && (!commits || Field::Work.word(bytes, station) != 0)
+fn works(bytes: &[u8], station: usize) -> bool {
+    Field::Unfinished.byte_of(bytes, station) != 0
 }
 
-/// Its objects are "0 or the page's holder", who has a transaction.
-fn whole_lock_fits(bytes: &[u8], page: usize) -> bool {
-    let Some(holder) = station_of(Field::Whole.byte_of(bytes, page)) else {
-        return true;
-    };
+fn locks(bytes: &[u8], station: usize) -> bool {
+    Field::Kind.byte_of(bytes, station) == Kind::Locking as u8
+}
+
+fn station_fits(bytes: &[u8], station: usize) -> bool {
+    // "below the next age"; of latest "not 0 while that is unfinished"
+    Field::Age.long(bytes, station) < Field::NextAge.long(bytes, 0)
+        && (!works(bytes, station) || Field::Latest.word(bytes, station) != 0)
+        && entry_fits(bytes, station)
+        && callbacks_fit(bytes, station)
+}
+
+/// "a station that waits for nothing has an empty entry, one that waits has the entry that its message made"
+fn entry_fits(bytes: &[u8], station: usize) -> bool {
+    let arrival = Field::Arrival.long(bytes, station);
+    let request = Field::Request.byte_of(bytes, station);
+    let only = |field: Field| field.sets(bytes, station) == Addresses::one(request);
+    let nothing = |field: Field| field.sets(bytes, station) == Addresses::default();
+    let waits = || works(bytes, station) && arrival < Field::NextArrival.long(bytes, 0);
+    let asks = || waits() && locks(bytes, station);
+    match Field::Want.byte_of(bytes, station) {
+        0 => arrival == 0 && request == 0 && nothing(Field::ReadSet) && nothing(Field::WrittenSet),
+        1 => asks() && only(Field::ReadSet) && nothing(Field::WrittenSet),
+        2 => asks() && only(Field::WrittenSet) && nothing(Field::ReadSet),
+        _ => {
+            waits()
+                && !locks(bytes, station)
+                && request == 0
+                && Field::Work.word(bytes, station) == Field::Latest.word(bytes, station)
+        }
+    }
+}
+
+/// Of pend "other, locking stations; 0 unless called is 1", of busy "a part of pend".
+fn callbacks_fit(bytes: &[u8], station: usize) -> bool {
+    let owed = Field::Pend.byte_of(bytes, station);
+    let busy = Field::Busy.byte_of(bytes, station);
+    if Field::Called.byte_of(bytes, station) == 0 {
+        return owed == 0 && busy == 0;
+    }
+    let owes = |other: &usize| owed >> other & 1 == 1;
+    Field::Want.byte_of(bytes, station) >= 2
+        && busy & !owed == 0
+        && (0..STATIONS)
+            .filter(owes)
+            .all(|other| other != station && locks(bytes, other))
+}
+
+/// "a locking station whose transaction is unfinished; 0 or the page's holder where the page is locked whole"
+fn locks_fit(bytes: &[u8], page: usize) -> bool {
     let first = Field::Lock.start() + OBJECTS * page;
-    let locks = &bytes[first..first + OBJECTS];
-    let own = |lock: &u8| station_of(*lock).is_none_or(|other| other == holder);
-    locks.iter().all(own) && Field::Latest.word(bytes, holder.into()) != 0
+    let objects = &bytes[first..first + OBJECTS];
+    match Field::Whole.byte_of(bytes, page) {
+        0 => objects.iter().all(|lock| holds(bytes, *lock)),
+        whole => holds(bytes, whole) && objects.iter().all(|lock| *lock == 0 || *lock == whole),
+    }
+}
+
+/// Nobody, or one that may hold a lock.
+fn holds(bytes: &[u8], holder: u8) -> bool {
+    station_of(holder).is_none_or(|station| {
+        let station = usize::from(station);
+        station < STATIONS && locks(bytes, station) && works(bytes, station)
+    })
 }
 
 /// "0 for none, i + 1 for station i"
@@ -122,15 +134,8 @@ fn apart(bytes: &[u8], counts: Field, number: Field) -> bool {
         .all(|a| !(0..a).filter(counted).any(|b| equal(a, b)))
 }
 
-/// What the bytes say; None where they are not valid, or say what a `Server` cannot hold. Leftovers are not looked at.
+/// What the bytes say; None where they are not valid. Leftovers are not looked at.
 pub fn decode(bytes: &[u8]) -> Option<Server> {
-    let server = near(bytes)?;
-    let holds = asked_are_held(bytes) && entries_fit(bytes, &server.waiting);
-    holds.then_some(server)
-}
-
-/// What valid bytes say beside entries of the waiting list that a `Server` cannot hold: it admits the right messages.
-pub fn near(bytes: &[u8]) -> Option<Server> {
     if !valid(bytes) {
         return None;
     }
@@ -146,7 +151,7 @@ pub fn near(bytes: &[u8]) -> Option<Server> {
         seen: array::from_fn(|station| seen(bytes, station)),
         next_age: Field::NextAge.long(bytes, 0),
         next_arrival: Field::NextArrival.long(bytes, 0),
-        locks: array::from_fn(|station| locks(bytes, station as u8)),
+        locks: array::from_fn(|station| locked(bytes, station as u8)),
         whole: array::from_fn(|page| whole(bytes, page)),
         listed: array::from_fn(|station| Field::Listed.word(bytes, station)),
         waiting: waiting(bytes, &kinds),
@@ -161,7 +166,7 @@ fn seen(bytes: &[u8], station: usize) -> Seen {
     }
 }
 
-fn locks(bytes: &[u8], station: u8) -> Addresses {
+fn locked(bytes: &[u8], station: u8) -> Addresses {
     let own =
         |address: &u8| station_of(Field::Lock.byte_of(bytes, (*address).into())) == Some(station);
     (0..=u8::MAX).filter(own).collect()
@@ -173,7 +178,7 @@ fn whole(bytes: &[u8], page: usize) -> Option<WholeLock> {
     Some(WholeLock { holder, asked })
 }
 
-/// A 19 is sent for a whole lock that is there.
+/// "of pages that are locked whole"
 fn asked_are_held(bytes: &[u8]) -> bool {
     rising(Field::Asked.word(bytes, 0)).all(|page| whole(bytes, page.into()).is_some())
 }
@@ -204,15 +209,6 @@ fn waiter(bytes: &[u8], station: usize, kind: Kind) -> Waiter {
         callbacks: (Field::Called.byte_of(bytes, station) != 0).then_some(callbacks),
         ..waiter
     }
-}
-
-/// A `Server` holds what it would write itself: of a station that does not wait nothing, of a waiter what its request
-/// says, in an unfinished transaction.
-fn entries_fit(bytes: &[u8], waiting: &[Waiter]) -> bool {
-    let mut laid = bytes.to_vec();
-    lay_entries(waiting, &mut laid);
-    let unfinished = |waiter: &Waiter| seen(bytes, waiter.station.into()).unfinished;
-    laid == bytes && waiting.iter().all(unfinished)
 }
 
 fn commit(bytes: &[u8], station: usize, kind: Kind) -> Commit {

@@ -1,58 +1,35 @@
 //! A station's state as bytes, from docs/STATE.md: its table of fields, number 1, and what it calls leftovers.
 
 use super::{Callback, Out, Page, Station, Transaction};
-use crate::line::places::{fields, Place};
+use crate::line::places::Place;
 use crate::line::sets::{address, object_of, page_of, rising};
 use crate::line::sets::{OBJECTS, PAGES, STATIONS};
 use crate::line::Kind;
 use std::array;
 use std::collections::BTreeMap;
 
-/// "A station's state, 6,713 bytes"
-pub const LENGTH: usize = 6_713;
-
-fields! {
-    LENGTH:
-    Copy = 0,
-    ReadValue = 2048,
-    WrittenValue = 4096,
-    WaitingValue = 6144,
-    Kept = 6152,
-    Version = 6184,
-    Number = 6312,
-    Cached = 6316,
-    Whole = 6320,
-    Unavailable = 6324,
-    ReadSet = 6356,
-    WrittenSet = 6388,
-    Locks = 6420,
-    Named = 6452,
-    Station = 6708,
-    Kind = 6709,
-    Open = 6710,
-    Wait = 6711,
-    Address = 6712,
-}
+pub use crate::line::places::station::{Field, LENGTH};
 
 impl Field {
     /// 0 throughout while no transaction is open.
-    pub const OF_TRANSACTION: [Field; 5] = [
-        Field::Whole,
-        Field::ReadSet,
-        Field::WrittenSet,
-        Field::Locks,
-        Field::Wait,
-    ];
+    pub const OF_TRANSACTION: [Field; 3] = [Field::ReadSet, Field::WrittenSet, Field::Wait];
+
+    /// 0 throughout but while a locking station's is.
+    pub const OF_LOCKS: [Field; 3] = [Field::Whole, Field::Locks, Field::Kept];
 
     /// What is known of a page beside that it is cached.
     pub const OF_COPIES: [Field; 3] = [Field::Copy, Field::Version, Field::Unavailable];
 }
 
 /// Not number 1: "the length is not 6,713, a field is out of the range above ..., or a callback from the station itself
-/// is kept. Nothing else is asked".
+/// is kept".
 #[inline]
 pub fn valid(bytes: &[u8]) -> bool {
-    bytes.len() == LENGTH && in_range(bytes) && !keeps_its_own(bytes)
+    bytes.len() == LENGTH
+        && in_range(bytes)
+        && !keeps_its_own(bytes)
+        && transaction_fits(bytes)
+        && (may_hold(bytes) || is_0(bytes, &Field::OF_LOCKS))
 }
 
 fn in_range(bytes: &[u8]) -> bool {
@@ -70,6 +47,26 @@ fn keeps_its_own(bytes: &[u8]) -> bool {
     Field::Kept.word(bytes, station.into()) != 0
 }
 
+fn is_0(bytes: &[u8], fields: &[Field]) -> bool {
+    let zero = |field: &Field| bytes[field.range()].iter().all(|byte| *byte == 0);
+    fields.iter().all(zero)
+}
+
+/// "0 while no transaction is open"; "A read that is out is of an object that is in neither set"
+fn transaction_fits(bytes: &[u8]) -> bool {
+    if Field::Open.byte(bytes) == 0 {
+        return is_0(bytes, &Field::OF_TRANSACTION);
+    }
+    let requested = Field::Address.byte(bytes);
+    let seen = |field: &Field| field.sets(bytes, 0).has(requested);
+    Field::Wait.byte(bytes) != 1 || ![Field::ReadSet, Field::WrittenSet].iter().any(seen)
+}
+
+/// "0 while no transaction is open, and at a validating station"
+fn may_hold(bytes: &[u8]) -> bool {
+    Field::Open.byte(bytes) == 1 && Field::Kind.byte(bytes) == Kind::Locking as u8
+}
+
 /// What the bytes say; None where they are not valid, or say what a `Station` cannot hold. Leftovers are not looked at.
 pub fn decode(bytes: &[u8]) -> Option<Station> {
     let station = near(bytes)?;
@@ -80,7 +77,7 @@ pub fn decode(bytes: &[u8]) -> Option<Station> {
 }
 
 /// What the bytes say beside copies that a `Station` cannot hold: a call on it tells and sends the right thing, and
-/// leaves the right bytes but for `Field::OF_COPIES`. None also for a transaction's things with none open.
+/// leaves the right bytes but for `Field::OF_COPIES`. None also for a used page whose version stands with no copy.
 pub fn near(bytes: &[u8]) -> Option<Station> {
     if !valid(bytes) {
         return None;
@@ -89,11 +86,11 @@ pub fn near(bytes: &[u8]) -> Option<Station> {
         number: Field::Station.byte(bytes),
         kind: Kind::of(Field::Kind.byte(bytes).into())?,
         latest: Field::Number.word(bytes, 0),
-        open: open(bytes)?,
+        open: (Field::Open.byte(bytes) == 1).then(|| transaction(bytes)),
         cached: cached(bytes),
         kept: kept(bytes),
     };
-    (asks_once(&station) && versions_are_cached(&station, bytes)).then_some(station)
+    versions_are_cached(&station, bytes).then_some(station)
 }
 
 /// A page that is not cached is 0 throughout.
@@ -122,15 +119,6 @@ fn locked_pages_are_cached(station: &Station) -> bool {
     (locked.pages() | whole) & !station.cached() == 0
 }
 
-/// A read that is out is of an object not yet seen: its delivery is the first read.
-fn asks_once(station: &Station) -> bool {
-    let open = station.open.as_ref();
-    open.is_none_or(|open| match open.out {
-        Some(Out::Read(address)) => open.seen(address).is_none(),
-        _ => true,
-    })
-}
-
 /// A validating commit has the versions of its cached pages only.
 fn versions_are_cached(station: &Station, bytes: &[u8]) -> bool {
     let mut beside = rising(station.used() & !station.cached());
@@ -138,18 +126,14 @@ fn versions_are_cached(station: &Station, bytes: &[u8]) -> bool {
     station.kind == Kind::Locking || beside.all(has_none)
 }
 
-/// The open transaction, or that there is none.
-fn open(bytes: &[u8]) -> Option<Option<Transaction>> {
-    let transaction = Transaction {
+/// The open transaction.
+fn transaction(bytes: &[u8]) -> Transaction {
+    Transaction {
         reads: values(bytes, Field::ReadSet, Field::ReadValue),
         writes: values(bytes, Field::WrittenSet, Field::WrittenValue),
         locked: Field::Locks.sets(bytes, 0),
         locked_whole: Field::Whole.word(bytes, 0),
         out: out(bytes),
-    };
-    match Field::Open.byte(bytes) {
-        0 => (transaction == Transaction::default()).then_some(None),
-        _ => Some(Some(transaction)),
     }
 }
 

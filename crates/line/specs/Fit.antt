@@ -1,0 +1,164 @@
+-- What number 1 asks of a state, in the model's words: beside `Apart`, that a field which does not count is empty, and that what stands in
+-- the waiting list fits the station that it stands for. And what number 4 asks of a message, and which kind of station sends or takes it.
+use mathlib.Core.Path.{_≡_}
+use mathlib.Core.Bool.{Bool, true, false, not}
+use mathlib.Core.Logic.{_≢_}
+use Prim.Native.Nat.{ℕ, _≤_, _<_}
+use lib.Dec.{eqb}
+use Rattle.sets.specs.Base.{Val, none}
+use Rattle.line.specs.Messages.{locking, Up, ReadRequest, WriteRequest, Commit, Abort, Purge, Busy, Done, WrittenSet, NoLock, ObjectLock, WholeLock, Down, Page, Deescalate, Callback, Committed, Aborted, Invalidate, Sent, To}
+use Rattle.line.specs.Server.{Server, Waiter, Want, NoWant, WantRead, WantWrite, WantCommit, isWant}
+use Rattle.line.specs.Station.{Station, Wait, Idle, ForRead, Kept, NotKept, KeptCall}
+use Rattle.line.specs.Apart.{Apart}
+
+-- sets with no member, and with one
+abbrev pub Vacant : (ℕ → Bool) → Type 0
+Vacant f = (a : ℕ) → f a ≡ false
+
+abbrev pub Only : (ℕ → Bool) → ℕ → Type 0
+Only f a = (b : ℕ) → f b ≡ eqb b a
+
+-- MESSAGES
+
+-- number 4: "a station, page, object, requester or cause lies outside its range, a callback's requester is the station it comes to, a named
+-- transaction or commit is 0", as far as the rules of this file need it
+abbrev pub UpNames : Up → Type 0
+UpNames (ReadRequest a t) = (a < 256) × (t ≢ 0)
+UpNames (WriteRequest a t) = (a < 256) × (t ≢ 0)
+UpNames (Commit w) = w .transaction ≢ 0
+UpNames (Abort t) = t ≢ 0
+UpNames (Purge p) = p < 32
+UpNames (Busy r t) = t ≢ 0
+UpNames (Done r t d) = t ≢ 0
+UpNames (WrittenSet p t set) = t ≢ 0
+
+-- of a message to station j
+abbrev pub DownNames : ℕ → Down → Type 0
+DownNames j (Page l a t v u x) = (a < 256) × (t ≢ 0)
+DownNames j (Deescalate p t) = (p < 32) × (t ≢ 0)
+DownNames j (Callback r t set) = (eqb j r ≡ false) × (t ≢ 0)
+DownNames j (Committed t n) = t ≢ 0
+DownNames j (Aborted t c) = t ≢ 0
+DownNames j (Invalidate d) = Unit {0}
+
+-- "2, 4, 6, 7, 8 from a validating station": what a station of this kind may send
+abbrev pub sentBy : ℕ → Up → Bool
+sentBy k (ReadRequest a t) = true
+sentBy k (WriteRequest a t) = locking k
+sentBy k (Commit w) = true
+sentBy k (Abort t) = locking k
+sentBy k (Purge p) = true
+sentBy k (Busy r t) = locking k
+sentBy k (Done r t d) = locking k
+sentBy k (WrittenSet p t set) = locking k
+
+-- "17 to 20 come to locking stations, 23 to validating ones" (reading 13): what one of this kind takes
+abbrev pub takenBy : ℕ → Down → Bool
+takenBy k (Page NoLock a t v u x) = true
+takenBy k (Page ObjectLock a t v u x) = locking k
+takenBy k (Page WholeLock a t v u x) = locking k
+takenBy k (Deescalate p t) = locking k
+takenBy k (Callback r t set) = locking k
+takenBy k (Committed t n) = true
+takenBy k (Aborted t c) = true
+takenBy k (Invalidate d) = not (locking k)
+
+pub record UpFits (k : ℕ) (m : Up) : Type 0 where
+  pub names : UpNames m
+  pub kind-fits : sentBy k m ≡ true
+
+pub record DownFits (j k : ℕ) (m : Down) : Type 0 where
+  pub names : DownNames j m
+  pub kind-fits : takenBy k m ≡ true
+
+-- a message goes to a station of the line, and fits its kind
+abbrev pub SentFits : (ℕ → ℕ) → Sent → Type 0
+SentFits kind (To j m) = (j < 8) × DownFits j (kind j) m
+
+-- THE SERVER
+
+-- 20s go out for a write or a commit
+abbrev pub calls : Want → Bool
+calls NoWant = false
+calls WantRead = false
+calls WantWrite = true
+calls WantCommit = true
+
+-- who waits for nothing has an empty entry
+pub record Blank (arrival req : ℕ) (reads writes : ℕ → Bool) : Type 0 where
+  pub arrival-is : arrival ≡ 0
+  pub req-is : req ≡ 0
+  pub nothing-read : Vacant reads
+  pub nothing-written : Vacant writes
+
+-- a request is for one object, which its set has
+pub record One (req : ℕ) (own others : ℕ → Bool) : Type 0 where
+  pub in-range : req < 256
+  pub asked-for : Only own req
+  pub nothing-else : Vacant others
+
+-- a commit is of the latest transaction
+pub record OfLatest (latest req transaction : ℕ) : Type 0 where
+  pub req-is : req ≡ 0
+  pub latest-is : transaction ≡ latest
+
+-- a station that owes station i a 7
+pub record Owes (kind : ℕ → ℕ) (i j : ℕ) : Type 0 where
+  pub station : j < 8
+  pub another : eqb j i ≡ false
+  pub locks : locking (kind j) ≡ true
+
+-- station i's entry in the waiting list
+pub record Form (kind : ℕ → ℕ) (i latest : ℕ) (w : Waiter) : Type 0 where
+  pub blank : isWant (w .want) ≡ false → Blank (w .arrival) (w .req) (w .reads) (w .writes)
+  pub read : w .want ≡ WantRead → One (w .req) (w .reads) (w .writes)
+  pub write : w .want ≡ WantWrite → One (w .req) (w .writes) (w .reads)
+  pub commit : w .want ≡ WantCommit → OfLatest latest (w .req) (w .work .transaction)
+  pub called : w .called ≡ true → calls (w .want) ≡ true
+  pub pending : (j : ℕ) → w .pend j ≡ true → w .called ≡ true
+  pub owed : (j : ℕ) → w .pend j ≡ true → Owes kind i j
+  pub busy : (j : ℕ) → w .busy j ≡ true → w .pend j ≡ true
+
+-- over fields, as `ApartOf`
+pub record Forms (kind : ℕ → ℕ) (latest : ℕ → ℕ) (fin : ℕ → Bool) (queue : ℕ → Waiter) : Type 0 where
+  pub kinds : (i : ℕ) → kind i ≤ 1
+  -- "each transaction": numbered from 1
+  pub named : (i : ℕ) → i < 8 → fin i ≡ false → latest i ≢ 0
+  pub form : (i : ℕ) → i < 8 → Form kind i (latest i) (queue i)
+
+pub record Fit (s : Server) : Type 0 where
+  pub apart : Apart s
+  pub forms : Forms (s .kind) (s .latest) (s .fin) (s .queue)
+
+-- A STATION
+
+-- its transaction
+pub record Works (opened : Bool) (num : ℕ) (rd wr : ℕ → Val) (wait : Wait) : Type 0 where
+  pub numbered : opened ≡ true → num ≢ 0
+  pub idle : opened ≡ false → wait ≡ Idle
+  pub unread : opened ≡ false → (a : ℕ) → rd a ≡ none
+  pub unwritten : opened ≡ false → (a : ℕ) → wr a ≡ none
+  -- a read that is out is the transaction's first of the object, which it has not written
+  pub first : (a : ℕ) → wait ≡ ForRead a → (rd a ≡ none) × (wr a ≡ none)
+
+-- its locks: of an open transaction of a locking station
+pub record Locked (kind : ℕ) (opened : Bool) (ol wl : ℕ → Bool) : Type 0 where
+  pub object-opened : (a : ℕ) → ol a ≡ true → opened ≡ true
+  pub object-locks : (a : ℕ) → ol a ≡ true → locking kind ≡ true
+  pub whole-opened : (p : ℕ) → wl p ≡ true → opened ≡ true
+  pub whole-locks : (p : ℕ) → wl p ≡ true → locking kind ≡ true
+
+-- a kept callback names a transaction, at a locking station
+abbrev pub KeptFits : ℕ → Kept → Type 0
+KeptFits kind NotKept = Unit {0}
+KeptFits kind (KeptCall t set) = (locking kind ≡ true) × (t ≢ 0)
+
+pub record Callbacks (own kind : ℕ) (opened : Bool) (kept : ℕ → Kept) : Type 0 where
+  pub not-own : kept own ≡ NotKept
+  pub done : opened ≡ false → (r : ℕ) → r < 8 → kept r ≡ NotKept
+  pub fit : (r : ℕ) → KeptFits kind (kept r)
+
+pub record FitStation (own : ℕ) (s : Station) : Type 0 where
+  pub works : Works (s .opened) (s .num) (s .rd) (s .wr) (s .wait)
+  pub locked : Locked (s .kind) (s .opened) (s .ol) (s .wl)
+  pub callbacks : Callbacks own (s .kind) (s .opened) (s .kept)

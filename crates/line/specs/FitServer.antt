@@ -1,0 +1,420 @@
+-- Every step of the server leaves a state that number 1 takes, and what it sends fits its station: from every such state, for every
+-- message that number 4 lets pass and number 6 takes.
+use mathlib.Core.Path.{_≡_, refl, sym, ap, _∙_}
+use mathlib.Core.Bool.{Bool, true, false, not, _&&_, false≢true}
+use mathlib.Core.List.{List, [], _∷_, _++_}
+use mathlib.Core.Logic.{_≢_}
+use Prim.Native.Nat.{ℕ, zero, suc, _+_, _≤_, _<_}
+use native.Mathlib.Omega.{arith}
+use lib.Dec.{eqb, ltb}
+use borrow.Author.Tests.{ltb-true}
+use Rattle.sets.specs.Base.{upd, any}
+use Rattle.sets.specs.Laws.{byB, byEq, eqb-same, eqb-yes, and-l, and-r, not-yes}
+use Rattle.line.specs.Messages.{lastNumber, locking, Work, Up, ReadRequest, WriteRequest, Commit, Abort, Purge, Busy, Done, WrittenSet, Down, Sent, To}
+use Rattle.line.specs.Server.{Server, Serving, freshServer, Waiter, noWaiter, waiterPend, waiterBusy, waiterCalled, Want, NoWant, WantRead, WantWrite, WantCommit, isWant, waits, wrotePage, unexpected, badNumber, notice, finish, join, leave, sendPage, abort, informed, write, archive, inform, informFrom, install, readWaiter, writeWaiter, commitWaiter, serveNow, joinRead, joinWrite, joinCommit, commitNow, unlist, openCall, markBusy, answered, openAsk, loosen, accept, ask, serveRead, concerned, callsFrom, call, grantPage, grantObject, installWaiter, start, serverStep}
+use Rattle.line.specs.Pass.{Atomic, if-keeps, step-keeps}
+use Rattle.line.specs.All.{All, all-append}
+use Rattle.line.specs.Apart.{ApartIn, or-l, good-number, atomic-apart, accept-apart, apart-fresh}
+use Rattle.line.specs.Fit.{UpNames, DownNames, takenBy, SentFits, calls, Owes, Form, Forms, Fit}
+
+abbrev FormsIn : Serving → Type 0
+FormsIn x = Forms (x .server .kind) (x .server .latest) (x .server .fin) (x .server .queue)
+
+abbrev SentIn : Serving → Type 0
+SentIn x = All (SentFits (x .server .kind)) (x .sent)
+
+-- ENTRIES
+
+-- what waits for nothing waits for no commit, no read, no write
+idle-not : {G : Type 0} (w : Waiter) (v : Want) → isWant (w .want) ≡ false → isWant v ≡ true → w .want ≡ v → G
+idle-not w v n t e = absurd (false≢true (sym n ∙ ap isWant e ∙ t))
+
+no-form : (kind : ℕ → ℕ) (i latest : ℕ) → Form kind i latest noWaiter
+no-form kind i latest =
+    record {
+      blank = λ e. record { arrival-is = refl; req-is = refl; nothing-read = λ a. refl; nothing-written = λ a. refl };
+      read = λ e. idle-not noWaiter WantRead refl refl e;
+      write = λ e. idle-not noWaiter WantWrite refl refl e;
+      commit = λ e. idle-not noWaiter WantCommit refl refl e;
+      called = λ e. absurd (false≢true e);
+      pending = λ j e. absurd (false≢true e);
+      owed = λ j e. absurd (false≢true e);
+      busy = λ j e. absurd (false≢true e);
+    }
+
+-- a new transaction of a station that does not wait
+begun-form : {kind : ℕ → ℕ} {i latest : ℕ} {w : Waiter} (t : ℕ) → isWant (w .want) ≡ false → Form kind i latest w → Form kind i t w
+begun-form {kind} {i} {latest} {w} t n f =
+    record {
+      blank = f .blank;
+      read = f .read;
+      write = f .write;
+      commit = λ e. idle-not w WantCommit n refl e;
+      called = f .called;
+      pending = f .pending;
+      owed = f .owed;
+      busy = f .busy;
+    }
+
+-- entries that join have no callback out
+module _ (kind : ℕ → ℕ) (i latest : ℕ) (s : Server) where
+  read-form : (a : ℕ) → a < 256 → Form kind i latest (readWaiter s a)
+  read-form a l =
+      record {
+        blank = λ e. absurd (false≢true (sym e));
+        read = λ e. record { in-range = l; asked-for = λ b. refl; nothing-else = λ b. refl };
+        write = λ e. let z : _≡_ {A = ℕ} 0 1 = cc in absurd (omega arith);
+        commit = λ e. let z : _≡_ {A = ℕ} 0 1 = cc in absurd (omega arith);
+        called = λ e. absurd (false≢true e);
+        pending = λ j e. absurd (false≢true e);
+        owed = λ j e. absurd (false≢true e);
+        busy = λ j e. absurd (false≢true e);
+      }
+
+  write-form : (a : ℕ) → a < 256 → Form kind i latest (writeWaiter s a)
+  write-form a l =
+      record {
+        blank = λ e. absurd (false≢true (sym e));
+        read = λ e. let z : _≡_ {A = ℕ} 0 1 = cc in absurd (omega arith);
+        write = λ e. record { in-range = l; asked-for = λ b. refl; nothing-else = λ b. refl };
+        commit = λ e. let z : _≡_ {A = ℕ} 0 1 = cc in absurd (omega arith);
+        called = λ e. absurd (false≢true e);
+        pending = λ j e. absurd (false≢true e);
+        owed = λ j e. absurd (false≢true e);
+        busy = λ j e. absurd (false≢true e);
+      }
+
+  commit-form : (w : Work) → w .transaction ≡ latest → Form kind i latest (commitWaiter s w)
+  commit-form w q =
+      record {
+        blank = λ e. absurd (false≢true (sym e));
+        read = λ e. let z : _≡_ {A = ℕ} 0 1 = cc in absurd (omega arith);
+        write = λ e. let z : _≡_ {A = ℕ} 0 1 = cc in absurd (omega arith);
+        commit = λ e. record { req-is = refl; latest-is = q };
+        called = λ e. absurd (false≢true e);
+        pending = λ j e. absurd (false≢true e);
+        owed = λ j e. absurd (false≢true e);
+        busy = λ j e. absurd (false≢true e);
+      }
+
+-- calls and their answers
+module _ {kind : ℕ → ℕ} {i latest : ℕ} {w : Waiter} (f : Form kind i latest w) where
+  -- "send 20"
+  called-form : (set : ℕ → Bool) → calls (w .want) ≡ true → ((j : ℕ) → set j ≡ true → Owes kind i j) → ((j : ℕ) → w .busy j ≡ true → ⊥) → Form kind i latest (waiterPend (waiterCalled w true) set)
+  called-form set c o n =
+      record {
+        blank = f .blank;
+        read = f .read;
+        write = f .write;
+        commit = f .commit;
+        called = λ e. c;
+        pending = λ j e. refl;
+        owed = o;
+        busy = λ j e. absurd (n j e);
+      }
+
+  -- 6 of a station that owes a 7
+  busied-form : (j : ℕ) → w .pend j ≡ true → Form kind i latest (waiterBusy w (upd (w .busy) j true))
+  busied-form j p =
+      record {
+        blank = f .blank;
+        read = f .read;
+        write = f .write;
+        commit = f .commit;
+        called = f .called;
+        pending = f .pending;
+        owed = f .owed;
+        busy = λ k e. byEq k j (λ q. rw (eqb-yes k j q) p) (λ q. f .busy k (rw q at e));
+      }
+
+  -- 7: it owes no more
+  answered-form : (j : ℕ) → Form kind i latest (waiterPend (waiterBusy w (upd (w .busy) j false)) (upd (w .pend) j false))
+  answered-form j =
+      record {
+        blank = f .blank;
+        read = f .read;
+        write = f .write;
+        commit = f .commit;
+        called = f .called;
+        pending = λ k e. f .pending k (was k e);
+        owed = λ k e. f .owed k (was k e);
+        busy = λ k e. byEq k j (λ q. absurd (false≢true (rw q at e))) (λ q. rw q (f .busy k (rw q at e)));
+      }
+    where
+      was : (k : ℕ) → upd (w .pend) j false k ≡ true → w .pend k ≡ true
+      was k e = byEq k j (λ q. absurd (false≢true (rw q at e))) (λ q. rw q at e)
+
+-- THE WAITING LIST
+
+module _ {kind : ℕ → ℕ} {latest : ℕ → ℕ} {fin : ℕ → Bool} {queue : ℕ → Waiter} (l : Forms kind latest fin queue) where
+  begun-forms : (i t : ℕ) → t ≢ 0 → isWant (queue i .want) ≡ false → Forms kind (upd latest i t) (upd fin i false) queue
+  begun-forms i t n idle =
+      record {
+        kinds = l .kinds;
+        named = λ j b e. byEq j i (λ q. rw q n) (λ q. rw q (l .named j b (rw q at e)));
+        form = λ j b. byEq j i (λ q. rw q (begun-form t (rw (eqb-yes j i q) idle) (l .form j b))) (λ q. rw q (l .form j b));
+      }
+
+  ended-forms : (i : ℕ) → Forms kind latest (upd fin i true) queue
+  ended-forms i =
+      record {
+        kinds = l .kinds;
+        named = λ j b e. byEq j i (λ q. absurd (false≢true (sym (rw q at e)))) (λ q. l .named j b (rw q at e));
+        form = l .form;
+      }
+
+  -- one entry more, less, or changed
+  changed-forms : (i : ℕ) (w : Waiter) → (i < 8 → Form kind i (latest i) w) → Forms kind latest fin (upd queue i w)
+  changed-forms i w f =
+      record {
+        kinds = l .kinds;
+        named = l .named;
+        form = λ j b. byEq j i (λ q. rw (q, eqb-yes j i q) (f (rw (eqb-yes j i q) at b))) (λ q. rw q (l .form j b));
+      }
+
+  left-forms : (i : ℕ) → Forms kind latest fin (upd queue i noWaiter)
+  left-forms i = changed-forms i noWaiter (λ b. no-form kind i (latest i))
+
+-- PARTS OF THE ACTIONS
+
+-- one message more
+more : (kind : ℕ → ℕ) (l : List Sent) (j : ℕ) (m : Down) → All (SentFits kind) l → j < 8 → DownNames j m → takenBy (kind j) m ≡ true → All (SentFits kind) (l ++ (To j m ∷ []))
+more kind l j m h b n k = all-append (SentFits kind) l (To j m ∷ []) h ((b, record { names = n; kind-fits = k }), tt)
+
+-- a step under way
+pub record FitIn (x : Serving) : Type 0 where
+  pub apart : ApartIn x
+  pub forms : FormsIn x
+  pub sent : SentIn x
+
+module _ (i : ℕ) (x : Serving) where
+  notice-forms : (t : ℕ) → t ≢ 0 → waits (x .server) i ≡ false → FormsIn x → FormsIn (notice i t x)
+  unfolding notice
+  notice-forms t n idle h = if-keeps FormsIn (eqb t (x .server .latest i)) (λ e. h) (λ e. begun-forms h i t n idle)
+
+  notice-sent : (t : ℕ) → SentIn x → SentIn (notice i t x)
+  unfolding notice
+  notice-sent t h = if-keeps SentIn (eqb t (x .server .latest i)) (λ e. h) (λ e. h)
+
+  noticed-latest : (t : ℕ) → (notice i t x) .server .latest i ≡ t
+  unfolding notice
+  noticed-latest t = byEq t (x .server .latest i) (λ q. rw q (sym (eqb-yes t (x .server .latest i) q))) (λ q. rw (q, eqb-same i) refl)
+
+  finish-forms : FormsIn x → FormsIn (finish i x)
+  unfolding finish
+  finish-forms h = ended-forms h i
+
+  leave-forms : FormsIn x → FormsIn (leave i x)
+  unfolding leave
+  leave-forms h = left-forms h i
+
+-- 22
+module _ (i c : ℕ) (x : Serving) where
+  abort-forms : FormsIn x → FormsIn (abort i c x)
+  unfolding abort
+  abort-forms h = finish-forms i (leave i x) (leave-forms i x h)
+
+  abort-sent : i < 8 → x .server .latest i ≢ 0 → SentIn x → SentIn (abort i c x)
+  unfolding abort finish leave
+  abort-sent b n h = more (x .server .kind) (x .sent) i _ h b n refl
+
+-- 23
+inform-forms : (i : ℕ) (w : Work) (j : ℕ) (x : Serving) → FormsIn x → FormsIn (inform i w j x)
+unfolding inform
+inform-forms i w j x h = if-keeps FormsIn (informed (x .server) i w j) (λ e. h) (λ e. h)
+
+inform-sent : (i : ℕ) (w : Work) (j : ℕ) (x : Serving) → j < 8 → SentIn x → SentIn (inform i w j x)
+unfolding inform
+inform-sent i w j x b h =
+    if-keeps SentIn (informed (x .server) i w j)
+    (λ e. more (x .server .kind) (x .sent) j _ h b tt (and-r (not (eqb j i)) _ (and-l _ (any 32 (λ p. wrotePage w p && x .server .listed j p)) e)))
+    (λ e. h)
+
+informs-forms : (n j i : ℕ) (w : Work) (x : Serving) → FormsIn x → FormsIn (informFrom n j i w x)
+unfolding informFrom
+informs-forms zero j i w x h = h
+informs-forms (suc n) j i w x h = informs-forms n (suc j) i w (inform i w j x) (inform-forms i w j x h)
+
+informs-sent : (n j i : ℕ) (w : Work) (x : Serving) → j + n ≤ 8 → SentIn x → SentIn (informFrom n j i w x)
+unfolding informFrom
+informs-sent zero j i w x b h = h
+informs-sent (suc n) j i w x b h = informs-sent n (suc j) i w (inform i w j x) (omega arith) (inform-sent i w j x (omega arith) h)
+
+-- 21, and 23
+module _ (i : ℕ) (w : Work) (x : Serving) where
+  install-forms : FormsIn x → FormsIn (install i w x)
+  unfolding install archive write
+  install-forms h = informs-forms 8 0 i w _ (finish-forms i (archive i w (write w (leave i x))) (leave-forms i x h))
+
+  install-sent : i < 8 → w .transaction ≢ 0 → SentIn x → SentIn (install i w x)
+  unfolding install archive write finish leave
+  install-sent b n h = informs-sent 8 0 i w _ (omega arith) (more (x .server .kind) (x .sent) i _ h b n refl)
+
+-- 20
+concerned-owes : (s : Server) (i j : ℕ) → concerned s i j ≡ true → Owes (s .kind) i j
+concerned-owes s i j e =
+    let three = and-l (not (eqb j i) && ltb j 8 && locking (s .kind j)) _ e in
+    let two = and-l (not (eqb j i) && ltb j 8) _ three in
+    record { station = ltb-true j 8 (and-r (not (eqb j i)) _ two); another = not-yes (eqb j i) (and-l (not (eqb j i)) _ two); locks = and-r (not (eqb j i) && ltb j 8) _ three }
+
+calls-fit : (n j : ℕ) (s : Server) (i : ℕ) → s .latest i ≢ 0 → All (SentFits (s .kind)) (callsFrom n j s i)
+calls-fit zero j s i l = tt
+calls-fit (suc n) j s i l =
+    let rest : All (SentFits (s .kind)) (callsFrom n (suc j) s i) = calls-fit n (suc j) s i l in
+    byB (concerned s i j)
+    (λ e. let o = concerned-owes s i j e in rw e ((o .station, record { names = (o .another, l); kind-fits = o .locks }), rest))
+    (λ e. rw e rest)
+
+-- THE PASS
+
+module _ (i : ℕ) (x : Serving) (b : i < 8) (h : FitIn x) where
+  -- whoever waits has a transaction
+  waits-named : waits (x .server) i ≡ true → x .server .latest i ≢ 0
+  waits-named t = h .forms .named i b (h .apart .waiting .entry i b .waits-open t)
+
+  request-in : x .server .queue i .want ≡ WantWrite → x .server .queue i .req < 256
+  request-in w = h .forms .form i b .write w .in-range
+
+  -- a waiter that has not called is owed nothing
+  uncalled : x .server .queue i .called ≡ false → (j : ℕ) → x .server .queue i .busy j ≡ true → ⊥
+  uncalled c j e = let f = h .forms .form i b in false≢true (sym c ∙ f .pending j (f .busy j e))
+
+-- who waits, and not to read, calls
+calls-want : (v : Want) → isWant v ≡ true → (v ≡ WantRead → ⊥) → calls v ≡ true
+calls-want NoWant t n = t
+calls-want WantRead t n = absurd (n refl)
+calls-want WantWrite t n = refl
+calls-want WantCommit t n = refl
+
+pub atomic-fit : Atomic FitIn
+unfolding ask serveRead sendPage leave call grantObject grantPage installWaiter
+atomic-fit =
+    record {
+      aborts = λ i c x b t k.
+          record { apart = atomic-apart .aborts i c x b t (k .apart); forms = abort-forms i c x (k .forms); sent = abort-sent i c x b (waits-named i x b k t) (k .sent) };
+      asks = λ i h p x b t u k.
+          let o = k .apart .locks .whole-open h p (t .held) in
+          record {
+            apart = atomic-apart .asks i h p x b t u (k .apart);
+            forms = k .forms;
+            sent = more (x .server .kind) (x .sent) h _ (k .sent) (o .station) (b, k .forms .named h (o .station) (o .unfinished)) (o .locks);
+          };
+      reads = λ i x b w c k.
+          record {
+            apart = atomic-apart .reads i x b w c (k .apart);
+            forms = left-forms (k .forms) i;
+            sent = more (x .server .kind) (x .sent) i _ (k .sent) b (k .forms .form i b .read w .in-range, waits-named i x b k (ap isWant w)) refl;
+          };
+      calls = λ i x b t u w c k.
+          record {
+            apart = atomic-apart .calls i x b t u w c (k .apart);
+            forms = changed-forms (k .forms) i _ (λ _. called-form (k .forms .form i b) (concerned (x .server) i) (calls-want _ t w) (concerned-owes (x .server) i) (uncalled i x b k u));
+            sent = all-append (SentFits (x .server .kind)) (x .sent) (callsFrom 8 0 (x .server) i) (k .sent) (calls-fit 8 0 (x .server) i (waits-named i x b k t));
+          };
+      objects = λ i x b w r k.
+          record {
+            apart = atomic-apart .objects i x b w r (k .apart);
+            forms = left-forms (k .forms) i;
+            sent = more (x .server .kind) (x .sent) i _ (k .sent) b (request-in i x b k w, waits-named i x b k (ap isWant w)) (k .apart .waiting .entry i b .writes-lock w);
+          };
+      pages = λ i x b w r e k.
+          record {
+            apart = atomic-apart .pages i x b w r e (k .apart);
+            forms = left-forms (k .forms) i;
+            sent = more (x .server .kind) (x .sent) i _ (k .sent) b (request-in i x b k w, waits-named i x b k (ap isWant w)) (k .apart .waiting .entry i b .writes-lock w);
+          };
+      installs = λ i x b w f r k.
+          let v = x .server .queue i .work in
+          let n : v .transaction ≢ 0 = λ z. waits-named i x b k (ap isWant w) (sym (k .forms .form i b .commit w .latest-is) ∙ z) in
+          record { apart = atomic-apart .installs i x b w f r (k .apart); forms = install-forms i v x (k .forms); sent = install-sent i v x b n (k .sent) };
+    }
+
+-- ACCEPT
+
+-- a station's transaction is noticed, and its entry is still empty
+module _ (i t : ℕ) (x : Serving) (n : t ≢ 0) (u : badNumber (x .server) i t ≡ false) (h : FitIn x) where
+  noticed-forms : FormsIn (notice i t x)
+  noticed-forms = notice-forms i x t n (good-number (x .server) i t u .idle) (h .forms)
+
+  noticed-named : (notice i t x) .server .latest i ≢ 0
+  noticed-named z = n (sym (noticed-latest i x t) ∙ z)
+
+join-forms : (i : ℕ) (w : Waiter) (x : Serving) → Form (x .server .kind) i (x .server .latest i) w → FormsIn x → FormsIn (join i w x)
+unfolding join
+join-forms i w x f h = changed-forms h i w (λ b. f)
+
+commitNow-forms : (i : ℕ) (w : Work) (x : Serving) → FormsIn x → FormsIn (commitNow i w x)
+unfolding commitNow
+commitNow-forms i w x h = if-keeps FormsIn (eqb (x .server .last) lastNumber) (λ e. abort-forms i 4 x h) (λ e. install-forms i w x h)
+
+commitNow-sent : (i : ℕ) (w : Work) (x : Serving) → i < 8 → x .server .latest i ≢ 0 → w .transaction ≢ 0 → SentIn x → SentIn (commitNow i w x)
+unfolding commitNow
+commitNow-sent i w x b n m h = if-keeps SentIn (eqb (x .server .last) lastNumber) (λ e. abort-sent i 4 x b n h) (λ e. install-sent i w x b m h)
+
+accept-forms : (i : ℕ) (m : Up) (x : Serving) → i < 8 → UpNames m → unexpected i m (x .server) ≡ false → FitIn x → FormsIn (accept i m x)
+unfolding accept joinRead joinWrite joinCommit serveNow sendPage unlist markBusy answered loosen
+accept-forms i (ReadRequest a t) x b n u h =
+    let y : Serving = notice i t x in
+    let g : FormsIn y = noticed-forms i t x (n .1) u h in
+    if-keeps FormsIn (locking (x .server .kind i)) (λ e. join-forms i _ y (read-form (y .server .kind) i (y .server .latest i) (y .server) a (n .0)) g) (λ e. g)
+accept-forms i (WriteRequest a t) x b n u h =
+    let y : Serving = notice i t x in
+    join-forms i _ y (write-form (y .server .kind) i (y .server .latest i) (y .server) a (n .0)) (noticed-forms i t x (n .1) (or-l (badNumber (x .server) i t) _ u) h)
+accept-forms i (Commit w) x b n u h =
+    let t : ℕ = w .transaction in
+    let y : Serving = notice i t x in
+    let g : FormsIn y = noticed-forms i t x n (or-l (badNumber (x .server) i t) _ u) h in
+    if-keeps FormsIn (locking (x .server .kind i)) (λ e. commitNow-forms i w y g)
+    (λ e. join-forms i _ y (commit-form (y .server .kind) i (y .server .latest i) (y .server) w (sym (noticed-latest i x t))) g)
+accept-forms i (Abort t) x b n u h = finish-forms i (notice i t x) (noticed-forms i t x n (or-l (badNumber (x .server) i t) _ u) h)
+accept-forms i (Purge p) x b n u h = h .forms
+accept-forms i (Busy r t) x b n u h =
+    if-keeps FormsIn (openCall (x .server) i r t)
+    (λ e. changed-forms (h .forms) r _ (λ l. busied-form (h .forms .form r l) i (and-r (waits (x .server) r && eqb t (x .server .latest r)) _ e)))
+    (λ e. h .forms)
+accept-forms i (Done r t d) x b n u h =
+    if-keeps FormsIn (openCall (x .server) i r t) (λ e. changed-forms (h .forms) r _ (λ l. answered-form (h .forms .form r l) i)) (λ e. h .forms)
+accept-forms i (WrittenSet p t set) x b n u h = if-keeps FormsIn (openAsk (x .server) i p t) (λ e. h .forms) (λ e. h .forms)
+
+accept-sent : (i : ℕ) (m : Up) (x : Serving) → i < 8 → UpNames m → SentIn x → SentIn (accept i m x)
+unfolding accept joinRead joinWrite joinCommit join serveNow sendPage finish unlist markBusy answered loosen
+accept-sent i (ReadRequest a t) x b n h =
+    let y : Serving = notice i t x in
+    let g : SentIn y = notice-sent i x t h in
+    if-keeps SentIn (locking (x .server .kind i)) (λ e. g)
+    (λ e. more (y .server .kind) (y .sent) i _ g b (n .0, λ z. n .1 (sym (noticed-latest i x t) ∙ z)) refl)
+accept-sent i (WriteRequest a t) x b n h = notice-sent i x t h
+accept-sent i (Commit w) x b n h =
+    let t : ℕ = w .transaction in
+    let g : SentIn (notice i t x) = notice-sent i x t h in
+    if-keeps SentIn (locking (x .server .kind i)) (λ e. commitNow-sent i w (notice i t x) b (λ z. n (sym (noticed-latest i x t) ∙ z)) n g) (λ e. g)
+accept-sent i (Abort t) x b n h = notice-sent i x t h
+accept-sent i (Purge p) x b n h = h
+accept-sent i (Busy r t) x b n h = if-keeps SentIn (openCall (x .server) i r t) (λ e. h) (λ e. h)
+accept-sent i (Done r t d) x b n h = if-keeps SentIn (openCall (x .server) i r t) (λ e. h) (λ e. h)
+accept-sent i (WrittenSet p t set) x b n h = if-keeps SentIn (openAsk (x .server) i p t) (λ e. h) (λ e. h)
+
+pub accept-fit : (i : ℕ) (m : Up) (x : Serving) → i < 8 → UpNames m → unexpected i m (x .server) ≡ false → FitIn x → FitIn (accept i m x)
+accept-fit i m x b n u h =
+    record { apart = accept-apart i m x b u (h .apart); forms = accept-forms i m x b n u h; sent = accept-sent i m x b n (h .sent) }
+
+-- THE STEP
+
+module _ (i : ℕ) (m : Up) (s : Server) (b : i < 8) (n : UpNames m) (u : unexpected i m s ≡ false) (h : Fit s) where
+  step-all : FitIn (serverStep i m s)
+  step-all = step-keeps FitIn atomic-fit i m s (accept-fit i m (start s) b n u (record { apart = h .apart; forms = h .forms; sent = tt }))
+
+  -- the state left is taken again
+  pub step-fit : Fit ((serverStep i m s) .server)
+  step-fit = record { apart = step-all .apart; forms = step-all .forms }
+
+  -- what is sent fits
+  pub step-sends : All (SentFits ((serverStep i m s) .server .kind)) ((serverStep i m s) .sent)
+  step-sends = step-all .sent
+
+pub fit-fresh : (k : ℕ → ℕ) → ((i : ℕ) → k i ≤ 1) → Fit (freshServer k)
+fit-fresh k small =
+    record {
+      apart = apart-fresh k;
+      forms = record { kinds = small; named = λ i b e. absurd (false≢true (sym e)); form = λ i b. no-form k i 0 };
+    }
