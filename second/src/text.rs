@@ -38,16 +38,16 @@ pub fn ending(outcome: Result<(), Refusal>, last: u32) -> String {
 }
 
 fn push_line(text: &mut Vec<u8>, header: &Header) {
-    push_number(text, header.commit, b' ');
-    push_number(text, header.station, b' ');
-    push_number(text, header.transaction, b' ');
-    push_number(text, header.reads, b' ');
-    push_number(text, header.writes, b'\n');
+    push_number(text, header.commit.into(), b' ');
+    push_number(text, header.station.into(), b' ');
+    push_number(text, header.transaction.into(), b' ');
+    push_number(text, header.reads.into(), b' ');
+    push_number(text, header.writes.into(), b'\n');
 }
 
 /// A number in decimal. By hand: `write!` would take most of a long archive's time.
-fn push_number(text: &mut Vec<u8>, mut number: u32, end: u8) {
-    let mut digits = [end; 11];
+pub fn push_number(text: &mut Vec<u8>, mut number: u64, end: u8) {
+    let mut digits = [end; 21];
     let mut at = digits.len() - 1;
     loop {
         at -= 1;

@@ -48,23 +48,8 @@ impl Rows {
                 true => b'\n',
                 false => self.between,
             };
-            self.number(*number, end);
+            text::push_number(&mut self.text, *number, end);
         }
-    }
-
-    /// By hand: `write!` would take most of a long archive's time.
-    fn number(&mut self, mut number: u64, end: u8) {
-        let mut digits = [end; 21];
-        let mut at = digits.len() - 1;
-        loop {
-            at -= 1;
-            digits[at] = b'0' + (number % 10) as u8;
-            number /= 10;
-            if number == 0 {
-                break;
-            }
-        }
-        self.text.extend_from_slice(&digits[at..]);
     }
 
     fn between(&self) -> String {
