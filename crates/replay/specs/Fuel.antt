@@ -8,6 +8,7 @@ use borrow.Author.Tests.{le-ltb, eq-eqb, ne-eqb, eqb-true}
 use lib.ListN.{length, take, drop, length-drop}
 use lib.Dec.{eqb}
 use Rattle.lists.specs.Stores.{to-the-end}
+use Rattle.layout.specs.Record.{headerLength}
 use Rattle.record.specs.Check.{commitNumber, lengthOf, claimedLength, checkOf}
 use Rattle.record.specs.Facts.{accepted}
 use Rattle.archive.specs.declared.Fields.{Fields}
@@ -35,7 +36,7 @@ replay-read s at last v f h = on-answer (readOf s at last) h
 -- it ends behind its start and within the archive
 pub record Onwards (s : List ℕ) (at : ℕ) (f : Fields) : Type 0 where
   pub starts : at < length s
-  pub moves : at + 16 ≤ f .end
+  pub moves : at + headerLength ≤ f .end
   pub within : f .end ≤ length s
 
 pub onwards : (s : List ℕ) (at last : ℕ) (f : Fields) → readOf s at last ≡ Record f → Onwards s at f
@@ -165,7 +166,7 @@ refused-part s at last v w l k inside n e =
 
 -- an accepted record leaves the play from its end on
 pub record Resumed (s : List ℕ) (at last : ℕ) (v w : List ℕ) (l n : ℕ) : Type 0 where
-  pub moves : 16 ≤ n
+  pub moves : headerLength ≤ n
   pub within : at + n ≤ length s
   pub rest : playFrom (suc (length s) - at) s at last v ≡ playFrom (suc (length s) - (at + n)) s (at + n) l w
 
@@ -179,7 +180,7 @@ accepted-part s at last v w l k n inside z e en =
     let there = a .header-there in
     let all = a .all-there in
     let d = length-drop at s in
-    let is : n ≡ lengthOf (drop at s) = rw (to-the-end, le-ltb (length (drop at s)) 16 there) at en in
+    let is : n ≡ lengthOf (drop at s) = rw (to-the-end, le-ltb (length (drop at s)) headerLength there) at en in
     record {
       moves = omega arith;
       within = omega arith;

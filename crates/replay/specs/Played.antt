@@ -32,7 +32,7 @@ onward next last v End = played v last 0
 onward next last v (Refused k) = played v last k
 
 -- the archive from `at` on, record by record, to its end (number 0) or the first record refused. Each record takes a turn
--- and at least 16 bytes, so one turn more than there are bytes suffices (`enough` in Fuel).
+-- and at least a header's bytes, so one turn more than there are bytes suffices (`enough` in Fuel).
 unfoldable pub playFrom : ℕ → List ℕ → ℕ → ℕ → List ℕ → Played
 playFrom zero s at last v = played v last 12
 playFrom (suc turns) s at last v = onward (playFrom turns s) last (replayOf s at last v .values) (replayOf s at last v .answer)

@@ -6,17 +6,24 @@ use lib.ListN.{drop, getD, set}
 use lib.Dec.{eqb}
 use Rattle.lists.specs.Tests.{allTo}
 use Rattle.le.specs.Le.{u64At}
+use Rattle.layout.specs.Record.{headerLength, valueLength}
 use Rattle.record.specs.Check.{readCount, writeCount}
 use Rattle.archive.specs.Read.{readOf}
 use Rattle.archive.specs.declared.Answer.{Answer}
 use Rattle.archive.specs.declared.Answer.the-variants.{Record, End, Refused}
 
--- address and value of entry i of the record at the start of t, n reads and m writes
+-- where address and value of entry i stand in a record of k entries, and what stands there in the record at the start of t
+abbrev pub addressFrom : ℕ → ℕ
+addressFrom i = headerLength + i
+
 abbrev pub addressAt : List ℕ → ℕ → ℕ
-addressAt t i = getD t (16 + i) 0
+addressAt t i = getD t (addressFrom i) 0
+
+abbrev pub valueFrom : ℕ → ℕ → ℕ
+valueFrom k i = headerLength + k + valueLength * i
 
 abbrev pub valueAt : List ℕ → ℕ → ℕ → ℕ
-valueAt t k i = u64At t (16 + k + 8 * i)
+valueAt t k i = u64At t (valueFrom k i)
 
 -- read i of a record of k entries is the value there
 unfoldable pub readAgrees : List ℕ → List ℕ → ℕ → ℕ → Bool

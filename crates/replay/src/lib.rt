@@ -2,6 +2,7 @@
 ghost use mathlib.Core.Path.{_≡_};
 ghost use Prim.Native.Nat.{_+_, _*_, _≤_, _<_};
 ghost use lib.ListN.{length, set};
+ghost use Rattle.layout.specs.Record.{headerLength, entryLength};
 ghost use Rattle.record.specs.Check.{lengthOf, readCount, writeCount};
 ghost use Rattle.replay.specs.Played.{played, recordPlayed, archivePlayed};
 ghost use Rattle.replay.specs.Replay.{addressAt, valueAt, readAgrees, readsAgree, storedTo, stored, replayed, onAnswer, replayOf};
@@ -16,19 +17,19 @@ fn place(x: u8) -> usize
 
 // Whether read i of a record of k entries is the value there.
 fn read_agrees(t: &[u8], values: &[u64; 256], k: usize, i: usize) -> bool
-    requires { ⌜ (i < k) × (16 + 9 * k ≤ length (now t)) ⌝ }
+    requires { ⌜ (i < k) × (headerLength + entryLength * k ≤ length (now t)) ⌝ }
     ensures { λ r. ⌜ r ≡ readAgrees (now (t .entry)) (now (values .entry)) k i ⌝ }
 {
-    values[place(t[16 + i])] == le::get_u64(t, 16 + k + 8 * i)
+    values[place(t[record::HEADER + i])] == le::get_u64(t, record::HEADER + k + record::VALUE * i)
 }
 
 // Whether every read of the record at the start of `t` is the value there. No test leaves the loop early.
 fn reads_agree(t: &[u8], values: &[u64; 256]) -> bool
-    requires { ⌜ (16 ≤ length (now t)) × (lengthOf (now t) ≤ length (now t)) ⌝ }
+    requires { ⌜ (headerLength ≤ length (now t)) × (lengthOf (now t) ≤ length (now t)) ⌝ }
     ensures { λ r. ⌜ r ≡ readsAgree (now (t .entry)) (now (values .entry)) ⌝ }
 {
-    let n = le::index(le::get_u16(t, 0));
-    let k = n + le::index(le::get_u16(t, 2));
+    let n = le::index(le::get_u16(t, record::READS));
+    let k = n + le::index(le::get_u16(t, record::WRITES));
     let mut ok = true;
     let mut i = 0;
     while i < n {
@@ -40,20 +41,20 @@ fn reads_agree(t: &[u8], values: &[u64; 256]) -> bool
 
 // Stores entry i of a record of k entries.
 fn store_entry(t: &[u8], values: &mut [u64; 256], k: usize, i: usize)
-    requires { ⌜ (i < k) × (16 + 9 * k ≤ length (now t)) ⌝ }
+    requires { ⌜ (i < k) × (headerLength + entryLength * k ≤ length (now t)) ⌝ }
     ensures { λ _. ⌜ now (values .exit) ≡ set (now (values .entry)) (addressAt (now (t .entry)) i) (valueAt (now (t .entry)) k i) ⌝ }
 {
-    let a = place(t[16 + i]);
-    values[a] = le::get_u64(t, 16 + k + 8 * i);
+    let a = place(t[record::HEADER + i]);
+    values[a] = le::get_u64(t, record::HEADER + k + record::VALUE * i);
 }
 
 // Stores the writes of the record at the start of `t`.
 fn store_writes(t: &[u8], values: &mut [u64; 256])
-    requires { ⌜ (16 ≤ length (now t)) × (lengthOf (now t) ≤ length (now t)) ⌝ }
+    requires { ⌜ (headerLength ≤ length (now t)) × (lengthOf (now t) ≤ length (now t)) ⌝ }
     ensures { λ _. ⌜ now (values .exit) ≡ stored (now (t .entry)) (now (values .entry)) ⌝ }
 {
-    let n = le::index(le::get_u16(t, 0));
-    let m = le::index(le::get_u16(t, 2));
+    let n = le::index(le::get_u16(t, record::READS));
+    let m = le::index(le::get_u16(t, record::WRITES));
     let k = n + m;
     let mut c = 0;
     while c < m {
@@ -64,7 +65,7 @@ fn store_writes(t: &[u8], values: &mut [u64; 256])
 
 // Plays the record at the start of `part`, whose fields the reader gave: 14 where a read differs from the value there.
 fn play(part: &[u8], f: Fields, values: &mut [u64; 256]) -> Answer
-    requires { ⌜ (16 ≤ length (now part)) × (lengthOf (now part) ≤ length (now part)) ⌝ }
+    requires { ⌜ (headerLength ≤ length (now part)) × (lengthOf (now part) ≤ length (now part)) ⌝ }
     ensures { λ r. ⌜ replayed (now (values .exit)) r ≡ onAnswer (now (part .entry)) (now (values .entry)) (Answer.Record f) ⌝ }
 {
     if !reads_agree(part, values) {

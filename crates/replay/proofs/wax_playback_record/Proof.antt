@@ -45,7 +45,7 @@ use denote.Exit.{yes}
 use Rattle.replay.specs.Played.{played, recordPlayed}
 use Rattle.replay.specs.declared.Playback.{Playback}
 use Rattle.replay.proofs.Playback as T
-use Rattle.replay.proofs.Apart.{valuesAt, lastAt, playbackAt, Back, apart, together}
+use Rattle.replay.proofs.Apart.{lastFrom, valuesAt, lastAt, playbackAt, Back, apart, together}
 use Rattle.replay.proofs.play_record as core
 use Rattle.replay.proofs.play_record.Symbol as core-def
 use Rattle.replay.proofs.play_record.Symbol.{name as #core}
@@ -89,13 +89,13 @@ module _ {M : Type 1} (𝓤 : URA M) (H : Heap 𝓤) (A : Atoms 𝓤) (W : Given
 
   -- the fields, lent under the name δ
   abbrev lastRef : GName → RefT ℕ
-  lastRef δ = record { ptr = (b, o + 2048); name = δ; now = h .last }
+  lastRef δ = record { ptr = (b, o + lastFrom); name = δ; now = h .last }
 
   abbrev valuesRef : GName → RefT (List ℕ)
   valuesRef δ = record { ptr = (b, o + 0); name = δ; now = h .values }
 
   abbrev lastOwn : ℕ → GName → Fml
-  lastOwn ν δ = MutRef (named 1) (ν ∷ []) u32 .own (lastRef δ) (vptr b (o + 2048) ∷ [])
+  lastOwn ν δ = MutRef (named 1) (ν ∷ []) u32 .own (lastRef δ) (vptr b (o + lastFrom) ∷ [])
 
   abbrev valuesOwn : ℕ → GName → Fml
   valuesOwn ν δ = MutRef (named 2) (ν ∷ []) Values .own (valuesRef δ) (vptr b (o + 0) ∷ [])
@@ -111,7 +111,7 @@ module _ {M : Type 1} (𝓤 : URA M) (H : Heap 𝓤) (A : Atoms 𝓤) (W : Given
 
   -- what `play_record`'s triple binds outside: the number lent for the lifetime ν₁, under the name δ₁, and the list for ν₂, under δ₂
   abbrev to-core : ℕ → ℕ → GName → GName → Core 𝓤 H A at-mem run .Ghost
-  to-core ν₁ ν₂ δ₁ δ₂ = (((κ′, (ν₁ ∷ [], (ν₂ ∷ [], tt))), (q′, (fullShare, (fullShare, tt))), tt, passed δ₁ δ₂, (s ∷ [], (vptr b (o + 2048) ∷ [], (vptr b (o + 0) ∷ [], tt)))), tt)
+  to-core ν₁ ν₂ δ₁ δ₂ = (((κ′, (ν₁ ∷ [], (ν₂ ∷ [], tt))), (q′, (fullShare, (fullShare, tt))), tt, passed δ₁ δ₂, (s ∷ [], (vptr b (o + lastFrom) ∷ [], (vptr b (o + 0) ∷ [], tt)))), tt)
 
   goes : (ν₁ ν₂ : ℕ) (δ₁ δ₂ : GName) → ent 𝓤 (⋆ 𝓤 H A (‵ (flft κ′ q′) ∷ ‵ (flft (ν₁ ∷ []) fullShare) ∷ ‵ (flft (ν₂ ∷ []) fullShare) ∷ ‵ recOwn ∷ ‵ (lastOwn ν₁ δ₁) ∷ ‵ (valuesOwn ν₂ δ₂) ∷ [])) (Core 𝓤 H A at-mem run .pre (to-core ν₁ ν₂ δ₁ δ₂))
   goes ν₁ ν₂ δ₁ δ₂ =
@@ -146,7 +146,7 @@ module _ {M : Type 1} (𝓤 : URA M) (H : Heap 𝓤) (A : Atoms 𝓤) (W : Given
         -- [values; last; the way back; the open borrow; obs; auth; the slice's token; true; what record owns; _4; …; _3; …; _2; …; _1; …; room for _0; …]: each field is lent, for a lifetime of the call
         lft-new ! tt (λ ν₁. lft-new ! tt (λ ν₂. move ! (2 ∷ []) $
         use1 W (later (some (λ (δ : GName). ‵ (valuesOwn ν₂ δ) ⊛ ‵ (flent (ν₂ ∷ []) (Body (mem Values) b (o + 0) δ))))) (lends-ref 𝓤 H A W Values (named 2) (ν₂ ∷ []) (h .values) b (o + 0)) $ await ! tt $ pick ! (λ δ₂. split ! $ move ! (4 ∷ []) $
-        use1 W (later (some (λ (δ : GName). ‵ (lastOwn ν₁ δ) ⊛ ‵ (flent (ν₁ ∷ []) (Body (mem u32) b (o + 2048) δ))))) (lends-ref 𝓤 H A W u32 (named 1) (ν₁ ∷ []) (h .last) b (o + 2048)) $ await ! tt $ pick ! (λ δ₁. split ! $
+        use1 W (later (some (λ (δ : GName). ‵ (lastOwn ν₁ δ) ⊛ ‵ (flent (ν₁ ∷ []) (Body (mem u32) b (o + lastFrom) δ))))) (lends-ref 𝓤 H A W u32 (named 1) (ν₁ ∷ []) (h .last) b (o + lastFrom)) $ await ! tt $ pick ! (λ δ₁. split ! $
         -- [last's reference; last's lender; values' reference; values' lender; ν₂'s token; ν₁'s; the way back; the open borrow; obs; auth; the slice's token; true; what record owns; _4; …]
         move ! (12 ∷ []) $ fsplit ! $ move ! (12 ∷ 7 ∷ 6 ∷ 0 ∷ 2 ∷ 4 ∷ []) $ group ! 6 $ use1 W (raw (Core 𝓤 H A at-mem run .pre (to-core ν₁ ν₂ δ₁ δ₂))) (goes ν₁ ν₂ δ₁ δ₂) $
         -- [what the callee asks; true; last's lender; values' lender; the way back; the open borrow; obs; auth; true; _4; …; _3; …; _2; …; _1; …; room for _0; …]
@@ -159,7 +159,7 @@ module _ {M : Type 1} (𝓤 : URA M) (H : Heap 𝓤) (A : Atoms 𝓤) (W : Given
         land ! (from ! (stop !)) (init ! 21 refl (uint-lawful 𝓤 H A W w32 .typed r _ is .0)) $
         -- the lifetimes are ended, and the fields come back at those values
         move ! (1 ∷ []) $ split ! $ move ! (1 ∷ []) $ split3 ! $
-        lft-end ! tt $ move ! (0 ∷ 9 ∷ 7 ∷ []) $ use3 W (later (‵ (lastAt b o (zs .1 .0)))) (ref-back 𝓤 H A W u32 (ν₁ ∷ []) δ₁ (zs .1 .0) b (o + 2048)) $ await ! tt $ move ! (1 ∷ []) $
+        lft-end ! tt $ move ! (0 ∷ 9 ∷ 7 ∷ []) $ use3 W (later (‵ (lastAt b o (zs .1 .0)))) (ref-back 𝓤 H A W u32 (ν₁ ∷ []) δ₁ (zs .1 .0) b (o + lastFrom)) $ await ! tt $ move ! (1 ∷ []) $
         lft-end ! tt $ move ! (0 ∷ 8 ∷ 5 ∷ []) $ use3 W (later (‵ (valuesAt b o (zs .1 .1 .0)))) (ref-back 𝓤 H A W Values (ν₂ ∷ []) δ₂ (zs .1 .1 .0) b (o + 0)) $ await ! tt $
         -- [values; last; true; the slice's token; the result; true; true; the way back; the open borrow; obs; auth; true; _4; …]: the struct is put together, and the borrow is closed
         move ! (0 ∷ 1 ∷ 7 ∷ []) $ use3 W (‵ (playbackAt b o (h′ (zs .1 .1 .0) (zs .1 .0)))) (together b o 𝓤 H A W (zs .1 .1 .0) (zs .1 .0)) $
