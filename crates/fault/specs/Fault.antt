@@ -4,8 +4,10 @@ use mathlib.Core.List.{List}
 use mathlib.Core.Bool.{Bool, not, cond}
 use lib.ListN.{length, getD}
 use lib.Dec.{eqb, ltb, leb}
+use Rattle.layout.specs.Record.{headerLength, mostEntries}
+use Rattle.record.specs.Check.{readCountFrom, writeCountFrom, commitNumberFrom, transactionNumberFrom, stationNumberFrom, stationKindFrom, zeroBytesFrom}
 use Rattle.record.specs.Check.{readCount, writeCount, commitNumber, transactionNumber, stationNumber, stationKind, lengthOf, riseAt, rises}
-use Rattle.replay.specs.Replay.{addressAt, valueAt, readAgrees, readsAgree}
+use Rattle.replay.specs.Replay.{addressAt, valueFrom, valueAt, readAgrees, readsAgree}
 use Rattle.fault.specs.First.{first}
 use Rattle.fault.specs.declared.Fault.{Fault}
 use Rattle.fault.specs.declared.Fault.the-variants.{Nothing, Cut, Header, Sizes, Reads, Writes, Transaction, Station, Kind, Zero, Order, Sequence, Read}
@@ -32,14 +34,14 @@ placeOf Nothing = 0
 placeOf (Cut present size) = present
 placeOf (Header present) = present
 placeOf (Sizes present size) = present
-placeOf (Reads n) = 0
-placeOf (Writes m) = 2
-placeOf Transaction = 8
-placeOf (Station s) = 12
-placeOf (Kind k) = 13
+placeOf (Reads n) = readCountFrom
+placeOf (Writes m) = writeCountFrom
+placeOf Transaction = transactionNumberFrom
+placeOf (Station s) = stationNumberFrom
+placeOf (Kind k) = stationKindFrom
 placeOf (Zero at is) = at
 placeOf (Order at before is) = at
-placeOf (Sequence commit last) = 4
+placeOf (Sequence commit last) = commitNumberFrom
 placeOf (Read at address is left) = at
 
 -- "Where a record has several faults, the one that comes first in this table is named"
@@ -53,15 +55,20 @@ unless ok f rest = cond ok rest f
 -- "257 reads", "257 writes", "transaction 0"
 unfoldable pub countFault : List ℕ → Fault
 countFault t =
-    unless (leb (readCount t) 256) (Reads (readCount t))
-    (unless (leb (writeCount t) 256) (Writes (writeCount t)) (unless (not (eqb (transactionNumber t) 0)) Transaction Nothing))
+    unless (leb (readCount t) mostEntries) (Reads (readCount t))
+    (unless (leb (writeCount t) mostEntries) (Writes (writeCount t)) (unless (not (eqb (transactionNumber t) 0)) Transaction Nothing))
+
+-- the second of a header's "two zero bytes"
+abbrev pub lastZeroFrom : ℕ
+lastZeroFrom = zeroBytesFrom + 1
 
 -- "station 9", "kind 2", "14 or 15, the first of them that is not 0"
 unfoldable pub byteFault : List ℕ → Fault
 byteFault t =
     unless (leb (stationNumber t) 7) (Station (stationNumber t))
     (unless (leb (stationKind t) 1) (Kind (stationKind t))
-    (unless (eqb (getD t 14 0) 0) (Zero 14 (getD t 14 0)) (unless (eqb (getD t 15 0) 0) (Zero 15 (getD t 15 0)) Nothing)))
+    (unless (eqb (getD t zeroBytesFrom 0) 0) (Zero zeroBytesFrom (getD t zeroBytesFrom 0))
+    (unless (eqb (getD t lastZeroFrom 0) 0) (Zero lastZeroFrom (getD t lastZeroFrom 0)) Nothing)))
 
 -- the address behind the one at a + i
 abbrev pub fall : List ℕ → ℕ → ℕ → Fault
@@ -73,7 +80,7 @@ orderFault t a n = unless (rises t a n) (fall t a (first (riseAt t a) (n - 1))) 
 
 -- "reads first"
 unfoldable pub addressFault : List ℕ → Fault
-addressFault t = orElse (orderFault t 16 (readCount t)) (orderFault t (16 + readCount t) (writeCount t))
+addressFault t = orElse (orderFault t headerLength (readCount t)) (orderFault t (headerLength + readCount t) (writeCount t))
 
 -- "commit 5 behind commit 2"
 unfoldable pub sequenceFault : List ℕ → ℕ → Fault
@@ -81,7 +88,7 @@ sequenceFault t last = unless (eqb (commitNumber t) (last + 1)) (Sequence (commi
 
 -- read i of a record of k entries, and the value left at its address
 abbrev pub differs : List ℕ → List ℕ → ℕ → ℕ → Fault
-differs t v k i = Read (16 + k + 8 * i) (addressAt t i) (valueAt t k i) (getD v (addressAt t i) 0)
+differs t v k i = Read (valueFrom k i) (addressAt t i) (valueAt t k i) (getD v (addressAt t i) 0)
 
 -- "the value of the first read that differs"
 unfoldable pub readFault : List ℕ → List ℕ → Fault
@@ -97,10 +104,10 @@ wholeFault t last v =
 -- "the archive ends here": in a record, or in what no record can be
 unfoldable pub cutFault : List ℕ → ℕ → Fault
 cutFault t size =
-    unless (leb (readCount t) 256) (Sizes (length t) size) (unless (leb (writeCount t) 256) (Sizes (length t) size) (Cut (length t) size))
+    unless (leb (readCount t) mostEntries) (Sizes (length t) size) (unless (leb (writeCount t) mostEntries) (Sizes (length t) size) (Cut (length t) size))
 
 -- before any other fault
 unfoldable pub faultOf : List ℕ → ℕ → List ℕ → Fault
 faultOf t last v =
-    cond (ltb (length t) 16) (Header (length t))
+    cond (ltb (length t) headerLength) (Header (length t))
     (cond (ltb (length t) (lengthOf t)) (cutFault t (lengthOf t)) (wholeFault t last v))

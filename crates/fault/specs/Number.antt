@@ -7,7 +7,8 @@ use lib.ListN.{length, drop, getD}
 use lib.Dec.{eqb, ltb, leb}
 use native.Mathlib.Omega.{arith}
 use borrow.Author.Tests.{le-ltb, ne-eqb, eqb-true}
-use Rattle.record.specs.Check.{readCount, writeCount, commitNumber, transactionNumber, stationNumber, stationKind, lengthOf, headOk, headAt, riseAt, rises, addressesRise, laidOut, checkOf}
+use Rattle.layout.specs.Record.{headerLength, mostEntries}
+use Rattle.record.specs.Check.{zeroBytesFrom, readCount, writeCount, commitNumber, transactionNumber, stationNumber, stationKind, lengthOf, headOk, headAt, riseAt, rises, addressesRise, laidOut, checkOf}
 use Rattle.archive.specs.declared.Fields.{Fields}
 use Rattle.archive.specs.declared.Answer.{Answer}
 use Rattle.archive.specs.declared.Answer.the-variants.{Record, End, Refused}
@@ -17,7 +18,7 @@ use Rattle.replay.specs.Replay.{readAgrees, readsAgree, onAnswer, replayOf}
 use Rattle.fault.specs.declared.Fault.{Fault}
 use Rattle.fault.specs.declared.Fault.the-variants.{Nothing, Cut, Header, Sizes, Reads, Writes, Transaction, Station, Kind, Zero, Sequence}
 use Rattle.fault.specs.First.{first}
-use Rattle.fault.specs.Fault.{numberOf, orElse, unless, countFault, byteFault, fall, orderFault, addressFault, sequenceFault, differs, readFault, wholeFault, cutFault, faultOf}
+use Rattle.fault.specs.Fault.{numberOf, orElse, unless, countFault, lastZeroFrom, byteFault, fall, orderFault, addressFault, sequenceFault, differs, readFault, wholeFault, cutFault, faultOf}
 
 -- the answer of replay that a fault stands for: f are the record's fields
 abbrev pub answerOf : Fields → Fault → Answer
@@ -39,13 +40,15 @@ or-5 f g false b ef eg = or-number f g ef eg
 head-number : (t : List ℕ) → numberOf (orElse (countFault t) (byteFault t)) ≡ cond (headAt t) 0 5
 unfolding headAt headOk orElse countFault byteFault
 head-number t =
-    by-tests (leb (readCount t) 256) (leb (writeCount t) 256) (not (eqb (transactionNumber t) 0))
-    (leb (stationNumber t) 7) (leb (stationKind t) 1) (eqb (getD t 14 0) 0) (eqb (getD t 15 0) 0)
+    by-tests (leb (readCount t) mostEntries) (leb (writeCount t) mostEntries) (not (eqb (transactionNumber t) 0))
+    (leb (stationNumber t) 7) (leb (stationKind t) 1) (eqb (getD t zeroBytesFrom 0) 0) (eqb (getD t lastZeroFrom 0) 0)
   where
     by-tests : (a b d f g y z : Bool)
         → numberOf
         (orElse (unless a (Reads (readCount t)) (unless b (Writes (writeCount t)) (unless d Transaction Nothing)))
-        (unless f (Station (stationNumber t)) (unless g (Kind (stationKind t)) (unless y (Zero 14 (getD t 14 0)) (unless z (Zero 15 (getD t 15 0)) Nothing)))))
+        (unless f (Station (stationNumber t))
+        (unless g (Kind (stationKind t))
+        (unless y (Zero zeroBytesFrom (getD t zeroBytesFrom 0)) (unless z (Zero lastZeroFrom (getD t lastZeroFrom 0)) Nothing)))))
         ≡ cond (a && b && d && f && g && y && z) 0 5
     by-tests false b d f g y z = refl
     by-tests true false d f g y z = refl
@@ -69,10 +72,10 @@ layout-number : (t : List ℕ) → numberOf (orElse (orElse (countFault t) (byte
 unfolding addressFault addressesRise
 layout-number t =
     let n = readCount t in
-    let reads = orderFault t 16 n in
-    let writes = orderFault t (16 + n) (writeCount t) in
-    or-5 (orElse (countFault t) (byteFault t)) (orElse reads writes) (headAt t) (rises t 16 n && rises t (16 + n) (writeCount t)) (head-number t)
-    (or-5 reads writes (rises t 16 n) (rises t (16 + n) (writeCount t)) (order-number t 16 n) (order-number t (16 + n) (writeCount t)))
+    let reads = orderFault t headerLength n in
+    let writes = orderFault t (headerLength + n) (writeCount t) in
+    or-5 (orElse (countFault t) (byteFault t)) (orElse reads writes) (headAt t) (rises t headerLength n && rises t (headerLength + n) (writeCount t)) (head-number t)
+    (or-5 reads writes (rises t headerLength n) (rises t (headerLength + n) (writeCount t)) (order-number t headerLength n) (order-number t (headerLength + n) (writeCount t)))
 
 sequence-number : (t : List ℕ) (last : ℕ) → numberOf (sequenceFault t last) ≡ cond (eqb (commitNumber t) (last + 1)) 0 13
 unfolding sequenceFault
@@ -86,7 +89,7 @@ read-number t v =
 
 cut-number : (t : List ℕ) (size : ℕ) → numberOf (cutFault t size) ≡ 12
 unfolding cutFault
-cut-number t size = by-tests (leb (readCount t) 256) (leb (writeCount t) 256)
+cut-number t size = by-tests (leb (readCount t) mostEntries) (leb (writeCount t) mostEntries)
   where
     by-tests : (a b : Bool) → numberOf (unless a (Sizes (length t) size) (unless b (Sizes (length t) size) (Cut (length t) size))) ≡ 12
     by-tests false b = refl
@@ -99,12 +102,12 @@ inOrder a b l q r = cond a 12 (cond b 12 (cond l (cond q (cond r 0 14) 13) 5))
 
 pub number-is : (t : List ℕ) (last : ℕ) (v : List ℕ)
     → numberOf (faultOf t last v)
-    ≡ inOrder (ltb (length t) 16) (ltb (length t) (lengthOf t)) (laidOut t) (eqb (commitNumber t) (last + 1)) (readsAgree t v)
+    ≡ inOrder (ltb (length t) headerLength) (ltb (length t) (lengthOf t)) (laidOut t) (eqb (commitNumber t) (last + 1)) (readsAgree t v)
 unfolding faultOf wholeFault
 number-is t last v =
     let layout = orElse (orElse (countFault t) (byteFault t)) (addressFault t) in
     let rest = orElse (sequenceFault t last) (readFault t v) in
-    by-tests (orElse layout rest) (ltb (length t) 16) (ltb (length t) (lengthOf t)) (laidOut t) (eqb (commitNumber t) (last + 1)) (readsAgree t v)
+    by-tests (orElse layout rest) (ltb (length t) headerLength) (ltb (length t) (lengthOf t)) (laidOut t) (eqb (commitNumber t) (last + 1)) (readsAgree t v)
     (or-number layout rest (layout-number t) (or-number (sequenceFault t last) (readFault t v) (sequence-number t last) (read-number t v)))
   where
     by-tests : (f : Fault) (a b l q r : Bool)
@@ -123,7 +126,7 @@ unfolding replayOf readOf firstOf checkOf
 fault-answer s at last v inside =
     let t = drop at s in
     rw (le-ltb (length s) at (omega arith), ne-eqb at (length s) (λ e. omega arith), number-is (drop at s) last v)
-    (by-tests (ltb (length t) 16) (ltb (length t) (lengthOf t)) (laidOut t) (eqb (commitNumber t) (last + 1)) (readsAgree t v) refl)
+    (by-tests (ltb (length t) headerLength) (ltb (length t) (lengthOf t)) (laidOut t) (eqb (commitNumber t) (last + 1)) (readsAgree t v) refl)
   where
     by-tests : (a b l q r : Bool) → readsAgree (drop at s) v ≡ r
         → onAnswer (drop at s) v (cond (eqb (cond a 12 (cond b 12 (cond l 0 5))) 0) (cond q (Record (fieldsOf (drop at s) at)) (Refused 13)) (Refused (cond a 12 (cond b 12 (cond l 0 5))))) .answer

@@ -9,12 +9,13 @@ use lib.ListN.{length, getD}
 use lib.Dec.{eqb, ltb, leb}
 use borrow.Author.Tests.{ltb-true, ltb-false, leb-false, eqb-true, eqb-false, not-false}
 use Rattle.le.specs.Le.{u64At}
-use Rattle.record.specs.Check.{readCount, writeCount, commitNumber, transactionNumber, stationNumber, stationKind, lengthOf, riseAt, rises}
-use Rattle.replay.specs.Replay.{addressAt, valueAt, readAgrees, readsAgree}
+use Rattle.layout.specs.Record.{headerLength, mostEntries}
+use Rattle.record.specs.Check.{zeroBytesFrom, readCount, writeCount, commitNumber, transactionNumber, stationNumber, stationKind, lengthOf, riseAt, rises}
+use Rattle.replay.specs.Replay.{addressAt, valueFrom, valueAt, readAgrees, readsAgree}
 use Rattle.fault.specs.declared.Fault.{Fault}
 use Rattle.fault.specs.declared.Fault.the-variants.{Nothing, Cut, Header, Sizes, Reads, Writes, Transaction, Station, Kind, Zero, Order, Sequence, Read}
 use Rattle.fault.specs.First.{first, first-is}
-use Rattle.fault.specs.Fault.{numberOf, orElse, unless, countFault, byteFault, fall, orderFault, addressFault, sequenceFault, differs, readFault, wholeFault, cutFault, faultOf}
+use Rattle.fault.specs.Fault.{numberOf, orElse, unless, countFault, lastZeroFrom, byteFault, fall, orderFault, addressFault, sequenceFault, differs, readFault, wholeFault, cutFault, faultOf}
 
 -- of the n addresses from a, the one at `at` is the first that is not above the one before it
 pub record Falls (t : List ℕ) (a n at before is : ℕ) : Type 0 where
@@ -29,7 +30,7 @@ pub record Falls (t : List ℕ) (a n at before is : ℕ) : Type 0 where
 pub record Differs (t v : List ℕ) (at address is left : ℕ) : Type 0 where
   pub index : ℕ
   pub a-read : index < readCount t
-  pub place : at ≡ 16 + (readCount t + writeCount t) + 8 * index
+  pub place : at ≡ valueFrom (readCount t + writeCount t) index
   pub stands-for : address ≡ addressAt t index
   pub stands : is ≡ u64At t at
   pub remains : left ≡ getD v address 0
@@ -40,16 +41,16 @@ pub record Differs (t v : List ℕ) (at address is left : ℕ) : Type 0 where
 abbrev pub Right : List ℕ → ℕ → List ℕ → Fault → Type 0
 Right t last v Nothing = Unit {0}
 Right t last v (Cut present size) = (present ≡ length t) × (size ≡ lengthOf t) × (present < size)
-Right t last v (Sizes present size) = (present ≡ length t) × (size ≡ lengthOf t) × (present < size) × ((256 < readCount t) ⊎ (256 < writeCount t))
-Right t last v (Header present) = (present ≡ length t) × (present < 16)
-Right t last v (Reads n) = (n ≡ readCount t) × (256 < n)
-Right t last v (Writes m) = (m ≡ writeCount t) × (256 < m)
+Right t last v (Sizes present size) = (present ≡ length t) × (size ≡ lengthOf t) × (present < size) × ((mostEntries < readCount t) ⊎ (mostEntries < writeCount t))
+Right t last v (Header present) = (present ≡ length t) × (present < headerLength)
+Right t last v (Reads n) = (n ≡ readCount t) × (mostEntries < n)
+Right t last v (Writes m) = (m ≡ writeCount t) × (mostEntries < m)
 Right t last v Transaction = transactionNumber t ≡ 0
-Right t last v (Station s) = (s ≡ getD t 12 0) × (7 < s)
-Right t last v (Kind k) = (k ≡ getD t 13 0) × (1 < k)
+Right t last v (Station s) = (s ≡ stationNumber t) × (7 < s)
+Right t last v (Kind k) = (k ≡ stationKind t) × (1 < k)
 Right t last v (Zero at is) = (is ≡ getD t at 0) × (is ≡ 0 → ⊥)
 Right t last v (Order at before is) =
-    Falls t 16 (readCount t) at before is ⊎ ((rises t 16 (readCount t) ≡ true) × Falls t (16 + readCount t) (writeCount t) at before is)
+    Falls t headerLength (readCount t) at before is ⊎ ((rises t headerLength (readCount t) ≡ true) × Falls t (headerLength + readCount t) (writeCount t) at before is)
 Right t last v (Sequence commit l) = (commit ≡ commitNumber t) × (l ≡ last) × (commit ≡ l + 1 → ⊥)
 Right t last v (Read at address is left) = Differs t v at address is left
 
@@ -70,21 +71,21 @@ module _ (t : List ℕ) (last : ℕ) (v : List ℕ) where
   unfolding countFault
   right-count =
       let transaction = unless (not (eqb (transactionNumber t) 0)) Transaction Nothing in
-      let writes = unless (leb (writeCount t) 256) (Writes (writeCount t)) transaction in
-      right-row (leb (readCount t) 256) (Reads (readCount t)) writes (λ e. (refl, leb-false _ _ e))
-      (right-row (leb (writeCount t) 256) (Writes (writeCount t)) transaction (λ e. (refl, leb-false _ _ e))
+      let writes = unless (leb (writeCount t) mostEntries) (Writes (writeCount t)) transaction in
+      right-row (leb (readCount t) mostEntries) (Reads (readCount t)) writes (λ e. (refl, leb-false _ _ e))
+      (right-row (leb (writeCount t) mostEntries) (Writes (writeCount t)) transaction (λ e. (refl, leb-false _ _ e))
       (right-row (not (eqb (transactionNumber t) 0)) Transaction Nothing (λ e. eqb-true _ _ (not-false (eqb (transactionNumber t) 0) e)) tt))
 
   right-byte : Right t last v (byteFault t)
   unfolding byteFault
   right-byte =
-      let zero-15 = unless (eqb (getD t 15 0) 0) (Zero 15 (getD t 15 0)) Nothing in
-      let zero-14 = unless (eqb (getD t 14 0) 0) (Zero 14 (getD t 14 0)) zero-15 in
-      let kind = unless (leb (stationKind t) 1) (Kind (stationKind t)) zero-14 in
+      let last-zero = unless (eqb (getD t lastZeroFrom 0) 0) (Zero lastZeroFrom (getD t lastZeroFrom 0)) Nothing in
+      let zeros = unless (eqb (getD t zeroBytesFrom 0) 0) (Zero zeroBytesFrom (getD t zeroBytesFrom 0)) last-zero in
+      let kind = unless (leb (stationKind t) 1) (Kind (stationKind t)) zeros in
       right-row (leb (stationNumber t) 7) (Station (stationNumber t)) kind (λ e. (refl, leb-false _ _ e))
-      (right-row (leb (stationKind t) 1) (Kind (stationKind t)) zero-14 (λ e. (refl, leb-false _ _ e))
-      (right-row (eqb (getD t 14 0) 0) (Zero 14 (getD t 14 0)) zero-15 (λ e. (refl, eqb-false _ _ e))
-      (right-row (eqb (getD t 15 0) 0) (Zero 15 (getD t 15 0)) Nothing (λ e. (refl, eqb-false _ _ e)) tt)))
+      (right-row (leb (stationKind t) 1) (Kind (stationKind t)) zeros (λ e. (refl, leb-false _ _ e))
+      (right-row (eqb (getD t zeroBytesFrom 0) 0) (Zero zeroBytesFrom (getD t zeroBytesFrom 0)) last-zero (λ e. (refl, eqb-false _ _ e))
+      (right-row (eqb (getD t lastZeroFrom 0) 0) (Zero lastZeroFrom (getD t lastZeroFrom 0)) Nothing (λ e. (refl, eqb-false _ _ e)) tt)))
 
   falls-at : (a n i : ℕ) → rises t a n ≡ false → i ≡ first (riseAt t a) (n - 1) → Falls t a n (a + i + 1) (getD t (a + i) 0) (getD t (a + i + 1) 0)
   unfolding rises riseAt
@@ -103,15 +104,15 @@ module _ (t : List ℕ) (last : ℕ) (v : List ℕ) where
 
   right-address : Right t last v (addressFault t)
   unfolding addressFault orderFault orElse
-  right-address = by-test (rises t 16 (readCount t)) refl
+  right-address = by-test (rises t headerLength (readCount t)) refl
     where
-      by-test : (b : Bool) → rises t 16 (readCount t) ≡ b
-          → Right t last v (orElse (unless b (fall t 16 (first (riseAt t 16) (readCount t - 1))) Nothing) (orderFault t (16 + readCount t) (writeCount t)))
+      by-test : (b : Bool) → rises t headerLength (readCount t) ≡ b
+          → Right t last v (orElse (unless b (fall t headerLength (first (riseAt t headerLength) (readCount t - 1))) Nothing) (orderFault t (headerLength + readCount t) (writeCount t)))
       by-test true e =
-          let a = 16 + readCount t in
+          let a = headerLength + readCount t in
           let m = writeCount t in
           right-row (rises t a m) (fall t a (first (riseAt t a) (m - 1))) Nothing (λ h. inr (e, falls-at a m _ h refl)) tt
-      by-test false e = inl (falls-at 16 (readCount t) _ e refl)
+      by-test false e = inl (falls-at headerLength (readCount t) _ e refl)
 
   right-sequence : Right t last v (sequenceFault t last)
   unfolding sequenceFault
@@ -142,9 +143,9 @@ module _ (t : List ℕ) (last : ℕ) (v : List ℕ) where
 
   right-cut : length t < lengthOf t → Right t last v (cutFault t (lengthOf t))
   unfolding cutFault
-  right-cut h = by-tests (leb (readCount t) 256) (leb (writeCount t) 256) refl refl
+  right-cut h = by-tests (leb (readCount t) mostEntries) (leb (writeCount t) mostEntries) refl refl
     where
-      by-tests : (a b : Bool) → leb (readCount t) 256 ≡ a → leb (writeCount t) 256 ≡ b
+      by-tests : (a b : Bool) → leb (readCount t) mostEntries ≡ a → leb (writeCount t) mostEntries ≡ b
           → Right t last v (unless a (Sizes (length t) (lengthOf t)) (unless b (Sizes (length t) (lengthOf t)) (Cut (length t) (lengthOf t))))
       by-tests false b ea eb = (refl, refl, h, inl (leb-false _ _ ea))
       by-tests true false ea eb = (refl, refl, h, inr (leb-false _ _ eb))
@@ -156,12 +157,12 @@ module _ (t : List ℕ) (last : ℕ) (v : List ℕ) where
   fault-right =
       let head = orElse (countFault t) (byteFault t) in
       let rest = orElse (sequenceFault t last) (readFault t v) in
-      by-tests (ltb (length t) 16) (ltb (length t) (lengthOf t)) refl refl
+      by-tests (ltb (length t) headerLength) (ltb (length t) (lengthOf t)) refl refl
       (right-or (orElse head (addressFault t)) rest
       (right-or head (addressFault t) (right-or (countFault t) (byteFault t) right-count right-byte) right-address)
       (right-or (sequenceFault t last) (readFault t v) right-sequence right-read))
     where
-      by-tests : (a b : Bool) → ltb (length t) 16 ≡ a → ltb (length t) (lengthOf t) ≡ b
+      by-tests : (a b : Bool) → ltb (length t) headerLength ≡ a → ltb (length t) (lengthOf t) ≡ b
           → Right t last v (wholeFault t last v)
           → Right t last v (cond a (Header (length t)) (cond b (cutFault t (lengthOf t)) (wholeFault t last v)))
       by-tests true b ea eb h = (refl, ltb-true _ _ ea)

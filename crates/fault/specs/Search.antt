@@ -9,7 +9,7 @@ use lib.ListN.{getD}
 use borrow.Author.Tests.{lt-ltb, le-ltb, eq-eqb, ne-eqb}
 use Rattle.lists.specs.Tests.{allTo, and-both}
 use Rattle.record.specs.Check.{readCount, writeCount, riseAt, rises}
-use Rattle.replay.specs.Replay.{addressAt, valueAt, readAgrees, readsAgree}
+use Rattle.replay.specs.Replay.{addressAt, valueFrom, valueAt, readAgrees, readsAgree}
 use Rattle.fault.specs.declared.Fault.{Fault}
 use Rattle.fault.specs.declared.Fault.the-variants.{Nothing, Order, Read}
 use Rattle.fault.specs.First.{first, allTo-fails, first-found}
@@ -48,7 +48,7 @@ module _ (t v : List ℕ) (n m i : ℕ) (all : allTo (readAgrees t v (n + m)) i 
 
   pub read-found : (place : ℕ) {address is : ℕ} → n ≡ readCount t → m ≡ writeCount t → i < n → (getD v place 0 ≡ is → ⊥)
       → place ≡ addressAt t i → address ≡ addressAt t i → is ≡ valueAt t (n + m) i
-      → Read (16 + (n + m) + 8 * i) address is (getD v place 0) ≡ readFault t v
+      → Read (valueFrom (n + m) i) address is (getD v place 0) ≡ readFault t v
   unfolding readFault readsAgree readAgrees
   read-found place en em l apart ep ea ei =
       rw (← en, ← em, ea, ei, ep)

@@ -2,6 +2,7 @@
 ghost use mathlib.Core.Path.{_≡_};
 ghost use Prim.Native.Nat.{_+_, _≤_};
 ghost use lib.ListN.{length};
+ghost use Rattle.layout.specs.Record.{headerLength};
 ghost use Rattle.record.specs.Check.{lengthOf};
 ghost use Rattle.fault.specs.Fault.{numberOf, placeOf, orElse, countFault, byteFault, orderFault, addressFault, sequenceFault, readFault, wholeFault, cutFault, faultOf};
 
@@ -79,15 +80,15 @@ pub fn place(f: Fault) -> usize
 {
     match f {
         Fault::Nothing => 0,
-        Fault::Reads(_) => 0,
+        Fault::Reads(_) => record::READS,
         Fault::Cut { present, .. } => present,
         Fault::Header { present } => present,
         Fault::Sizes { present, .. } => present,
-        Fault::Writes(_) => 2,
-        Fault::Sequence { .. } => 4,
-        Fault::Transaction => 8,
-        Fault::Station(_) => 12,
-        Fault::Kind(_) => 13,
+        Fault::Writes(_) => record::WRITES,
+        Fault::Sequence { .. } => record::COMMIT,
+        Fault::Transaction => record::TRANSACTION,
+        Fault::Station(_) => record::STATION,
+        Fault::Kind(_) => record::KIND,
         Fault::Zero { at, .. } => at,
         Fault::Order { at, .. } => at,
         Fault::Read { at, .. } => at,
@@ -106,18 +107,18 @@ fn or_else(first: Fault, next: Fault) -> Fault
 
 // A header's sizes and transaction.
 fn count_fault(t: &[u8]) -> Fault
-    requires { ⌜ 16 ≤ length (now t) ⌝ }
+    requires { ⌜ headerLength ≤ length (now t) ⌝ }
     ensures { λ r. ⌜ r ≡ countFault (now (t .entry)) ⌝ }
 {
-    let reads = le::get_u16(t, 0);
-    if reads > 256 {
+    let reads = le::get_u16(t, record::READS);
+    if reads > record::MOST {
         return Fault::Reads(reads);
     }
-    let writes = le::get_u16(t, 2);
-    if writes > 256 {
+    let writes = le::get_u16(t, record::WRITES);
+    if writes > record::MOST {
         return Fault::Writes(writes);
     }
-    if le::get_u32(t, 8) == 0 {
+    if le::get_u32(t, record::TRANSACTION) == 0 {
         return Fault::Transaction;
     }
     Fault::Nothing
@@ -125,25 +126,25 @@ fn count_fault(t: &[u8]) -> Fault
 
 // Its last four bytes: station, kind, two zeros.
 fn byte_fault(t: &[u8]) -> Fault
-    requires { ⌜ 16 ≤ length (now t) ⌝ }
+    requires { ⌜ headerLength ≤ length (now t) ⌝ }
     ensures { λ r. ⌜ r ≡ byteFault (now (t .entry)) ⌝ }
 {
-    if t[12] > 7 {
-        return Fault::Station(le::wide(t[12]));
+    if t[record::STATION] > 7 {
+        return Fault::Station(le::wide(t[record::STATION]));
     }
-    if t[13] > 1 {
-        return Fault::Kind(le::wide(t[13]));
+    if t[record::KIND] > 1 {
+        return Fault::Kind(le::wide(t[record::KIND]));
     }
-    if t[14] != 0 {
+    if t[record::ZEROS] != 0 {
         return Fault::Zero {
-            at: 14,
-            is: le::wide(t[14]),
+            at: record::ZEROS,
+            is: le::wide(t[record::ZEROS]),
         };
     }
-    if t[15] != 0 {
+    if t[record::LAST_ZERO] != 0 {
         return Fault::Zero {
-            at: 15,
-            is: le::wide(t[15]),
+            at: record::LAST_ZERO,
+            is: le::wide(t[record::LAST_ZERO]),
         };
     }
     Fault::Nothing
@@ -171,19 +172,22 @@ fn order_fault(t: &[u8], a: usize, n: usize) -> Fault
 
 // Within reads, then within writes.
 fn address_fault(t: &[u8]) -> Fault
-    requires { ⌜ (16 ≤ length (now t)) × (lengthOf (now t) ≤ length (now t)) ⌝ }
+    requires { ⌜ (headerLength ≤ length (now t)) × (lengthOf (now t) ≤ length (now t)) ⌝ }
     ensures { λ r. ⌜ r ≡ addressFault (now (t .entry)) ⌝ }
 {
-    let n = le::index(le::get_u16(t, 0));
-    let m = le::index(le::get_u16(t, 2));
-    or_else(order_fault(t, 16, n), order_fault(t, 16 + n, m))
+    let n = le::index(le::get_u16(t, record::READS));
+    let m = le::index(le::get_u16(t, record::WRITES));
+    or_else(
+        order_fault(t, record::HEADER, n),
+        order_fault(t, record::HEADER + n, m),
+    )
 }
 
 fn sequence_fault(t: &[u8], last: u32) -> Fault
-    requires { ⌜ 16 ≤ length (now t) ⌝ }
+    requires { ⌜ headerLength ≤ length (now t) ⌝ }
     ensures { λ r. ⌜ r ≡ sequenceFault (now (t .entry)) last ⌝ }
 {
-    let commit = le::get_u32(t, 4);
+    let commit = le::get_u32(t, record::COMMIT);
     if le::long(commit) == le::long(last) + 1 {
         return Fault::Nothing;
     }
@@ -192,15 +196,15 @@ fn sequence_fault(t: &[u8], last: u32) -> Fault
 
 // The first of the reads that differs from the value left.
 fn read_fault(t: &[u8], values: &[u64; 256]) -> Fault
-    requires { ⌜ (16 ≤ length (now t)) × (lengthOf (now t) ≤ length (now t)) ⌝ }
+    requires { ⌜ (headerLength ≤ length (now t)) × (lengthOf (now t) ≤ length (now t)) ⌝ }
     ensures { λ r. ⌜ r ≡ readFault (now (t .entry)) (now (values .entry)) ⌝ }
 {
-    let n = le::index(le::get_u16(t, 0));
-    let k = n + le::index(le::get_u16(t, 2));
+    let n = le::index(le::get_u16(t, record::READS));
+    let k = n + le::index(le::get_u16(t, record::WRITES));
     let mut i = 0;
     while i < n {
-        let at = 16 + k + 8 * i;
-        let address = le::wide(t[16 + i]);
+        let at = record::HEADER + k + record::VALUE * i;
+        let address = le::wide(t[record::HEADER + i]);
         let is = le::get_u64(t, at);
         let left = values[le::index(address)];
         if left != is {
@@ -218,7 +222,7 @@ fn read_fault(t: &[u8], values: &[u64; 256]) -> Fault
 
 // The first fault of a record whose bytes are all there.
 fn whole_fault(t: &[u8], last: u32, values: &[u64; 256]) -> Fault
-    requires { ⌜ (16 ≤ length (now t)) × (lengthOf (now t) ≤ length (now t)) ⌝ }
+    requires { ⌜ (headerLength ≤ length (now t)) × (lengthOf (now t) ≤ length (now t)) ⌝ }
     ensures { λ r. ⌜ r ≡ wholeFault (now (t .entry)) last (now (values .entry)) ⌝ }
 {
     let layout = or_else(or_else(count_fault(t), byte_fault(t)), address_fault(t));
@@ -230,17 +234,17 @@ fn whole_fault(t: &[u8], last: u32, values: &[u64; 256]) -> Fault
 
 // What is wrong with a record whose bytes are not all there.
 fn cut_fault(t: &[u8], claimed: usize) -> Fault
-    requires { ⌜ 16 ≤ length (now t) ⌝ }
+    requires { ⌜ headerLength ≤ length (now t) ⌝ }
     ensures { λ r. ⌜ r ≡ cutFault (now (t .entry)) claimed ⌝ }
 {
     let present = t.len();
-    if le::get_u16(t, 0) > 256 {
+    if le::get_u16(t, record::READS) > record::MOST {
         return Fault::Sizes {
             present,
             length: claimed,
         };
     }
-    if le::get_u16(t, 2) > 256 {
+    if le::get_u16(t, record::WRITES) > record::MOST {
         return Fault::Sizes {
             present,
             length: claimed,
@@ -257,7 +261,7 @@ pub fn first_fault(part: &[u8], last: u32, values: &[u64; 256]) -> Fault
     ensures { λ r. ⌜ r ≡ faultOf (now (part .entry)) last (now (values .entry)) ⌝ }
 {
     let present = part.len();
-    if present < 16 {
+    if present < record::HEADER {
         return Fault::Header { present };
     }
     let length = record::claimed_length(part);
