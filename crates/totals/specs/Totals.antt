@@ -7,6 +7,7 @@ use native.Mathlib.Omega.{arith}
 use lib.ListN.{length, getD, set}
 use lib.Dec.{ltb}
 use borrow.Author.Tests.{ltb-true, ltb-false}
+use Rattle.layout.specs.Record.{headerLength}
 use Rattle.record.specs.Check.{readCount, writeCount, lengthOf, claimedLength}
 use Rattle.replay.specs.Replay.{addressAt}
 
@@ -29,13 +30,13 @@ counted t counts = cond (ltb (length t) (claimedLength t)) counts (countedTo t c
 
 -- what the test for the bytes tells
 pub record Whole (t : List ℕ) : Type 0 where
-  pub header-there : 16 ≤ length t
+  pub header-there : headerLength ≤ length t
   pub all-there : lengthOf t ≤ length t
 
 pub whole : (t : List ℕ) {k : ℕ} → k ≡ claimedLength t → k ≤ length t → Whole t
 unfolding claimedLength
-whole t {k} e h = by-test (ltb (length t) 16) refl e
+whole t {k} e h = by-test (ltb (length t) headerLength) refl e
   where
-    by-test : (b : Bool) → ltb (length t) 16 ≡ b → k ≡ cond b 16 (lengthOf t) → Whole t
-    by-test true eb e = let short : length t < 16 = ltb-true _ _ eb in absurd (omega arith)
+    by-test : (b : Bool) → ltb (length t) headerLength ≡ b → k ≡ cond b headerLength (lengthOf t) → Whole t
+    by-test true eb e = let short : length t < headerLength = ltb-true _ _ eb in absurd (omega arith)
     by-test false eb e = record { header-there = ltb-false _ _ eb; all-there = omega arith }

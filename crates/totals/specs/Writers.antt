@@ -11,9 +11,10 @@ use lib.Seq.{getD-set-same, getD-set-other}
 use lib.Dec.{eqb}
 use borrow.Author.Tests.{lt-ltb, le-ltb, ltb-true, ne-eqb, eqb-true, eqb-false}
 use Rattle.lists.specs.Tests.{allTo-at, and-r}
+use Rattle.layout.specs.Record.{headerLength}
 use Rattle.record.specs.Check.{readCount, writeCount, lengthOf, claimedLength, riseAt, rises, headAt, addressesRise, checkOf}
 use Rattle.record.specs.Facts.{accepted}
-use Rattle.replay.specs.Replay.{addressAt}
+use Rattle.replay.specs.Replay.{addressFrom, addressAt}
 use Rattle.totals.specs.Totals.{most, oneMore, countedTo, counted}
 
 -- entry n + i of the record at the start of t is address a
@@ -35,13 +36,13 @@ length-countedTo t counts n zero = refl
 length-countedTo t counts n (suc c) = rw (length-set, length-countedTo t counts n c)
 
 -- addresses that rise differ
-module _ (t : List ℕ) (n m : ℕ) (rise : rises t (16 + n) m ≡ true) where
+module _ (t : List ℕ) (n m : ℕ) (rise : rises t (headerLength + n) m ≡ true) where
   next-above : (c : ℕ) → suc c < m → addressAt t (n + c) < addressAt t (n + suc c)
   unfolding rises riseAt
   next-above c h =
-      let e : 16 + n + c ≡ 16 + (n + c) = omega arith in
-      let e1 : 16 + n + c + 1 ≡ 16 + (n + suc c) = omega arith in
-      ltb-true _ _ (rw (e1, e) at (allTo-at (riseAt t (16 + n)) (m - 1) rise c (omega arith)))
+      let e : headerLength + n + c ≡ addressFrom (n + c) = omega arith in
+      let e1 : headerLength + n + c + 1 ≡ addressFrom (n + suc c) = omega arith in
+      ltb-true _ _ (rw (e1, e) at (allTo-at (riseAt t (headerLength + n)) (m - 1) rise c (omega arith)))
 
   below : (c i : ℕ) → c < m → i < c → addressAt t (n + i) < addressAt t (n + c)
   below zero i hc hi = absurd (omega arith)
@@ -57,7 +58,7 @@ none t n a (suc c) h =
     rw (ne-eqb (addressAt t (n + c)) a (λ e. omega arith), none t n a c (λ i l. h i (omega arith)))
 
 -- the counts after c writes whose addresses rise: each address that is among them has one more
-module _ (t counts : List ℕ) (n m a : ℕ) (rise : rises t (16 + n) m ≡ true) (inside : a < length counts) (few : getD counts a 0 < most) where
+module _ (t counts : List ℕ) (n m a : ℕ) (rise : rises t (headerLength + n) m ≡ true) (inside : a < length counts) (few : getD counts a 0 < most) where
   Counts : ℕ → Type 0
   Counts c = getD (countedTo t counts n c) a 0 ≡ getD counts a 0 + cond (anyTo t n a c) 1 0
 
@@ -84,12 +85,12 @@ module _ (t counts : List ℕ) (checks : checkOf t ≡ 0) where
   unfolding counted claimedLength
   counted-is =
       let r = accepted t checks in
-      rw (le-ltb (length t) 16 (r .header-there), le-ltb (length t) (lengthOf t) (r .all-there))
+      rw (le-ltb (length t) headerLength (r .header-there), le-ltb (length t) (lengthOf t) (r .all-there))
 
-  writes-rise : rises t (16 + readCount t) (writeCount t) ≡ true
+  writes-rise : rises t (headerLength + readCount t) (writeCount t) ≡ true
   unfolding addressesRise
   writes-rise =
-      and-r (rises t 16 (readCount t)) (rises t (16 + readCount t) (writeCount t)) (and-r (headAt t) (addressesRise t) (accepted t checks .layout))
+      and-r (rises t headerLength (readCount t)) (rises t (headerLength + readCount t) (writeCount t)) (and-r (headAt t) (addressesRise t) (accepted t checks .layout))
 
   pub one-record : (a : ℕ) → a < length counts → getD counts a 0 < most → getD (counted t counts) a 0 ≡ getD counts a 0 + cond (writes t a) 1 0
   unfolding Counts

@@ -4,7 +4,7 @@ ghost use Prim.Native.Nat.{_+_, _<_};
 ghost use lib.ListN.{length, getD, set};
 ghost use Rattle.text.specs.Text.{columns, put, lineWithin};
 ghost use Rattle.report.specs.Text.{lineAt};
-ghost use Rattle.replay.specs.Replay.{addressAt};
+ghost use Rattle.replay.specs.Replay.{addressFrom, addressAt};
 ghost use Rattle.totals.specs.Totals.{oneMore, countedTo, counted};
 ghost use Rattle.totals.specs.Table.{heading, counterLine, atLine, missingLine, longestMessage};
 
@@ -20,10 +20,10 @@ fn one_more(n: u64) -> u64
 
 // Counts a write of entry i of the record at the start of `t`.
 fn count_entry(t: &[u8], counts: &mut [u64; 256], i: usize)
-    requires { ⌜ 16 + i < length (now t) ⌝ }
+    requires { ⌜ addressFrom i < length (now t) ⌝ }
     ensures { λ _. ⌜ now (counts .exit) ≡ set (now (counts .entry)) (addressAt (now (t .entry)) i) (oneMore (getD (now (counts .entry)) (addressAt (now (t .entry)) i) 0)) ⌝ }
 {
-    let a = le::index(le::wide(t[16 + i]));
+    let a = le::index(le::wide(t[record::HEADER + i]));
     let n = counts[a];
     counts[a] = one_more(n);
 }
@@ -35,8 +35,8 @@ pub fn count(part: &[u8], counts: &mut [u64; 256])
     if part.len() < record::claimed_length(part) {
         return;
     }
-    let n = le::index(le::get_u16(part, 0));
-    let m = le::index(le::get_u16(part, 2));
+    let n = le::index(le::get_u16(part, record::READS));
+    let m = le::index(le::get_u16(part, record::WRITES));
     let mut c = 0;
     while c < m {
         count_entry(part, counts, n + c);
