@@ -1,19 +1,19 @@
 // The changes of one counter (docs/PLAYBACK.md, "--counter A"): which records write it, and a line for each.
 ghost use mathlib.Core.Path.{_≡_};
-ghost use Prim.Native.Nat.{_+_, _<_};
+ghost use Prim.Native.Nat.{_<_};
 ghost use lib.Dec.{eqb};
 ghost use lib.ListN.{length};
 ghost use Rattle.text.specs.Text.{columns, put};
 ghost use Rattle.report.specs.Text.{lineAt};
-ghost use Rattle.replay.specs.Replay.{addressAt};
+ghost use Rattle.replay.specs.Replay.{addressFrom, addressAt};
 ghost use Rattle.history.specs.History.{writesAt, heading, changeLine};
 
 // Whether entry i of the record at the start of `t` is of this counter.
 fn is_entry(t: &[u8], i: usize, counter: u8) -> bool
-    requires { ⌜ 16 + i < length (now t) ⌝ }
+    requires { ⌜ addressFrom i < length (now t) ⌝ }
     ensures { λ r. ⌜ r ≡ eqb (addressAt (now (t .entry)) i) counter ⌝ }
 {
-    t[16 + i] == counter
+    t[record::HEADER + i] == counter
 }
 
 // Whether the record at the start of `part` writes this counter. Bytes that end inside it write nothing.
@@ -23,8 +23,8 @@ pub fn writes(part: &[u8], counter: u8) -> bool
     if part.len() < record::claimed_length(part) {
         return false;
     }
-    let n = le::index(le::get_u16(part, 0));
-    let m = le::index(le::get_u16(part, 2));
+    let n = le::index(le::get_u16(part, record::READS));
+    let m = le::index(le::get_u16(part, record::WRITES));
     let mut none = true;
     let mut c = 0;
     while c < m {
