@@ -9,6 +9,7 @@ use lib.Dec.{eqb, ltb, leb}
 use Rattle.le.specs.Le.{u64At}
 use Rattle.text.specs.Decimal.{decimal-short, field64-length}
 use Rattle.text.specs.Text.{ascii, decimal64, field64, columns, Put, put, lineWithin}
+use Rattle.layout.specs.Record.{valueLength}
 use Rattle.archive.specs.declared.Fields.{Fields}
 use Rattle.archive.specs.Parts.{addressPart, valuePart}
 
@@ -50,11 +51,11 @@ unfoldable pub entriesTo : ℕ → ℕ → List ℕ → List ℕ → Put → ℕ
 entriesTo sep n xs vs p zero = p
 entriesTo sep n xs vs p (suc i) =
     let q = entriesTo sep n xs vs p i in
-    lineWithin longest (q .out) (q .at) (entryLine sep (ltb i n) (getD xs i 0) (u64At vs (8 * i)))
+    lineWithin longest (q .out) (q .at) (entryLine sep (ltb i n) (getD xs i 0) (u64At vs (valueLength * i)))
 
--- of all, where there is a value of 8 bytes for each address
+-- of all, where there is a value for each address
 unfoldable pub entriesOf : ℕ → ℕ → List ℕ → List ℕ → Put → Put
-entriesOf sep n xs vs p = cond (eqb (length vs) (8 * length xs)) (entriesTo sep n xs vs p (length xs)) p
+entriesOf sep n xs vs p = cond (eqb (length vs) (valueLength * length xs)) (entriesTo sep n xs vs p (length xs)) p
 
 -- how many entries a record of these fields has: size fields hold no more than 65,535
 unfoldable pub entryCount : Fields → ℕ

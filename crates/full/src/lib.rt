@@ -103,16 +103,16 @@ fn put_entries(
     ensures { λ r. ⌜ put (now (out .exit)) r ≡ entriesOf sep reads (now (addresses .entry)) (now (values .entry)) (put (now (out .entry)) at) ⌝ }
 {
     let k = addresses.len();
-    if values.len() / 8 != k {
+    if values.len() / record::VALUE != k {
         return at;
     }
-    if values.len() % 8 != 0 {
+    if values.len() % record::VALUE != 0 {
         return at;
     }
     let mut next = at;
     let mut i = 0;
     while i < k {
-        let value = le::get_u64(values, 8 * i);
+        let value = le::get_u64(values, record::VALUE * i);
         next = entry_line(out, next, i < reads, addresses[i], value, sep);
         i += 1;
     }

@@ -7,6 +7,7 @@ use mathlib.Core.Path.{_≡_, ap, _∙_}
 use lib.ListN.{length}
 use native.Mathlib.Numerals.{add-one}
 use borrow.Author.Tests.{eq-eqb, ne-eqb}
+use Rattle.layout.specs.Record.{valueLength}
 use Rattle.text.specs.Text.{put}
 use Rattle.full.proofs.put_entries.Statement.{statement}
 use Rattle.full.proofs.put_entries.Tie as tie
@@ -19,11 +20,11 @@ abbrev μ-loop : tie.MeasureT-loop
 
 returns : tie.Need-returns Inv-loop μ-loop
 unfolding entriesOf
-returns c = simp (ne-eqb (length (c .before .before .before .before .args .values .now)) (8 * length (c .before .before .before .before .args .addresses .now)) (λ e. c .if1 .taken (omega arith)))
+returns c = simp (ne-eqb (length (c .before .before .before .before .args .values .now)) (valueLength * length (c .before .before .before .before .args .addresses .now)) (λ e. c .if1 .taken (omega arith)))
 
 returns-2 : tie.Need-returns-2 Inv-loop μ-loop
 unfolding entriesOf
-returns-2 c = simp (ne-eqb (length (c .before .before .before .before .before .args .values .now)) (8 * length (c .before .before .before .before .before .args .addresses .now)) (λ e. c .if2 .taken (omega arith)))
+returns-2 c = simp (ne-eqb (length (c .before .before .before .before .before .args .values .now)) (valueLength * length (c .before .before .before .before .before .args .addresses .now)) (λ e. c .if2 .taken (omega arith)))
 
 loop-holds : tie.Need-loop-holds Inv-loop μ-loop
 unfolding entriesTo
@@ -56,7 +57,7 @@ same-length c = search needs
 
 returns-3 : tie.Need-returns-3 Inv-loop μ-loop
 unfolding entriesOf
-returns-3 c = simp (eq-eqb (length (c .before .before .before .before .before .before .before .args .values .now)) (8 * length (c .before .before .before .before .before .before .before .args .addresses .now)) (omega arith)) (c .before .loop .inv .2 ∙ ap (entriesTo _ _ _ _ _) (omega arith))
+returns-3 c = simp (eq-eqb (length (c .before .before .before .before .before .before .before .args .values .now)) (valueLength * length (c .before .before .before .before .before .before .before .args .addresses .now)) (omega arith)) (c .before .loop .inv .2 ∙ ap (entriesTo _ _ _ _ _) (omega arith))
 
 pub put-entries-spec : {M : Type 1} → statement M
 put-entries-spec =
