@@ -1,7 +1,8 @@
 //! What a call changed, in few words: the two states are compared, nothing is kept beside them.
 
 use super::words;
-use crate::line::message::{Down, Up};
+use crate::line::message::{Down, Field, Up};
+use crate::line::places::Place;
 use crate::line::server::{HeldBy, Server, Victim};
 use crate::line::sets::{rising, Addresses, ObjectSet, PageSet, PAGES, STATIONS};
 use crate::line::station::Station;
@@ -54,7 +55,8 @@ pub fn server(
 
 /// Why a commit gets 22.
 fn failed_commit(sent: &[u8]) -> Option<String> {
-    let Ok((station, Down::Aborted { cause, .. })) = Down::decode(sent, sent[1]) else {
+    let at = Field::Station.byte(sent);
+    let Ok((station, Down::Aborted { cause, .. })) = Down::decode(sent, at) else {
         return None;
     };
     Some(match cause {

@@ -1,5 +1,6 @@
 //! Damage for either end: states changed or of a wrong length, messages of any length, commits with faults.
 
+use super::lent::COMMIT;
 use super::little::WORD;
 use super::message::{Commit, Field, Up, BEFORE_RECORD, LENGTH};
 use super::places::{header, Place};
@@ -42,7 +43,7 @@ pub fn field_changed<F: Place>(random: &mut Random, real: &[u8]) -> Vec<u8> {
 /// Cut, doubled, or longer by some.
 pub fn of_a_wrong_length<F: Place>(random: &mut Random, state: &mut Vec<u8>) {
     let length = F::LENGTH;
-    let length = random.pick(&[0, 1, length - 1, length + 1, length + 7, 2 * length, 4_864]);
+    let length = random.pick(&[0, 1, length - 1, length + 1, length + 7, 2 * length, COMMIT]);
     state.resize(length, 0);
 }
 

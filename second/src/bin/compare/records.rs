@@ -4,7 +4,7 @@ use crate::judge::{Judge, MOST_ROOM};
 use second::generate::{self, tame, Size};
 use second::line::places::{header, Place};
 use second::random::Random;
-use second::record::{Header, Record, ENTRY, HEADER};
+use second::record::{Header, Record, ENTRY, HEADER, VALUE};
 
 const SIZES: [u16; 6] = [0, 1, 255, 256, 257, u16::MAX];
 /// The last ones: 16 + 9 × count comes to little if it is counted in 32 bits.
@@ -34,7 +34,7 @@ pub fn sizes_at_limits(judge: &mut Judge, random: &mut Random) {
         for writes in SIZES {
             put_record(&mut bytes, random, reads, writes);
             let exact = HEADER + ENTRY * (usize::from(reads) + usize::from(writes));
-            for length in [0, 15, 16, exact - 1, exact, exact + 1, longest] {
+            for length in [0, HEADER - 1, HEADER, exact - 1, exact, exact + 1, longest] {
                 judge.record_check(&bytes[..length]);
             }
         }
@@ -45,8 +45,8 @@ pub fn sizes_at_limits(judge: &mut Judge, random: &mut Random) {
 fn put_record(bytes: &mut [u8], random: &mut Random, reads: u16, writes: u16) {
     let mut record = generate::record(random, Size::Tiny).encode();
     record.truncate(HEADER);
-    record[..2].copy_from_slice(&reads.to_le_bytes());
-    record[2..4].copy_from_slice(&writes.to_le_bytes());
+    record[header::Field::Reads.range()].copy_from_slice(&reads.to_le_bytes());
+    record[header::Field::Writes.range()].copy_from_slice(&writes.to_le_bytes());
     for count in [reads, writes] {
         let count = usize::from(count);
         record.extend(generate::addresses(random, count.min(256)));
@@ -225,7 +225,7 @@ pub fn write_fields(judge: &mut Judge, random: &mut Random) {
 
 /// Counts at their limits, entries as many as the counts say.
 pub fn counts_at_limits(judge: &mut Judge, random: &mut Random) {
-    let entries = random.bytes(8 * 2 * 65_536);
+    let entries = random.bytes(VALUE * 2 * 65_536);
     for reads in COUNTS {
         for writes in COUNTS {
             let mut header = generate::record(random, Size::Tiny).header();
@@ -236,7 +236,7 @@ pub fn counts_at_limits(judge: &mut Judge, random: &mut Random) {
                 reads.wrapping_add(writes) as usize,
             ] {
                 let addresses = entries[..count.min(2 * 65_536)].to_vec();
-                let values = entries[..8 * addresses.len()].to_vec();
+                let values = entries[..VALUE * addresses.len()].to_vec();
                 let order = Order {
                     header,
                     addresses,
@@ -265,7 +265,7 @@ pub fn write_counts(judge: &mut Judge, random: &mut Random) {
         ];
         for (reads, writes) in others {
             (order.header.reads, order.header.writes) = (reads, writes);
-            for room in [exact - 1, exact, exact + 9, 5_000] {
+            for room in [exact - 1, exact, exact + ENTRY, 5_000] {
                 order.write(judge, room);
             }
         }
@@ -278,9 +278,10 @@ pub fn write_lengths(judge: &mut Judge, random: &mut Random) {
         let good = Order::random(random, Size::Tiny);
         let entries = good.addresses.len();
         let around = |length: usize| [0, length.saturating_sub(1), length, length + 1];
-        let other = [8 * entries + 8, (8 * entries).saturating_sub(8), entries];
-        for addresses in around(entries).into_iter().chain([8 * entries]) {
-            for values in around(8 * entries).into_iter().chain(other) {
+        let bytes = VALUE * entries;
+        let other = [bytes + VALUE, bytes.saturating_sub(VALUE), entries];
+        for addresses in around(entries).into_iter().chain([bytes]) {
+            for values in around(bytes).into_iter().chain(other) {
                 let mut order = good.clone();
                 order.addresses.resize(addresses, 255);
                 order.values.resize(values, 255);

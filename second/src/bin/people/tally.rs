@@ -1,6 +1,7 @@
 //! What was reached, and how often.
 
 use crate::cases::{Case, Way};
+use second::line::places::{header::Field, Place};
 use second::people::{Asked, Cause, Fault, Listing, Play, Stop};
 use second::record::{Header, HEADER, LONGEST};
 use second::tally::Tally;
@@ -142,12 +143,12 @@ fn row(fault: &Fault, archive: &[u8]) -> &'static str {
         Cause::Short(..) if header.is_none() => 0,
         Cause::Short(..) => 1,
         Cause::Sizes(..) => 2,
-        Cause::Many(..) if place == 0 => 3,
+        Cause::Many(..) if place == Field::Reads.start() => 3,
         Cause::Many(..) => 4,
         Cause::Transaction => 5,
         Cause::Station(_) => 6,
         Cause::Kind(_) => 7,
-        Cause::NotZero(_) if place == 14 => 8,
+        Cause::NotZero(_) if place == Field::Spare.start() => 8,
         Cause::NotZero(_) => 9,
         Cause::Order(..) if header.is_some_and(|h| place < HEADER + h.reads as usize) => 10,
         Cause::Order(..) => 11,

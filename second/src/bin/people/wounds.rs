@@ -1,7 +1,9 @@
 //! Faults that are made on purpose: each breaks one rule of a record.
 
+use second::line::little::{word, WORD};
+use second::line::places::{header::Field, Place};
 use second::random::Random;
-use second::record::{claimed_length, Record, HEADER};
+use second::record::{claimed_length, Record, HEADER, VALUE};
 
 /// A record's bytes, and the sizes it had when it was whole.
 pub struct Part {
@@ -14,13 +16,13 @@ pub struct Part {
 type Wound = fn(&mut Part, &mut Random) -> bool;
 
 const WOUNDS: [Wound; 10] = [
-    |part, random| part.claim(0, random),
-    |part, random| part.claim(2, random),
-    |part, _| part.put(8, &[0; 4]),
-    |part, random| part.put(12, &[8 + random.below(248) as u8]),
-    |part, random| part.put(13, &[2 + random.below(254) as u8]),
-    |part, random| part.put(14, &[1 + random.below(255) as u8]),
-    |part, random| part.put(15, &[1 + random.below(255) as u8]),
+    |part, random| part.claim(Field::Reads, random),
+    |part, random| part.claim(Field::Writes, random),
+    |part, _| part.put(Field::Transaction.start(), &[0; WORD]),
+    |part, random| part.put(Field::Station.start(), &[8 + random.below(248) as u8]),
+    |part, random| part.put(Field::Kind.start(), &[2 + random.below(254) as u8]),
+    |part, random| part.put(Field::Spare.start(), &[1 + random.below(255) as u8]),
+    |part, random| part.put(HEADER - 1, &[1 + random.below(255) as u8]),
     Part::disorder,
     Part::renumber,
     Part::misread,
@@ -52,13 +54,13 @@ impl Part {
     }
 
     /// More entries than a record may have, mostly with all that they claim.
-    fn claim(&mut self, at: usize, random: &mut Random) -> bool {
+    fn claim(&mut self, size: Field, random: &mut Random) -> bool {
         let many: u16 = match random.below(6) {
             0 => u16::MAX,
             1 => 257 + random.below(65_279) as u16,
             _ => random.pick(&[257, 258, 300, 512]),
         };
-        self.put(at, &many.to_le_bytes());
+        self.put(size.start(), &many.to_le_bytes());
         let length = claimed_length(&self.bytes).expect("a header");
         let missing = length.saturating_sub(self.bytes.len());
         if !random.one_in(5) {
@@ -82,11 +84,12 @@ impl Part {
     }
 
     fn renumber(&mut self, random: &mut Random) -> bool {
-        let number = u32::from_le_bytes([4, 5, 6, 7].map(|at| self.bytes[at]));
+        let at = Field::Commit.start();
+        let number = word(&self.bytes, at);
         let near = [number.wrapping_sub(1), number.wrapping_add(1)];
         let any = random.number() as u32;
         let other = random.pick(&[0, 1, near[0], near[1], u32::MAX, any]);
-        self.put(4, &other.to_le_bytes());
+        self.put(at, &other.to_le_bytes());
         other != number
     }
 
@@ -94,7 +97,7 @@ impl Part {
     fn misread(&mut self, random: &mut Random) -> bool {
         let values = HEADER + self.reads + self.writes;
         for _ in 0..self.reads.min(1 + random.below(3)) {
-            let at = values + random.below(8 * self.reads);
+            let at = values + random.below(VALUE * self.reads);
             self.bytes[at] ^= 1 << random.below(8);
         }
         self.reads > 0

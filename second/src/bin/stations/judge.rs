@@ -4,7 +4,7 @@ use crate::tally::Tallies;
 use second::buffers::{show_state, Agreed, Difference, Pair, Room};
 use second::ffi::stations as proved;
 use second::line::lent::{Lent, Operation};
-use second::line::message::{Down, Up, LENGTH};
+use second::line::message::{self, Down, Up, LENGTH};
 use second::line::places::Place;
 use second::line::sets::STATIONS;
 use second::line::station::state::{self, Field};
@@ -153,7 +153,7 @@ fn passes(message: &[u8], state: &[u8]) -> bool {
     let Some(kind) = Kind::of(Field::Kind.byte(state).into()) else {
         return false;
     };
-    if kind == Kind::Validating && ![1, 3, 5].contains(&message[0]) {
+    if kind == Kind::Validating && ![1, 3, 5].contains(&message::Field::Kind.byte(message)) {
         return false;
     }
     let decoded = Up::decode(message, &[kind; STATIONS]);

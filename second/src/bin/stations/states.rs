@@ -115,7 +115,7 @@ fn copy_written(state: &mut [u8]) {
         if cached & page_bit(page_of(address)) != 0 {
             let from = Field::WrittenValue.start() + LONG * usize::from(address);
             let to = Field::Copy.start() + LONG * usize::from(address);
-            state.copy_within(from..from + 8, to);
+            state.copy_within(from..from + LONG, to);
         }
     }
 }
