@@ -11,17 +11,19 @@ use borrow.Author.Tests.{le-ltb, ltb-false, ne-eqb}
 use Rattle.lists.specs.Tests.{allTo}
 use Rattle.lists.specs.Parts.{allTo-same}
 use Rattle.le.specs.Le.{u16At, u32At, u64At}
+use Rattle.layout.specs.Record.{headerLength}
+use Rattle.record.specs.Check.{readCountFrom, writeCountFrom, commitNumberFrom, transactionNumberFrom, stationNumberFrom, stationKindFrom, zeroBytesFrom}
 use Rattle.record.specs.Check.{readCount, writeCount, commitNumber, transactionNumber, stationNumber, stationKind, lengthOf, headAt, rises, addressesRise, laidOut, checkOf}
 use Rattle.record_meaning.specs.Rise.{rises-behind}
 use Rattle.archive.specs.declared.Fields.{Fields}
 use Rattle.archive.specs.declared.Answer.{Answer}
 use Rattle.archive.specs.declared.Answer.the-variants.{Record, End, Refused}
 use Rattle.archive.specs.Read.{fieldsOf, firstOf, readOf}
-use Rattle.replay.specs.Replay.{addressAt, valueAt, readAgrees, readsAgree, storedTo, stored, replayed, onAnswer, replayOf}
+use Rattle.replay.specs.Replay.{addressFrom, addressAt, valueFrom, valueAt, readAgrees, readsAgree, storedTo, stored, replayed, onAnswer, replayOf}
 
 -- all bytes that the record at the start of t claims are there
 pub record Whole (t : List ℕ) : Type 0 where
-  pub header-there : 16 ≤ length t
+  pub header-there : headerLength ≤ length t
   pub all-there : lengthOf t ≤ length t
 
 module _ (t y : List ℕ) where
@@ -42,34 +44,34 @@ module _ (t y : List ℕ) where
 
 module _ (t y : List ℕ) (w : Whole t) where
   pub reads-same : readCount (t ++ y) ≡ readCount t
-  reads-same = let h = w .header-there in u16-same t y 0 (omega arith)
+  reads-same = let h = w .header-there in u16-same t y readCountFrom (omega arith)
 
   pub writes-same : writeCount (t ++ y) ≡ writeCount t
-  writes-same = let h = w .header-there in u16-same t y 2 (omega arith)
+  writes-same = let h = w .header-there in u16-same t y writeCountFrom (omega arith)
 
   pub commit-same : commitNumber (t ++ y) ≡ commitNumber t
-  commit-same = let h = w .header-there in u32-same t y 4 (omega arith)
+  commit-same = let h = w .header-there in u32-same t y commitNumberFrom (omega arith)
 
   transaction-same : transactionNumber (t ++ y) ≡ transactionNumber t
-  transaction-same = let h = w .header-there in u32-same t y 8 (omega arith)
+  transaction-same = let h = w .header-there in u32-same t y transactionNumberFrom (omega arith)
 
   pub length-same : lengthOf (t ++ y) ≡ lengthOf t
   length-same = rw (reads-same, writes-same)
 
-  byte : (i : ℕ) → i < 16 → getD (t ++ y) i 0 ≡ getD t i 0
+  byte : (i : ℕ) → i < headerLength → getD (t ++ y) i 0 ≡ getD t i 0
   byte i l = let h = w .header-there in byte-same t y i (omega arith)
 
   head-same : headAt (t ++ y) ≡ headAt t
   unfolding headAt
   head-same =
-      rw (reads-same, writes-same, transaction-same, byte 12 (omega arith), byte 13 (omega arith), byte 14 (omega arith), byte 15 (omega arith))
+      rw (reads-same, writes-same, transaction-same, byte stationNumberFrom (omega arith), byte stationKindFrom (omega arith), byte zeroBytesFrom (omega arith), byte (zeroBytesFrom + 1) (omega arith))
 
   rise-same : addressesRise (t ++ y) ≡ addressesRise t
   unfolding addressesRise
   rise-same =
       let h = w .all-there in
       let n = readCount t in
-      rw (reads-same, writes-same, rises-behind [] t y 16 n 16 (omega arith) (omega arith), rises-behind [] t y (16 + n) (writeCount t) (16 + n) (omega arith) (omega arith))
+      rw (reads-same, writes-same, rises-behind [] t y headerLength n headerLength (omega arith) (omega arith), rises-behind [] t y (headerLength + n) (writeCount t) (headerLength + n) (omega arith) (omega arith))
 
   pub check-same : checkOf (t ++ y) ≡ checkOf t
   unfolding checkOf
@@ -77,14 +79,14 @@ module _ (t y : List ℕ) (w : Whole t) where
       let h = w .header-there in
       let a = w .all-there in
       let l = length-append t y in
-      let more : 16 ≤ length (t ++ y) = omega arith in
+      let more : headerLength ≤ length (t ++ y) = omega arith in
       let all : lengthOf t ≤ length (t ++ y) = omega arith in
       rw
-      (length-same, le-ltb (length (t ++ y)) 16 more, le-ltb (length (t ++ y)) (lengthOf t) all, le-ltb (length t) 16 h, le-ltb (length t) (lengthOf t) a, head-same, rise-same)
+      (length-same, le-ltb (length (t ++ y)) headerLength more, le-ltb (length (t ++ y)) (lengthOf t) all, le-ltb (length t) headerLength h, le-ltb (length t) (lengthOf t) a, head-same, rise-same)
 
   fields-same : (at : ℕ) → fieldsOf (t ++ y) at ≡ fieldsOf t at
   unfolding fieldsOf
-  fields-same at = rw (length-same, reads-same, writes-same, commit-same, transaction-same, byte 12 (omega arith), byte 13 (omega arith))
+  fields-same at = rw (length-same, reads-same, writes-same, commit-same, transaction-same, byte stationNumberFrom (omega arith), byte stationKindFrom (omega arith))
 
   first-same : (at last : ℕ) → firstOf (t ++ y) at last ≡ firstOf t at last
   unfolding firstOf
@@ -97,7 +99,7 @@ module _ (t y : List ℕ) (w : Whole t) where
   unfolding readAgrees
   agree-same v i l =
       let a = w .all-there in
-      rw (byte-same t y (16 + i) (omega arith), u64-same t y (16 + (readCount t + writeCount t) + 8 * i) (omega arith))
+      rw (byte-same t y (addressFrom i) (omega arith), u64-same t y (valueFrom (readCount t + writeCount t) i) (omega arith))
 
   agrees-same : (v : List ℕ) → readsAgree (t ++ y) v ≡ readsAgree t v
   unfolding readsAgree
@@ -112,7 +114,7 @@ module _ (t y : List ℕ) (w : Whole t) where
   storedTo-same v (suc c) h =
       let a = w .all-there in
       let n = readCount t in
-      rw (storedTo-same v c (omega arith), byte-same t y (16 + (n + c)) (omega arith), u64-same t y (16 + (n + writeCount t) + 8 * (n + c)) (omega arith))
+      rw (storedTo-same v c (omega arith), byte-same t y (addressFrom (n + c)) (omega arith), u64-same t y (valueFrom (n + writeCount t) (n + c)) (omega arith))
 
   stored-same : (v : List ℕ) → stored (t ++ y) v ≡ stored t v
   unfolding stored
@@ -142,9 +144,9 @@ replay-same s y at last v h w =
 -- a record that is not whole
 pub short-12 : (t : List ℕ) → (Whole t → ⊥) → checkOf t ≡ 12
 unfolding checkOf
-short-12 t cut = by-tests (ltb (length t) 16) (ltb (length t) (lengthOf t)) refl refl
+short-12 t cut = by-tests (ltb (length t) headerLength) (ltb (length t) (lengthOf t)) refl refl
   where
-    by-tests : (a b : Bool) → ltb (length t) 16 ≡ a → ltb (length t) (lengthOf t) ≡ b → _≡_ {A = ℕ} (cond a 12 (cond b 12 (cond (laidOut t) 0 5))) 12
+    by-tests : (a b : Bool) → ltb (length t) headerLength ≡ a → ltb (length t) (lengthOf t) ≡ b → _≡_ {A = ℕ} (cond a 12 (cond b 12 (cond (laidOut t) 0 5))) 12
     by-tests true b ea eb = refl
     by-tests false true ea eb = refl
     by-tests false false ea eb = absurd (cut (record { header-there = ltb-false _ _ ea; all-there = ltb-false _ _ eb }))

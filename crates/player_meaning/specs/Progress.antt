@@ -16,7 +16,8 @@ use Rattle.lists.specs.Stores.{to-the-end}
 use Rattle.le.specs.Laws.{u32At-is}
 use Rattle.le.specs.Width.{numAt, numAt-lt}
 use Rattle.text.specs.Text.{Put, put, putOf, hasRoom, lineWithin}
-use Rattle.record.specs.Check.{commitNumber, lengthOf, laidOut, checkOf}
+use Rattle.layout.specs.Record.{headerLength}
+use Rattle.record.specs.Check.{commitNumberFrom, commitNumber, lengthOf, laidOut, checkOf}
 use Rattle.archive.specs.declared.Fields.{Fields}
 use Rattle.archive.specs.declared.Answer.{Answer}
 use Rattle.archive.specs.declared.Answer.the-variants.{Record, End, Refused}
@@ -91,7 +92,7 @@ note-is base t f before after c p = rw (le-ltb (f .commit) 0 (omega arith), line
 
 -- a commit number of 4 bytes is below `never`
 commit-small : (t : List ℕ) → Bytes t → commitNumber t < never
-commit-small t b = rw (u32At-is t 4) (numAt-lt 4 t 4 b)
+commit-small t b = rw (u32At-is t commitNumberFrom) (numAt-lt 4 t commitNumberFrom b)
 
 module _ (s y : List ℕ) (bytes : Bytes s) (base : ℕ) where
   abbrev pub Goes : ℕ → Type 0
@@ -181,20 +182,20 @@ module _ (s y : List ℕ) (bytes : Bytes s) (base : ℕ) where
 
           by-tests : (l b d : Bool) → laidOut (drop at s) ≡ l → eqb (commitNumber (drop at s)) (last + 1) ≡ b → readsAgree (drop at s) v ≡ d → P R
           by-tests false b d el eb ed =
-              refused 5 refl refl lt w (placed s at last v lt ∙ rw (le-ltb (length t) 16 (w .header-there), le-ltb (length t) (lengthOf t) (w .all-there), el))
+              refused 5 refl refl lt w (placed s at last v lt ∙ rw (le-ltb (length t) headerLength (w .header-there), le-ltb (length t) (lengthOf t) (w .all-there), el))
           by-tests true false d el eb ed =
-              refused 13 refl refl lt w (placed s at last v lt ∙ rw (le-ltb (length t) 16 (w .header-there), le-ltb (length t) (lengthOf t) (w .all-there), el, eb))
+              refused 13 refl refl lt w (placed s at last v lt ∙ rw (le-ltb (length t) headerLength (w .header-there), le-ltb (length t) (lengthOf t) (w .all-there), el, eb))
           by-tests true true false el eb ed =
-              refused 14 refl refl lt w (placed s at last v lt ∙ rw (le-ltb (length t) 16 (w .header-there), le-ltb (length t) (lengthOf t) (w .all-there), el, eb, ed))
+              refused 14 refl refl lt w (placed s at last v lt ∙ rw (le-ltb (length t) headerLength (w .header-there), le-ltb (length t) (lengthOf t) (w .all-there), el, eb, ed))
           by-tests true true true el eb ed =
               plays (fieldsOf t at) (stored t v) lt w (commit-small t (bytes-drop at s bytes))
-              (placed s at last v lt ∙ rw (le-ltb (length t) 16 (w .header-there), le-ltb (length t) (lengthOf t) (w .all-there), el, eb, ed))
+              (placed s at last v lt ∙ rw (le-ltb (length t) headerLength (w .header-there), le-ltb (length t) (lengthOf t) (w .all-there), el, eb, ed))
 
       by-whole : at < length s → P R
-      by-whole lt = by-tests (ltb (length (drop at s)) 16) (ltb (length (drop at s)) (lengthOf (drop at s))) refl refl
+      by-whole lt = by-tests (ltb (length (drop at s)) headerLength) (ltb (length (drop at s)) (lengthOf (drop at s))) refl refl
         where
-          by-tests : (a b : Bool) → ltb (length (drop at s)) 16 ≡ a → ltb (length (drop at s)) (lengthOf (drop at s)) ≡ b → P R
-          by-tests true b ea eb = cut lt (λ w. let x = w .header-there in let l : length (drop at s) < 16 = ltb-true _ _ ea in omega arith)
+          by-tests : (a b : Bool) → ltb (length (drop at s)) headerLength ≡ a → ltb (length (drop at s)) (lengthOf (drop at s)) ≡ b → P R
+          by-tests true b ea eb = cut lt (λ w. let x = w .header-there in let l : length (drop at s) < headerLength = ltb-true _ _ ea in omega arith)
           by-tests false true ea eb = cut lt (λ w. let x = w .all-there in let l : length (drop at s) < lengthOf (drop at s) = ltb-true _ _ eb in omega arith)
           by-tests false false ea eb = whole-record lt (record { header-there = ltb-false _ _ ea; all-there = ltb-false _ _ eb })
 
