@@ -7,7 +7,7 @@ use lib.ListN.{length, replicate}
 use Rattle.lists.specs.Tests.{allTo}
 use Rattle.le.specs.Le.{u16At, u32At, u64At}
 use Rattle.le.specs.Width.{bytes}
-use Rattle.layout.specs.Record.{header}
+use Rattle.layout.specs.Record.{valueLength, recordLength, header}
 use Rattle.record.specs.Check.{headOk, headAt, riseAt, rises, addressesRise, checkOf}
 use Rattle.archive.specs.Read.{fieldsOf, firstOf, readOf}
 use Rattle.replay.specs.Replay.{readAgrees, readsAgree, storedTo, stored, replayOf}
@@ -40,7 +40,7 @@ upFrom a (suc n) = a ∷ upFrom (suc a) n
 
 -- n reads and m writes of the addresses from 0 on, all values 0, commit 1 of station 0
 abbrev pub filled : ℕ → ℕ → List ℕ
-filled n m = header n m 1 1 0 0 ++ (upFrom 0 n ++ (upFrom 0 m ++ replicate (8 * (n + m)) 0))
+filled n m = header n m 1 1 0 0 ++ (upFrom 0 n ++ (upFrom 0 m ++ replicate (valueLength * (n + m)) 0))
 
 -- C12's record
 abbrev pub c12 : List ℕ
@@ -56,13 +56,13 @@ unfoldable pub table : List Case
 table =
     -- "C10 n = m = 256: 4,624 bytes; n = 257: number 5"
     case (filled 256 256) 4624 0 "commit station transaction reads writes\n1 0 1 256 256\nend 1\n"
-    ∷ case (filled 257 0) 2329 5 "commit station transaction reads writes\nrefused 5 after 0\n"
+    ∷ case (filled 257 0) (recordLength 257 0) 5 "commit station transaction reads writes\nrefused 5 after 0\n"
     -- "C11 empty file: the heading, then `end 0`"; record check of no bytes is short
     ∷ case [] 0 12 "commit station transaction reads writes\nend 0\n"
     -- "C12 .. 34 bytes"
     ∷ case c12 34 0 "commit station transaction reads writes\n1 0 1 1 1\nend 1\n"
     -- "C12 followed by a read of 8 (value 1) in transaction 1 of station 1 prints"
-    ∷ case (c12 ++ readOf8) 59 0 "commit station transaction reads writes\n1 0 1 1 1\n2 1 1 1 0\nend 2\n"
+    ∷ case (c12 ++ readOf8) (recordLength 1 1 + recordLength 1 0) 0 "commit station transaction reads writes\n1 0 1 1 1\n2 1 1 1 0\nend 2\n"
     ∷ []
 
 row : {c : Case} → length (c .archive) ≡ c .size → checkOf (c .archive) ≡ c .check → printed (c .archive) ≡ ascii (c .text) → Holds c
