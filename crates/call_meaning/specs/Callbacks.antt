@@ -18,7 +18,7 @@ use Rattle.line.specs.Messages.{locking, Done}
 use Rattle.line.specs.Station.{Station, Kept, NotKept, KeptCall, Wait, didStation, setWait, setCver, setKept, wrotePage, drops, dropPages, mark, recordRead, writeLocal, doCallback, doKept, doAllKept, closed, close, undo}
 use Rattle.line.specs.Station as Model
 use Rattle.message_meaning.specs.Sent.{Reads, done-sent}
-use Rattle.station_state.specs.Layout.{keptOf, kind, namedFrom, writtenSetFrom, writtenValue, hasBit, member}
+use Rattle.station_state.specs.Layout.{setRow, keptOf, kind, namedFrom, writtenSetFrom, writtenValue, hasBit, member}
 use Rattle.station_pages.specs.Pages.{droppedB, writtenPagesB, markB}
 use Rattle.station_callbacks.specs.Callbacks.{Sends, setsAt, doneB, doCallbackB, notKeptB, doKeptB, keptTo, closeB, undoB}
 use Rattle.station_answer.specs.declared.Answer.{Answer}
@@ -98,7 +98,7 @@ module _ {i : ℕ} {m : Station} where
 
 -- 32 object sets of a list of bytes
 pub sets-bytes : (s : List ℕ) (at : ℕ) → AllBytes s → AllBytes (setsAt s at)
-sets-bytes s at b = all-bytes (setsAt s at) (bytes-take 32 (drop at s) (bytes-drop at s (bytes-all s b)))
+sets-bytes s at b = all-bytes (setsAt s at) (bytes-take setRow (drop at s) (bytes-drop at s (bytes-all s b)))
 
 -- "mark the named objects unavailable, drop .., and send 7"
 pub callback-means : (i : ℕ) {b : Sends} {d : Model.Did} (r t : ℕ) (x : List ℕ) → Sending i b d → AllBytes x → r < 8 → t ≢ 0 → t < 2 ^ 32
@@ -195,7 +195,7 @@ written-named {i} {s} {m} h =
       wrote-at h a (omega arith),
       has-if (member s writtenSetFrom a) (writtenValue s a),
       tb-test (a % 8) (getD s (writtenSetFrom + a / 8) 0),
-      getD-take 32 (drop writtenSetFrom s) (a / 8) 0 l,
+      getD-take setRow (drop writtenSetFrom s) (a / 8) 0 l,
       getD-drop writtenSetFrom s (a / 8) 0,
     ))
     (λ e.

@@ -18,7 +18,6 @@ use server_state::LATEST;
 use server_state::PAGE_ROW;
 use server_state::READ_SET;
 use server_state::READ_VALUE;
-use server_state::SET_ROW;
 use server_state::VALUE;
 use server_state::VALUE_ROW;
 use server_state::VERSION;
@@ -26,6 +25,7 @@ use server_state::WORK;
 use server_state::WRITTEN_SET;
 use server_state::WRITTEN_VALUE;
 use station_state::NUMBER_WIDTH;
+use station_state::SET_ROW;
 
 // How many messages stand in o, and how many bytes of records in q.
 pub struct Counts {

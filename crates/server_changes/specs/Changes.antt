@@ -12,7 +12,7 @@ use Rattle.layout.specs.Record.{valueLength}
 use Rattle.record.specs.Check.{writeCountFrom, readCountFrom}
 use Rattle.station_state.specs.Layout.{pageSetWidth, numberWidth, valueWidth, hasBit, member}
 use Rattle.station_state.specs.Changes.{addTo, pageOn, pageOff, clearTo}
-use Rattle.server_state.specs.Layout.{ageWidth, valueFrom, ageFrom, arrivalFrom, nextAgeFrom, nextArrivalFrom, versionFrom, workFrom, latestFrom, listedFrom, lastFrom, askedFrom, lockFrom, wholeFrom, wantFrom, requestFrom, calledFrom, pendFrom, busyFrom, unfinishedFrom, sentVersionsFrom, readValuesFrom, writtenValuesFrom, agesOf, arrivalsOf, latestOf, listedOf, lastOf, lockOf, wholeOf, readSetFrom, writtenSetFrom, writtenSet, pendOf, busyOf}
+use Rattle.server_state.specs.Layout.{ageWidth, setRow, valueFrom, ageFrom, arrivalFrom, nextAgeFrom, nextArrivalFrom, versionFrom, workFrom, latestFrom, listedFrom, lastFrom, askedFrom, lockFrom, wholeFrom, wantFrom, requestFrom, calledFrom, pendFrom, busyFrom, unfinishedFrom, sentVersionsFrom, readValuesFrom, writtenValuesFrom, agesOf, arrivalsOf, latestOf, listedOf, lastOf, lockOf, wholeOf, readSetFrom, writtenSetFrom, writtenSet, pendOf, busyOf}
 
 -- "each transaction gets a new age" with its first message
 unfoldable pub noticeB : ℕ → ℕ → List ℕ → List ℕ
@@ -43,7 +43,7 @@ finishB i s = set (freeTo i (freePagesTo i s 32) 256) (unfinishedFrom + i) 0
 -- a station's entry in the waiting list goes
 unfoldable pub leaveB : ℕ → List ℕ → List ℕ
 leaveB i s =
-    set (set (set (clearTo (clearTo (set (setU64 (set s (wantFrom + i) 0) (arrivalFrom + i * ageWidth) 0) (requestFrom + i) 0) (readSetFrom i) 32) (writtenSetFrom i) 32)
+    set (set (set (clearTo (clearTo (set (setU64 (set s (wantFrom + i) 0) (arrivalFrom + i * ageWidth) 0) (requestFrom + i) 0) (readSetFrom i) setRow) (writtenSetFrom i) setRow)
     (calledFrom + i) 0) (pendFrom + i) 0) (busyFrom + i) 0
 
 -- "joins one waiting list by arrival": wanting k (1 a read, 2 a write, 3 a commit) at address a

@@ -11,11 +11,11 @@ use Rattle.station_state.specs.Changes.{clearTo}
 use Rattle.station_state.specs.Layout.{numberWidth}
 use Rattle.server_state.specs.declared.Aged.{Aged}
 use Rattle.server_state.specs.Ages.{agedOf}
-use Rattle.server_state.specs.Layout.{ageWidth, ageFrom, arrivalFrom, nextAgeFrom, nextArrivalFrom, workFrom, wantFrom, requestFrom, calledFrom, pendFrom, busyFrom, agesOf, readValuesFrom, writtenValuesFrom, arrivalsOf, readSetFrom, writtenSetFrom}
+use Rattle.server_state.specs.Layout.{ageWidth, setRow, ageFrom, arrivalFrom, nextAgeFrom, nextArrivalFrom, workFrom, wantFrom, requestFrom, calledFrom, pendFrom, busyFrom, agesOf, readValuesFrom, writtenValuesFrom, arrivalsOf, readSetFrom, writtenSetFrom}
 use Rattle.server_changes.specs.Changes.{leaveB, joinB, unpackTo, versionsIn, unpackB}
 
 pub leave-stores : (i : ℕ) (s : List ℕ) {s₁ s₂ s₃ s₄ s₅ s₆ s₇ s₈ : List ℕ} → s₁ ≡ set s (wantFrom + i) 0 → s₂ ≡ setU64 s₁ (arrivalFrom + i * ageWidth) 0 → s₃ ≡ set s₂ (requestFrom + i) 0
-    → s₄ ≡ clearTo s₃ (readSetFrom i) 32 → s₅ ≡ clearTo s₄ (writtenSetFrom i) 32
+    → s₄ ≡ clearTo s₃ (readSetFrom i) setRow → s₅ ≡ clearTo s₄ (writtenSetFrom i) setRow
     → s₆ ≡ set s₅ (calledFrom + i) 0 → s₇ ≡ set s₆ (pendFrom + i) 0 → s₈ ≡ set s₇ (busyFrom + i) 0 → s₈ ≡ leaveB i s
 unfolding leaveB
 leave-stores i s e₁ e₂ e₃ e₄ e₅ e₆ e₇ e₈ = rw (e₈, e₇, e₆, e₅, e₄, e₃, e₂, e₁)

@@ -26,7 +26,6 @@ use server_state::READ_SET;
 use server_state::READ_VALUE;
 use server_state::REQUEST;
 use server_state::SENT_VERSION;
-use server_state::SET_ROW;
 use server_state::UNFINISHED;
 use server_state::VALUE;
 use server_state::VALUE_ROW;
@@ -39,6 +38,7 @@ use server_state::WRITTEN_SET;
 use server_state::WRITTEN_VALUE;
 use station_state::NUMBER_WIDTH;
 use station_state::PAGE_SET_WIDTH;
+use station_state::SET_ROW;
 use station_state::VALUE_WIDTH;
 
 // The byte that names station i as a lock's holder: 0 is for none.

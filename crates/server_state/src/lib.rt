@@ -8,19 +8,18 @@ ghost use Rattle.server_state.specs.Valid.{mostAt, most as Valid·most, 
 ghost use Rattle.server_state.specs.Ages.{agedOf};
 use station_state::NUMBER_WIDTH;
 use station_state::PAGE_SET_WIDTH;
+use station_state::SET_ROW;
 use station_state::VALUE_WIDTH;
 
 // The width of an age or an arrival; what a station has too is as wide as there.
 pub const AGE_WIDTH: usize = 8;
 
-// The bytes of a row: a station's values by address, its versions by page, an object set for each page; of a page's eight values.
+// The bytes of a row: a station's values by address, its versions by page; of a page's eight values.
 pub const VALUE_ROW: usize = 256 * VALUE_WIDTH;
 
 pub const PAGE_ROW: usize = 8 * VALUE_WIDTH;
 
 pub const VERSION_ROW: usize = 32 * NUMBER_WIDTH;
-
-pub const SET_ROW: usize = 32;
 
 // Where each field stands: docs/STATE.md, "The server's state", in its order, each behind the field before it.
 pub const VALUE: usize = 0;

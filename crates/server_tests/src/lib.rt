@@ -25,7 +25,6 @@ use server_state::LOCK;
 use server_state::PEND;
 use server_state::READ_SET;
 use server_state::SENT_VERSION;
-use server_state::SET_ROW;
 use server_state::UNFINISHED;
 use server_state::VERSION;
 use server_state::VERSION_ROW;
@@ -34,6 +33,7 @@ use server_state::WHOLE;
 use server_state::WRITTEN_SET;
 use station_state::NUMBER_WIDTH;
 use station_state::PAGE_SET_WIDTH;
+use station_state::SET_ROW;
 
 // A byte as a number that compares with a station and finds a place.
 fn byte(s: &[u8], k: usize) -> usize

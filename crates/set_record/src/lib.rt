@@ -4,7 +4,7 @@ ghost use mathlib.Core.Bool.{cond};
 ghost use Prim.Native.Nat.{_+_, _*_, _≤_, _<_};
 ghost use lib.ListN.{length};
 ghost use Rattle.cells.specs.Loops.{rank};
-ghost use Rattle.station_state.specs.Layout.{member as Layout·member};
+ghost use Rattle.station_state.specs.Layout.{setRow, member as Layout·member};
 ghost use Rattle.set_record.specs.Record.{recordFrom, filled, recordFilled};
 ghost use Rattle.set_record.specs.Stores.{entryOne, entriesTo};
 ghost use Rattle.set_record.specs.Spans.{memberFrom, spanTo};
@@ -21,7 +21,7 @@ fn one_if(yes: bool) -> usize
 
 // How many addresses of page p the set from `at` has. A page without any is passed over at once.
 fn count_page(s: &[u8], at: usize, p: usize) -> usize
-    requires { ⌜ (at + 32 ≤ length (now s)) × (p < 32) ⌝ }
+    requires { ⌜ (at + setRow ≤ length (now s)) × (p < 32) ⌝ }
     ensures { λ r. ⌜ (r ≡ rank (memberFrom (now (s .entry)) at (p * 8)) 8) × (r ≤ 8) ⌝ }
 {
     if s[at + p] == 0 {
@@ -38,7 +38,7 @@ fn count_page(s: &[u8], at: usize, p: usize) -> usize
 
 // How many addresses the set from `at` has.
 fn count(s: &[u8], at: usize) -> usize
-    requires { ⌜ at + 32 ≤ length (now s) ⌝ }
+    requires { ⌜ at + setRow ≤ length (now s) ⌝ }
     ensures { λ r. ⌜ (r ≡ rank (Layout·member (now (s .entry)) at) 256) × (r ≤ 256) ⌝ }
 {
     let mut n: usize = 0;
@@ -61,7 +61,7 @@ fn put_entry(
     i: usize,
     a: usize,
 ) -> usize
-    requires { ⌜ (at + 32 ≤ length (now s)) × (values + 256 * valueLength ≤ length (now s)) × (base + longestRecord ≤ length (now out)) × (k ≤ 2 * mostEntries) × (i < 2 * mostEntries) × (a < 256) ⌝ }
+    requires { ⌜ (at + setRow ≤ length (now s)) × (values + 256 * valueLength ≤ length (now s)) × (base + longestRecord ≤ length (now out)) × (k ≤ 2 * mostEntries) × (i < 2 * mostEntries) × (a < 256) ⌝ }
     ensures { λ r. ⌜ filled (now (out .exit)) r ≡ filled (entryOne (now (out .entry)) (now (s .entry)) base at values k i a) (i + cond (Layout·member (now (s .entry)) at a) 1 0) ⌝ }
 {
     if station_state::member(s, at, a) {
@@ -87,7 +87,7 @@ fn put_page(
     i: usize,
     p: usize,
 ) -> usize
-    requires { ⌜ (at + 32 ≤ length (now s)) × (values + 256 * valueLength ≤ length (now s)) × (base + longestRecord ≤ length (now out)) × (k ≤ 2 * mostEntries) × (i + 8 ≤ 2 * mostEntries) × (p < 32) ⌝ }
+    requires { ⌜ (at + setRow ≤ length (now s)) × (values + 256 * valueLength ≤ length (now s)) × (base + longestRecord ≤ length (now out)) × (k ≤ 2 * mostEntries) × (i + 8 ≤ 2 * mostEntries) × (p < 32) ⌝ }
     ensures { λ r. ⌜ filled (now (out .exit)) r ≡ filled (spanTo (now (out .entry)) (now (s .entry)) base at values k i (p * 8) 8) (i + rank (memberFrom (now (s .entry)) at (p * 8)) 8) ⌝ }
 {
     if s[at + p] == 0 {
@@ -105,7 +105,7 @@ fn put_page(
 
 // Puts the addresses of the set from `at` with their values, from entry i of k on.
 fn put_entries(out: &mut [u8], s: &[u8], base: usize, at: usize, values: usize, k: usize, i: usize)
-    requires { ⌜ (at + 32 ≤ length (now s)) × (values + 256 * valueLength ≤ length (now s)) × (base + longestRecord ≤ length (now out)) × (k ≤ 2 * mostEntries) × (i ≤ mostEntries) ⌝ }
+    requires { ⌜ (at + setRow ≤ length (now s)) × (values + 256 * valueLength ≤ length (now s)) × (base + longestRecord ≤ length (now out)) × (k ≤ 2 * mostEntries) × (i ≤ mostEntries) ⌝ }
     ensures { λ _. ⌜ now (out .exit) ≡ entriesTo (now (out .entry)) (now (s .entry)) base at values k i 256 ⌝ }
 {
     let mut j = i;
@@ -131,7 +131,7 @@ pub fn put_record(
     station: u32,
     kind: u32,
 ) -> usize
-    requires { ⌜ (reads + 32 ≤ length (now s)) × («read_values» + 256 * valueLength ≤ length (now s)) × (writes + 32 ≤ length (now s)) × («written_values» + 256 * valueLength ≤ length (now s)) × (base + longestRecord ≤ length (now out)) × (station < 256) × (kind < 256) ⌝ }
+    requires { ⌜ (reads + setRow ≤ length (now s)) × («read_values» + 256 * valueLength ≤ length (now s)) × (writes + setRow ≤ length (now s)) × («written_values» + 256 * valueLength ≤ length (now s)) × (base + longestRecord ≤ length (now out)) × (station < 256) × (kind < 256) ⌝ }
     ensures { λ r. ⌜ (filled (now (out .exit)) r ≡ recordFilled (now (out .entry)) base (recordFrom (now (s .entry)) reads «read_values» writes «written_values» commit transaction station kind)) × (r ≤ longestRecord) ⌝ }
 {
     let n = count(s, reads);

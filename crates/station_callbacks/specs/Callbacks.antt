@@ -8,7 +8,7 @@ use lib.Seq.{sets}
 use lib.Dec.{eqb}
 use Rattle.sets.specs.Base.{snoc}
 use Rattle.message.specs.Layout.{messageLength, upMessage}
-use Rattle.station_state.specs.Layout.{keptOf, kind, namedFrom, writtenSetFrom}
+use Rattle.station_state.specs.Layout.{setRow, keptOf, kind, namedFrom, writtenSetFrom}
 use Rattle.station_state.specs.Changes.{unkeepB, closedB}
 use Rattle.station_pages.specs.Pages.{droppedB, dropPagesB, markB, writtenPagesB}
 
@@ -20,9 +20,9 @@ pub record Sends : Type 0 where
 abbrev pub sends : List ℕ → List (List ℕ) → Sends
 sends s m = record { state = s; sent = m }
 
--- 32 object sets by page, from `at`
+-- a row of object sets by page, from `at`
 abbrev pub setsAt : List ℕ → ℕ → List ℕ
-setsAt s at = take 32 (drop at s)
+setsAt s at = take setRow (drop at s)
 
 -- 7 done (requester, its transaction, and the set of dropped pages); i is the station's own number
 abbrev pub doneB : ℕ → ℕ → ℕ → ℕ → List ℕ

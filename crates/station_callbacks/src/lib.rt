@@ -4,29 +4,30 @@ ghost use Prim.Native.Nat.{_+_, _*_, _≤_, _<_};
 ghost use lib.ListN.{length};
 ghost use mathlib.Core.Logic.{_≢_};
 ghost use Rattle.station_callbacks.specs.Callbacks.{setsAt, notKeptB, undoB, posted, callbackPosted, keptPosted, keptPostedTo, closePosted};
-ghost use Rattle.station_state.specs.Layout.{stateLength};
+ghost use Rattle.station_state.specs.Layout.{setRow, stateLength};
 ghost use Rattle.message.specs.Layout.{messageLength};
 ghost use Rattle.message.specs.Commit.{stationRoom};
 use station_state::KEPT;
 use station_state::KIND;
 use station_state::NAMED;
 use station_state::NUMBER_WIDTH;
+use station_state::SET_ROW;
 use station_state::WRITTEN_SET;
 
 // Thirty-two object sets of a state, as a copy: the state changes while they are used.
 fn sets_at(s: &[u8], at: usize) -> [u8; 32]
-    requires { ⌜ at + 32 ≤ length (now s) ⌝ }
+    requires { ⌜ at + setRow ≤ length (now s) ⌝ }
     ensures { λ r. ⌜ r ≡ setsAt (now (s .entry)) at ⌝ }
 {
     let mut x = [0; 32];
-    let e = at + 32;
+    let e = at + SET_ROW;
     bytes::copy(&s[at..e], &mut x);
     x
 }
 
 // Marks, drops, and puts a 7 behind the n messages of `o`: how many there are then.
 pub fn do_callback(s: &mut [u8], o: &mut [u8], n: usize, i: u8, r: u8, t: u32, x: &[u8]) -> usize
-    requires { ⌜ (length (now s) ≡ stateLength) × (n * messageLength + messageLength ≤ length (now o)) × (32 ≤ length (now x)) ⌝ }
+    requires { ⌜ (length (now s) ≡ stateLength) × (n * messageLength + messageLength ≤ length (now o)) × (setRow ≤ length (now x)) ⌝ }
     ensures { λ k. ⌜ posted (now (s .exit)) (now (o .exit)) k ≡ callbackPosted i r t (now (x .entry)) (now (s .entry)) (now (o .entry)) n ⌝ }
 {
     let y = station_pages::dropped(x, s);
@@ -53,7 +54,7 @@ fn do_kept(s: &mut [u8], o: &mut [u8], n: usize, i: u8, r: u8) -> usize
         return n;
     }
     let t = le::get_u32(s, KEPT + r as usize * NUMBER_WIDTH);
-    let x = sets_at(s, NAMED + r as usize * 32);
+    let x = sets_at(s, NAMED + r as usize * SET_ROW);
     station_state::unkeep(s, r as usize);
     do_callback(s, o, n, i, r, t, &x)
 }

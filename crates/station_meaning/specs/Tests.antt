@@ -17,7 +17,7 @@ use Rattle.cells.specs.Sets.{test8, test32}
 use Rattle.cells.specs.Loops.{anyTo, any-to, any-same, mask-is, mask-lt}
 use Rattle.cells.specs.Pages.{page-any, page-join, page-meet, any-all}
 use Rattle.line.specs.Station.{Station, waiting, forRead, forWrite, forCommit, requested, usedAt, usedPage, wrotePage, drops, inUse, touched}
-use Rattle.station_state.specs.Layout.{waitingValueFrom, numberFrom, cachedFrom, wholeFrom, stationFrom, kindFrom, openFrom, waitFrom, addressFrom, copyFrom, readValueFrom, writtenValueFrom, keptFrom, versionFrom, valueWidth, numberWidth, copyCell, readValueCell, writtenValueCell, waitingValueCell, keptCell, versionCell, numberCell, cachedCell, wholeCell, unavailableCell, readSetCell, writtenSetCell, locksCell, namedCell, stationCell, kindCell, openCell, waitCell, addressCell, table, copyOf, readValue, writtenValue, waitingValue, keptOf, versionOf, number, cached, whole, readSet, writtenSet, unavailableFrom, readSetFrom, writtenSetFrom, locksFrom, namedFrom, station, kind, opened, wait, address, hasBit, member, requestedB}
+use Rattle.station_state.specs.Layout.{setRow, waitingValueFrom, numberFrom, cachedFrom, wholeFrom, stationFrom, kindFrom, openFrom, waitFrom, addressFrom, copyFrom, readValueFrom, writtenValueFrom, keptFrom, versionFrom, valueWidth, numberWidth, copyCell, readValueCell, writtenValueCell, waitingValueCell, keptCell, versionCell, numberCell, cachedCell, wholeCell, unavailableCell, readSetCell, writtenSetCell, locksCell, namedCell, stationCell, kindCell, openCell, waitCell, addressCell, table, copyOf, readValue, writtenValue, waitingValue, keptOf, versionOf, number, cached, whole, readSet, writtenSet, unavailableFrom, readSetFrom, writtenSetFrom, locksFrom, namedFrom, station, kind, opened, wait, address, hasBit, member, requestedB}
 use Rattle.station_pages.specs.Pages.{usedPageB, wrotePageB, usedPagesB, writtenPagesB, usesB, inUseB, touchesB, touchedB, dropsB, droppedB}
 use Rattle.station_meaning.specs.Meant.{within, valueIf, waitOf, keptIf, meant, Is, start}
 use Rattle.station_meaning.specs.Named.{named, named-at, named-is}
@@ -227,14 +227,14 @@ module _ {i : ℕ} {s : List ℕ} {m : Station} (h : Is i s m) where
   pub kept-lt : (r : ℕ) → r < 8 → keptOf s r < 2 ^ 32
   kept-lt r l = rw (kept-cell r l) (cell-lt (start h) keptCell r 0)
 
-  named-cells : (r : ℕ) → r < 8 → within (view table 0 s namedCell r) ≡ named (take 32 (drop (namedFrom r) s))
+  named-cells : (r : ℕ) → r < 8 → within (view table 0 s namedCell r) ≡ named (take setRow (drop (namedFrom r) s))
   named-cells r l =
-      named-is (view table 0 s namedCell r) (take 32 (drop (namedFrom r) s))
+      named-is (view table 0 s namedCell r) (take setRow (drop (namedFrom r) s))
       (λ j q.
-      sym (getD-take 32 (drop (namedFrom r) s) j 0 q ∙ getD-drop (namedFrom r) s j 0 ∙ get8 (start h) namedCell r j (namedFrom r + j) refl (omega arith) l q))
+      sym (getD-take setRow (drop (namedFrom r) s) j 0 q ∙ getD-drop (namedFrom r) s j 0 ∙ get8 (start h) namedCell r j (namedFrom r + j) refl (omega arith) l q))
       (λ j q. view-col table 0 s namedCell r j q)
 
-  pub kept-at : (r : ℕ) → r < 8 → m .kept r ≡ keptIf (keptOf s r) (named (take 32 (drop (namedFrom r) s)))
+  pub kept-at : (r : ℕ) → r < 8 → m .kept r ≡ keptIf (keptOf s r) (named (take setRow (drop (namedFrom r) s)))
   kept-at r l = sym (rw (kept-cell r l, ← named-cells r l) (ap (λ (n : Station). n .kept r) (h .is)))
 
   -- pages

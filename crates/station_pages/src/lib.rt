@@ -4,7 +4,7 @@ ghost use mathlib.Core.Bool.{cond};
 ghost use Prim.Native.Nat.{_+_, _*_, _≤_, _<_, _^_};
 ghost use lib.ListN.{length};
 ghost use Rattle.station_pages.specs.Pages.{usedPageB, wrotePageB, usedPagesB, writtenPagesB, usesB, inUseB, touchesB, touchedB, dropsB, droppedB, blankTo, dropPageB, dropOneB, dropPagesB, markOneB, markB, arrivesB, arriveTo, arriveB, versionOneB, versionsB};
-ghost use Rattle.station_state.specs.Layout.{stateLength};
+ghost use Rattle.station_state.specs.Layout.{setRow, stateLength};
 ghost use Rattle.message.specs.Layout.{messageLength};
 use station_state::CACHED;
 use station_state::COPY;
@@ -69,7 +69,7 @@ pub fn written_pages(s: &[u8]) -> u32
 }
 
 fn uses(sets: &[u8], s: &[u8], p: usize) -> bool
-    requires { ⌜ (length (now s) ≡ stateLength) × (32 ≤ length (now sets)) × (p < 32) ⌝ }
+    requires { ⌜ (length (now s) ≡ stateLength) × (setRow ≤ length (now sets)) × (p < 32) ⌝ }
     ensures { λ r. ⌜ r ≡ usesB (now (sets .entry)) (now (s .entry)) p ⌝ }
 {
     sets[p] & (s[READ_SET + p] | s[WRITTEN_SET + p]) != 0
@@ -77,7 +77,7 @@ fn uses(sets: &[u8], s: &[u8], p: usize) -> bool
 
 // Whether the transaction has read or written an object of these sets.
 pub fn in_use(sets: &[u8], s: &[u8]) -> bool
-    requires { ⌜ (length (now s) ≡ stateLength) × (32 ≤ length (now sets)) ⌝ }
+    requires { ⌜ (length (now s) ≡ stateLength) × (setRow ≤ length (now sets)) ⌝ }
     ensures { λ r. ⌜ r ≡ inUseB (now (sets .entry)) (now (s .entry)) ⌝ }
 {
     let mut r = false;
@@ -111,7 +111,7 @@ pub fn touched(d: u32, s: &[u8]) -> bool
 }
 
 fn drops(sets: &[u8], s: &[u8], p: usize) -> bool
-    requires { ⌜ (length (now s) ≡ stateLength) × (32 ≤ length (now sets)) × (p < 32) ⌝ }
+    requires { ⌜ (length (now s) ≡ stateLength) × (setRow ≤ length (now sets)) × (p < 32) ⌝ }
     ensures { λ r. ⌜ r ≡ dropsB (now (sets .entry)) (now (s .entry)) p ⌝ }
 {
     station_state::has_bit32(le::get_u32(s, CACHED), p)
@@ -122,7 +122,7 @@ fn drops(sets: &[u8], s: &[u8], p: usize) -> bool
 
 // The pages that a callback of these sets drops.
 pub fn dropped(sets: &[u8], s: &[u8]) -> u32
-    requires { ⌜ (length (now s) ≡ stateLength) × (32 ≤ length (now sets)) ⌝ }
+    requires { ⌜ (length (now s) ≡ stateLength) × (setRow ≤ length (now sets)) ⌝ }
     ensures { λ r. ⌜ r ≡ droppedB (now (sets .entry)) (now (s .entry)) ⌝ }
 {
     let mut d: u32 = 0;
@@ -180,7 +180,7 @@ pub fn drop_pages(s: &mut [u8], d: u32)
 }
 
 fn mark_one(s: &mut [u8], sets: &[u8], p: usize)
-    requires { ⌜ (length (now s) ≡ stateLength) × (32 ≤ length (now sets)) × (p < 32) ⌝ }
+    requires { ⌜ (length (now s) ≡ stateLength) × (setRow ≤ length (now sets)) × (p < 32) ⌝ }
     ensures { λ _. ⌜ now (s .exit) ≡ markOneB (now (sets .entry)) (now (s .entry)) p ⌝ }
 {
     if station_state::has_bit32(le::get_u32(s, CACHED), p) {
@@ -192,7 +192,7 @@ fn mark_one(s: &mut [u8], sets: &[u8], p: usize)
 
 // Marks the objects of these sets unavailable on the cached pages.
 pub fn mark(s: &mut [u8], sets: &[u8])
-    requires { ⌜ (length (now s) ≡ stateLength) × (32 ≤ length (now sets)) ⌝ }
+    requires { ⌜ (length (now s) ≡ stateLength) × (setRow ≤ length (now sets)) ⌝ }
     ensures { λ _. ⌜ now (s .exit) ≡ markB (now (sets .entry)) (now (s .entry)) ⌝ }
 {
     let mut p = 0;

@@ -5,7 +5,7 @@ use mathlib.Core.Bool.{Bool}
 use lib.ListN.{getD, set}
 use lib.Bits.{bitAnd, bitOr}
 use Rattle.le.specs.Le.{u32At, setU32, setU64}
-use Rattle.station_state.specs.Layout.{waitingValueFrom, numberFrom, wholeFrom, openFrom, waitFrom, addressFrom, copyFrom, readValueFrom, writtenValueFrom, keptFrom, valueWidth, numberWidth, copyOf, number, locks, writtenSet, readSetFrom, writtenSetFrom, locksFrom, namedFrom}
+use Rattle.station_state.specs.Layout.{setRow, waitingValueFrom, numberFrom, wholeFrom, openFrom, waitFrom, addressFrom, copyFrom, readValueFrom, writtenValueFrom, keptFrom, valueWidth, numberWidth, copyOf, number, locks, writtenSet, readSetFrom, writtenSetFrom, locksFrom, namedFrom}
 
 -- address a joins the object sets from `at`
 unfoldable pub addTo : List ℕ → ℕ → ℕ → List ℕ
@@ -57,7 +57,7 @@ loosenB p s = pageOff (set s (locksFrom + p) (bitOr (locks s p) (writtenSet s p)
 
 -- "keep the callback, a newer one from that requester replacing it"
 unfoldable pub keepB : ℕ → ℕ → List ℕ → List ℕ → List ℕ
-keepB r t sets s = setU32 (copyTo s (namedFrom r) sets 32) (keptFrom + r * numberWidth) t
+keepB r t sets s = setU32 (copyTo s (namedFrom r) sets setRow) (keptFrom + r * numberWidth) t
 
 unfoldable pub unkeepB : ℕ → List ℕ → List ℕ
 unkeepB r s = setU32 s (keptFrom + r * numberWidth) 0
@@ -65,4 +65,4 @@ unkeepB r s = setU32 s (keptFrom + r * numberWidth) 0
 -- the transaction's end: no lock, no read, no write, nothing out, nothing open
 unfoldable pub closedB : List ℕ → List ℕ
 closedB s =
-    set (idleB (clearTo (clearTo (clearTo (setU32 s wholeFrom 0) locksFrom 32) writtenSetFrom 32) readSetFrom 32)) openFrom 0
+    set (idleB (clearTo (clearTo (clearTo (setU32 s wholeFrom 0) locksFrom setRow) writtenSetFrom setRow) readSetFrom setRow)) openFrom 0

@@ -18,6 +18,10 @@ numberWidth = 4
 abbrev pub pageSetWidth : ℕ
 pageSetWidth = 4
 
+-- the bytes of a row of object sets, one for each page
+abbrev pub setRow : ℕ
+setRow = 32
+
 -- PLACES, each behind the field before it
 abbrev pub copyFrom : ℕ
 copyFrom = 0
@@ -50,17 +54,17 @@ abbrev pub unavailableFrom : ℕ
 unavailableFrom = wholeFrom + pageSetWidth
 
 abbrev pub readSetFrom : ℕ
-readSetFrom = unavailableFrom + 32
+readSetFrom = unavailableFrom + setRow
 
 abbrev pub writtenSetFrom : ℕ
-writtenSetFrom = readSetFrom + 32
+writtenSetFrom = readSetFrom + setRow
 
 abbrev pub locksFrom : ℕ
-locksFrom = writtenSetFrom + 32
+locksFrom = writtenSetFrom + setRow
 
 -- by requester
 abbrev pub namedFrom : ℕ → ℕ
-namedFrom r = locksFrom + 32 + r * 32
+namedFrom r = locksFrom + setRow + r * setRow
 
 abbrev pub stationFrom : ℕ
 stationFrom = namedFrom 8
@@ -230,7 +234,7 @@ hasBit x k = not (eqb (bitAnd x (2 ^ k)) 0)
 unfoldable pub member : List ℕ → ℕ → ℕ → Bool
 member s at a = hasBit (getD s (at + a / 8) 0) (a % 8)
 
--- the object sets from `at` have nothing: 32 bytes, eight at a time
+-- the object sets from `at` have nothing: a row's bytes, eight at a time
 unfoldable pub noneIn : List ℕ → ℕ → Bool
 noneIn s at = eqb (u64At s at) 0 && eqb (u64At s (at + 8)) 0 && eqb (u64At s (at + 16)) 0 && eqb (u64At s (at + 24)) 0
 

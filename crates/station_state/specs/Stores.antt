@@ -4,7 +4,7 @@ use mathlib.Core.Path.{_≡_, ap, _∙_}
 use mathlib.Core.List.{List}
 use lib.ListN.{length, set, replicate}
 use Rattle.le.specs.Le.{setU32}
-use Rattle.station_state.specs.Layout.{wholeFrom, stationFrom, kindFrom, openFrom, stateLength, readSetFrom, writtenSetFrom, locksFrom}
+use Rattle.station_state.specs.Layout.{setRow, wholeFrom, stationFrom, kindFrom, openFrom, stateLength, readSetFrom, writtenSetFrom, locksFrom}
 use Rattle.station_state.specs.Valid.{freshState}
 use Rattle.station_state.specs.Changes.{clearTo, idleB, closedB}
 
@@ -14,6 +14,6 @@ unfolding freshState
 fresh-stores st k s h ez et eu =
     eu ∙ ap (λ (l : List ℕ). set l kindFrom k) (et ∙ ap (λ (l : List ℕ). set l stationFrom st) (ez ∙ ap (λ (n : ℕ). replicate n 0) h))
 
-pub closed-stores : (s : List ℕ) {s₁ s₂ s₃ s₄ s₅ s₆ : List ℕ} → s₁ ≡ setU32 s wholeFrom 0 → s₂ ≡ clearTo s₁ locksFrom 32 → s₃ ≡ clearTo s₂ writtenSetFrom 32 → s₄ ≡ clearTo s₃ readSetFrom 32 → s₅ ≡ idleB s₄ → s₆ ≡ set s₅ openFrom 0 → s₆ ≡ closedB s
+pub closed-stores : (s : List ℕ) {s₁ s₂ s₃ s₄ s₅ s₆ : List ℕ} → s₁ ≡ setU32 s wholeFrom 0 → s₂ ≡ clearTo s₁ locksFrom setRow → s₃ ≡ clearTo s₂ writtenSetFrom setRow → s₄ ≡ clearTo s₃ readSetFrom setRow → s₅ ≡ idleB s₄ → s₆ ≡ set s₅ openFrom 0 → s₆ ≡ closedB s
 unfolding closedB
 closed-stores s e₁ e₂ e₃ e₄ e₅ e₆ = rw (e₆, e₅, e₄, e₃, e₂, e₁)

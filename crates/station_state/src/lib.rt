@@ -3,7 +3,7 @@
 ghost use mathlib.Core.Path.{_≡_};
 ghost use Prim.Native.Nat.{_+_, _^_, _≤_, _<_};
 ghost use lib.ListN.{length, replicate};
-ghost use Rattle.station_state.specs.Layout.{stateLength, station as Layout·station, number, hasBit, member as Layout·member, noneIn, requestedB};
+ghost use Rattle.station_state.specs.Layout.{pageSetWidth, setRow, stateLength, station as Layout·station, number, hasBit, member as Layout·member, noneIn, requestedB};
 ghost use Rattle.station_state.specs.Valid.{fieldsOk, ownKept, closedOk, firstOk, worksOk, locklessOk, holdsOk, valid as Valid·valid, freshened, freshOf};
 ghost use Rattle.station_state.specs.Changes.{addTo, pageOn, pageOff, clearTo, copyTo, beginB, recordReadB, writeLocalB, idleB, forReadB, forWriteB, forCommitB, loosenB, keepB, unkeepB, closedB};
 
@@ -13,6 +13,9 @@ pub const VALUE_WIDTH: usize = 8;
 pub const NUMBER_WIDTH: usize = 4;
 
 pub const PAGE_SET_WIDTH: usize = 4;
+
+// The bytes of a row of object sets, one for each page.
+pub const SET_ROW: usize = 32;
 
 // Places, each behind the field before it.
 pub const COPY: usize = 0;
@@ -35,15 +38,15 @@ pub const WHOLE: usize = CACHED + PAGE_SET_WIDTH;
 
 pub const UNAVAILABLE: usize = WHOLE + PAGE_SET_WIDTH;
 
-pub const READ_SET: usize = UNAVAILABLE + 32;
+pub const READ_SET: usize = UNAVAILABLE + SET_ROW;
 
-pub const WRITTEN_SET: usize = READ_SET + 32;
+pub const WRITTEN_SET: usize = READ_SET + SET_ROW;
 
-pub const LOCKS: usize = WRITTEN_SET + 32;
+pub const LOCKS: usize = WRITTEN_SET + SET_ROW;
 
-pub const NAMED: usize = LOCKS + 32;
+pub const NAMED: usize = LOCKS + SET_ROW;
 
-pub const STATION: usize = NAMED + 8 * 32;
+pub const STATION: usize = NAMED + 8 * SET_ROW;
 
 pub const KIND: usize = STATION + 1;
 
@@ -85,7 +88,7 @@ pub fn has_bit32(x: u32, k: usize) -> bool
 
 // Whether the object sets from `at` have the address a.
 pub fn member(s: &[u8], at: usize, a: usize) -> bool
-    requires { ⌜ (at + 32 ≤ length (now s)) × (a < 256) ⌝ }
+    requires { ⌜ (at + setRow ≤ length (now s)) × (a < 256) ⌝ }
     ensures { λ r. ⌜ r ≡ Layout·member (now (s .entry)) at a ⌝ }
 {
     has_bit8(s[at + a / 8], a % 8)
@@ -93,7 +96,7 @@ pub fn member(s: &[u8], at: usize, a: usize) -> bool
 
 // Whether the object sets from `at` have nothing. Eight at a time, and no further than the first that has something.
 pub fn none_in(s: &[u8], at: usize) -> bool
-    requires { ⌜ at + 32 ≤ length (now s) ⌝ }
+    requires { ⌜ at + setRow ≤ length (now s) ⌝ }
     ensures { λ r. ⌜ r ≡ noneIn (now (s .entry)) at ⌝ }
 {
     if le::get_u64(s, at) != 0 {
@@ -241,7 +244,7 @@ pub fn fresh(station: u32, kind: u32, s: &mut [u8]) -> u32
 
 // The address a joins the object sets from `at`.
 pub fn add_to(s: &mut [u8], at: usize, a: usize)
-    requires { ⌜ (at + 32 ≤ length (now s)) × (a < 256) ⌝ }
+    requires { ⌜ (at + setRow ≤ length (now s)) × (a < 256) ⌝ }
     ensures { λ _. ⌜ now (s .exit) ≡ addTo (now (s .entry)) at a ⌝ }
 {
     let x = s[at + a / 8] | bit8(a % 8);
@@ -250,7 +253,7 @@ pub fn add_to(s: &mut [u8], at: usize, a: usize)
 
 // Page p joins the page set at `at`.
 pub fn page_on(s: &mut [u8], at: usize, p: usize)
-    requires { ⌜ (at + 4 ≤ length (now s)) × (p < 32) ⌝ }
+    requires { ⌜ (at + pageSetWidth ≤ length (now s)) × (p < 32) ⌝ }
     ensures { λ _. ⌜ now (s .exit) ≡ pageOn (now (s .entry)) at p ⌝ }
 {
     let x = le::get_u32(s, at);
@@ -259,7 +262,7 @@ pub fn page_on(s: &mut [u8], at: usize, p: usize)
 
 // Page p leaves the page set at `at`.
 pub fn page_off(s: &mut [u8], at: usize, p: usize)
-    requires { ⌜ (at + 4 ≤ length (now s)) × (p < 32) ⌝ }
+    requires { ⌜ (at + pageSetWidth ≤ length (now s)) × (p < 32) ⌝ }
     ensures { λ _. ⌜ now (s .exit) ≡ pageOff (now (s .entry)) at p ⌝ }
 {
     let x = le::get_u32(s, at);
@@ -268,11 +271,11 @@ pub fn page_off(s: &mut [u8], at: usize, p: usize)
 
 // The object sets from `at` are empty.
 pub fn clear(s: &mut [u8], at: usize)
-    requires { ⌜ at + 32 ≤ length (now s) ⌝ }
-    ensures { λ _. ⌜ now (s .exit) ≡ clearTo (now (s .entry)) at 32 ⌝ }
+    requires { ⌜ at + setRow ≤ length (now s) ⌝ }
+    ensures { λ _. ⌜ now (s .exit) ≡ clearTo (now (s .entry)) at setRow ⌝ }
 {
     let mut i = 0;
-    while i < 32 {
+    while i < SET_ROW {
         s[at + i] = 0;
         i += 1;
     }
@@ -280,11 +283,11 @@ pub fn clear(s: &mut [u8], at: usize)
 
 // The object sets from `at` are those of `sets`.
 pub fn copy_sets(s: &mut [u8], at: usize, sets: &[u8])
-    requires { ⌜ (at + 32 ≤ length (now s)) × (32 ≤ length (now sets)) ⌝ }
-    ensures { λ _. ⌜ now (s .exit) ≡ copyTo (now (s .entry)) at (now (sets .entry)) 32 ⌝ }
+    requires { ⌜ (at + setRow ≤ length (now s)) × (setRow ≤ length (now sets)) ⌝ }
+    ensures { λ _. ⌜ now (s .exit) ≡ copyTo (now (s .entry)) at (now (sets .entry)) setRow ⌝ }
 {
     let mut i = 0;
-    while i < 32 {
+    while i < SET_ROW {
         s[at + i] = sets[i];
         i += 1;
     }
@@ -367,10 +370,10 @@ pub fn loosen(s: &mut [u8], p: usize)
 
 // The callback of r's transaction t, which names `sets`, is kept in the place of an older one.
 pub fn keep(s: &mut [u8], r: usize, t: u32, sets: &[u8])
-    requires { ⌜ (length (now s) ≡ stateLength) × (r < 8) × (32 ≤ length (now sets)) ⌝ }
+    requires { ⌜ (length (now s) ≡ stateLength) × (r < 8) × (setRow ≤ length (now sets)) ⌝ }
     ensures { λ _. ⌜ now (s .exit) ≡ keepB r t (now (sets .entry)) (now (s .entry)) ⌝ }
 {
-    copy_sets(s, NAMED + r * 32, sets);
+    copy_sets(s, NAMED + r * SET_ROW, sets);
     le::put_u32(s, KEPT + r * NUMBER_WIDTH, t);
 }
 

@@ -1,4 +1,5 @@
 -- `station_state::clear` meets its contract. The loop's invariant: the state is the definition's at the count of sets passed.
+use Rattle.station_state.specs.Layout.{setRow}
 use Rattle.station_state.specs.Changes.{clearTo}
 use Prim.Native.Nat.{_≤_, _-_}
 use mathlib.Core.Path.{_≡_, ap, _∙_}
@@ -10,10 +11,10 @@ use Rattle.station_state.proofs.clear.Statement.{statement}
 use Rattle.station_state.proofs.clear.Tie as tie
 
 abbrev Inv-loop : tie.InvT-loop
-Inv-loop s₀ at i₀ s i = (i ≤ 32) × (length s ≡ length s₀) × (s ≡ clearTo s₀ at i)
+Inv-loop s₀ at i₀ s i = (i ≤ setRow) × (length s ≡ length s₀) × (s ≡ clearTo s₀ at i)
 
 abbrev μ-loop : tie.MeasureT-loop
-μ-loop s₀ at i₀ s i = 32 - i
+μ-loop s₀ at i₀ s i = setRow - i
 
 loop-holds : tie.Need-loop-holds Inv-loop μ-loop
 unfolding clearTo
