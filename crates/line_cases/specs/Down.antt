@@ -11,7 +11,8 @@ use Rattle.sets.specs.Base.{table}
 use Rattle.sets.specs.Laws.{byEq, eqb-yes, eqb-no, eqb-same}
 use Rattle.line.specs.Messages.{address, NoLock, ObjectLock, WholeLock, Down, Deescalate, Callback, Committed, Aborted, Invalidate, Sent, To}
 use Rattle.line.specs.Fields.{oneSet, objectSet, downFields}
-use Rattle.message.specs.Layout.{pageFrom, objectFrom, transactionFrom, pagesFrom, versionFrom, setsFrom, valuesFrom, valuesLength, messageLength, kindOf, stationOf, pageOf, requesterOf, objectOf, causeOf, transactionOf, pagesOf, versionOf, setOf, valueOf}
+use Rattle.layout.specs.Record.{valueLength}
+use Rattle.message.specs.Layout.{pageFrom, objectFrom, transactionFrom, pagesFrom, versionFrom, setsFrom, setsLength, valuesFrom, valuesLength, messageLength, kindOf, stationOf, pageOf, requesterOf, objectOf, causeOf, transactionOf, pagesOf, versionOf, setOf, valueOf}
 use Rattle.message.specs.Accepted.{PageFields, DeescalateFields, CallbackFields, CommittedFields, AbortedFields, InvalidateFields, DownAccepted, down-accepted}
 use Rattle.message_meaning.specs.Meant.{objectsOn, objectsIn, pagesIn, setsOf, valuesOn, pageAt, downOf}
 use Rattle.message_meaning.specs.Kinds.{down-16, down-17, down-18, down-19, down-20, down-21, down-22, down-23, sets-at}
@@ -46,31 +47,31 @@ module _ (i : ℕ) (m : List ℕ) (hm : Bytes m) (hl : length m ≡ messageLengt
     object-is = omega (arith, f .object-is)
 
     set-is : setsOf m ≡ oneSet (objectSet (objectsOn (pageOf m) (setOf m 0)) (a / 8))
-    set-is = one-set m (omega arith) (f .unnamed-17) ∙ ap oneSet (sym (set-of-page (pageOf m) (setOf m 0) (byte-at m setsFrom hm)) ∙ ap (objectSet (objectsOn (pageOf m) (setOf m 0))) page-is)
+    set-is = one-set m (omega arith) (f .unnamed-other-sets) ∙ ap oneSet (sym (set-of-page (pageOf m) (setOf m 0) (byte-at m setsFrom hm)) ∙ ap (objectSet (objectsOn (pageOf m) (setOf m 0))) page-is)
 
-    values-are : drop valuesFrom m ≡ words 8 (table 8 (address (a / 8) 0) (valuesOn (pageOf m) m)) ++ []
+    values-are : drop valuesFrom m ≡ words valueLength (table 8 (address (a / 8) 0) (valuesOn (pageOf m) m)) ++ []
     values-are =
         sym (values-written m hm hl)
-        ∙ sym (words-table 8 8 0 (valueOf m))
-        ∙ ap (words 8) (sym (values-of-page (pageOf m) m 8 0 (omega arith)) ∙ ap (λ (p : ℕ). table 8 (address p 0) (valuesOn (pageOf m) m)) page-is)
-        ∙ sym (append-nil (words 8 (table 8 (address (a / 8) 0) (valuesOn (pageOf m) m))))
+        ∙ sym (words-table valueLength 8 0 (valueOf m))
+        ∙ ap (words valueLength) (sym (values-of-page (pageOf m) m 8 0 (omega arith)) ∙ ap (λ (p : ℕ). table 8 (address p 0) (valuesOn (pageOf m) m)) page-is)
+        ∙ sym (append-nil (words valueLength (table 8 (address (a / 8) 0) (valuesOn (pageOf m) m))))
 
   bytes-16 : kindOf m ≡ 16 → PageFields m → m ≡ wire (downFields (To i (pageAt NoLock m)))
   unfolding pageAt
-  bytes-16 e f = made m hm (omega arith) e own (page-is f) (object-is f) refl (zero-32 m pagesFrom (f .unnamed-8)) refl (set-is f) (values-are f)
+  bytes-16 e f = made m hm (omega arith) e own (page-is f) (object-is f) refl (zero-32 m pagesFrom (f .unnamed-pages)) refl (set-is f) (values-are f)
 
   bytes-17 : kindOf m ≡ 17 → PageFields m → m ≡ wire (downFields (To i (pageAt ObjectLock m)))
   unfolding pageAt
-  bytes-17 e f = made m hm (omega arith) e own (page-is f) (object-is f) refl (zero-32 m pagesFrom (f .unnamed-8)) refl (set-is f) (values-are f)
+  bytes-17 e f = made m hm (omega arith) e own (page-is f) (object-is f) refl (zero-32 m pagesFrom (f .unnamed-pages)) refl (set-is f) (values-are f)
 
   bytes-18 : kindOf m ≡ 18 → PageFields m → m ≡ wire (downFields (To i (pageAt WholeLock m)))
   unfolding pageAt
-  bytes-18 e f = made m hm (omega arith) e own (page-is f) (object-is f) refl (zero-32 m pagesFrom (f .unnamed-8)) refl (set-is f) (values-are f)
+  bytes-18 e f = made m hm (omega arith) e own (page-is f) (object-is f) refl (zero-32 m pagesFrom (f .unnamed-pages)) refl (set-is f) (values-are f)
 
   bytes-19 : kindOf m ≡ 19 → DeescalateFields m → m ≡ wire (downFields (To i (Deescalate (pageOf m) (transactionOf m))))
   bytes-19 e f =
-      let r = none-from-pages m hl (f .unnamed-8) in
-      made m hm (omega arith) e own refl (zero-at m objectFrom 1 (f .unnamed-3) (omega arith)) refl (r .0) (r .1) (r .2) (r .3)
+      let r = none-from-pages m hl (f .unnamed-pages) in
+      made m hm (omega arith) e own refl (zero-at m objectFrom 1 (f .unnamed-object) (omega arith)) refl (r .0) (r .1) (r .2) (r .3)
 
   -- "object sets by page"
   sets-back : table 32 0 (objectSet (objectsIn (setsOf m))) ≡ setsOf m
@@ -87,25 +88,25 @@ module _ (i : ℕ) (m : List ℕ) (hm : Bytes m) (hl : length m ≡ messageLengt
 
   bytes-20 : kindOf m ≡ 20 → CallbackFields i m → m ≡ wire (downFields (To i (Callback (requesterOf m) (transactionOf m) (objectsIn (setsOf m)))))
   bytes-20 e f =
-      made m hm (omega arith) e own refl (zero-at m objectFrom 1 (f .unnamed-3) (omega arith)) refl (zero-32 m pagesFrom (inside m pagesFrom (setsFrom - pagesFrom) pagesFrom 4 (f .unnamed-8) (omega arith) (omega arith)))
-      (zero-32 m versionFrom (inside m pagesFrom (setsFrom - pagesFrom) versionFrom 4 (f .unnamed-8) (omega arith) (omega arith))) (sym sets-back) (no-values m hl (f .unnamed-48))
+      made m hm (omega arith) e own refl (zero-at m objectFrom 1 (f .unnamed-object) (omega arith)) refl (zero-32 m pagesFrom (inside m pagesFrom (setsFrom - pagesFrom) pagesFrom 4 (f .unnamed-pages) (omega arith) (omega arith)))
+      (zero-32 m versionFrom (inside m pagesFrom (setsFrom - pagesFrom) versionFrom 4 (f .unnamed-pages) (omega arith) (omega arith))) (sym sets-back) (no-values m hl (f .unnamed-values))
 
   bytes-21 : kindOf m ≡ 21 → CommittedFields m → m ≡ wire (downFields (To i (Committed (transactionOf m) (versionOf m))))
   bytes-21 e f =
-      made m hm (omega arith) e own (zero-at m pageFrom (transactionFrom - pageFrom) (f .unnamed-2) (omega arith)) (zero-at m objectFrom 1 (inside m pageFrom (transactionFrom - pageFrom) objectFrom 1 (f .unnamed-2) (omega arith) (omega arith)) (omega arith)) refl
-      (zero-32 m pagesFrom (f .unnamed-8)) refl (no-sets m (omega arith) (inside m setsFrom (messageLength - setsFrom) setsFrom 32 (f .unnamed-16) (omega arith) (omega arith))) (no-values m hl (inside m setsFrom (messageLength - setsFrom) valuesFrom valuesLength (f .unnamed-16) (omega arith) (omega arith)))
+      made m hm (omega arith) e own (zero-at m pageFrom (transactionFrom - pageFrom) (f .unnamed-page) (omega arith)) (zero-at m objectFrom 1 (inside m pageFrom (transactionFrom - pageFrom) objectFrom 1 (f .unnamed-page) (omega arith) (omega arith)) (omega arith)) refl
+      (zero-32 m pagesFrom (f .unnamed-pages)) refl (no-sets m (omega arith) (inside m setsFrom (messageLength - setsFrom) setsFrom setsLength (f .unnamed-sets) (omega arith) (omega arith))) (no-values m hl (inside m setsFrom (messageLength - setsFrom) valuesFrom valuesLength (f .unnamed-sets) (omega arith) (omega arith)))
 
   bytes-22 : kindOf m ≡ 22 → AbortedFields m → m ≡ wire (downFields (To i (Aborted (transactionOf m) (causeOf m))))
   bytes-22 e f =
-      let r = none-from-pages m hl (f .unnamed-8) in
-      made m hm (omega arith) e own (zero-at m pageFrom 1 (f .unnamed-2) (omega arith)) refl refl (r .0) (r .1) (r .2) (r .3)
+      let r = none-from-pages m hl (f .unnamed-pages) in
+      made m hm (omega arith) e own (zero-at m pageFrom 1 (f .unnamed-page) (omega arith)) refl refl (r .0) (r .1) (r .2) (r .3)
 
   bytes-23 : kindOf m ≡ 23 → InvalidateFields m → m ≡ wire (downFields (To i (Invalidate (pagesIn (pagesOf m)))))
   bytes-23 e f =
-      let z = f .unnamed-12 in
-      made m hm (omega arith) e own (zero-at m pageFrom (pagesFrom - pageFrom) (f .unnamed-2) (omega arith)) (zero-at m objectFrom 1 (inside m pageFrom (pagesFrom - pageFrom) objectFrom 1 (f .unnamed-2) (omega arith) (omega arith)) (omega arith))
-      (zero-32 m transactionFrom (inside m pageFrom (pagesFrom - pageFrom) transactionFrom 4 (f .unnamed-2) (omega arith) (omega arith))) (sym (pages-back m hm)) (zero-32 m versionFrom (inside m versionFrom (messageLength - versionFrom) versionFrom 4 z (omega arith) (omega arith)))
-      (no-sets m (omega arith) (inside m versionFrom (messageLength - versionFrom) setsFrom 32 z (omega arith) (omega arith))) (no-values m hl (inside m versionFrom (messageLength - versionFrom) valuesFrom valuesLength z (omega arith) (omega arith)))
+      let z = f .unnamed-version in
+      made m hm (omega arith) e own (zero-at m pageFrom (pagesFrom - pageFrom) (f .unnamed-page) (omega arith)) (zero-at m objectFrom 1 (inside m pageFrom (pagesFrom - pageFrom) objectFrom 1 (f .unnamed-page) (omega arith) (omega arith)) (omega arith))
+      (zero-32 m transactionFrom (inside m pageFrom (pagesFrom - pageFrom) transactionFrom 4 (f .unnamed-page) (omega arith) (omega arith))) (sym (pages-back m hm)) (zero-32 m versionFrom (inside m versionFrom (messageLength - versionFrom) versionFrom 4 z (omega arith) (omega arith)))
+      (no-sets m (omega arith) (inside m versionFrom (messageLength - versionFrom) setsFrom setsLength z (omega arith) (omega arith))) (no-values m hl (inside m versionFrom (messageLength - versionFrom) valuesFrom valuesLength z (omega arith) (omega arith)))
 
   -- every kind that a station takes
   written : DownAccepted i m → m ≡ wire (downFields (To i (downOf m)))

@@ -14,10 +14,11 @@ use Rattle.sets.specs.Laws.{byEq, eqb-yes, eqb-no, eqb-same}
 use Rattle.le.specs.Le.{u32At}
 use Rattle.le.specs.Width.{bytes, bytes-numAt}
 use Rattle.le.specs.Laws.{u32At-is}
+use Rattle.layout.specs.Record.{valueLength}
 use Rattle.cells.specs.Bits.{tb}
 use Rattle.line.specs.Messages.{address}
 use Rattle.line.specs.Fields.{oneSet, noSets, noValues, bitsFrom, objectSet, pageSet}
-use Rattle.message.specs.Layout.{kindFrom, stationFrom, pageFrom, objectFrom, transactionFrom, pagesFrom, versionFrom, setsFrom, secondSet, valuesFrom, valuesLength, messageLength, kindOf, stationOf, pageOf, objectOf, transactionOf, pagesOf, versionOf, setOf, message}
+use Rattle.message.specs.Layout.{kindFrom, stationFrom, pageFrom, objectFrom, transactionFrom, pagesFrom, versionFrom, setsFrom, setsLength, secondSet, valuesFrom, valuesLength, messageLength, kindOf, stationOf, pageOf, objectOf, transactionOf, pagesOf, versionOf, setOf, message}
 use Rattle.message.specs.Accepted.{Zero, fields-fit}
 use Rattle.message_meaning.specs.Meant.{objectsOn, pagesIn, setsOf}
 use Rattle.message_meaning.specs.Numbers.{numbers}
@@ -41,7 +42,7 @@ module _ (m : List ℕ) (hm : Bytes m) (hl : valuesFrom ≤ length m) where
         bytes-numAt 4 m transactionFrom hm (omega arith),
         bytes-numAt 4 m pagesFrom hm (omega arith),
         bytes-numAt 4 m versionFrom hm (omega arith),
-        part-rest 32 setsFrom valuesFrom m refl,
+        part-rest setsLength setsFrom valuesFrom m refl,
         part-rest 4 versionFrom setsFrom m refl,
         part-rest 4 pagesFrom versionFrom m refl,
         part-rest 4 transactionFrom pagesFrom m refl,
@@ -123,7 +124,7 @@ words-table w (suc n) j f = rw (words-table w n (suc j) f)
 
 -- WHAT STANDS BEHIND THE FIRST SET
 
-pub zero-values : replicate valuesLength 0 ≡ words 8 noValues ++ []
+pub zero-values : replicate valuesLength 0 ≡ words valueLength noValues ++ []
 unfolding bytes
 zero-values = refl
 
@@ -132,18 +133,18 @@ module _ (m : List ℕ) (hl : valuesFrom ≤ length m) where
   pub one-set : Zero m secondSet (valuesFrom - secondSet) → setsOf m ≡ oneSet (setOf m 0)
   one-set z = rw (drop-cons m setsFrom 0 (omega arith), zero-part m secondSet (valuesFrom - secondSet) z (omega arith))
 
-  pub no-sets : Zero m setsFrom 32 → setsOf m ≡ noSets
-  no-sets z = zero-part m setsFrom 32 z (omega arith)
+  pub no-sets : Zero m setsFrom setsLength → setsOf m ≡ noSets
+  no-sets z = zero-part m setsFrom setsLength z (omega arith)
 
 module _ (m : List ℕ) (hl : length m ≡ messageLength) where
-  pub no-values : Zero m valuesFrom valuesLength → drop valuesFrom m ≡ words 8 noValues ++ []
+  pub no-values : Zero m valuesFrom valuesLength → drop valuesFrom m ≡ words valueLength noValues ++ []
   no-values z = sym (take-all valuesLength (drop valuesFrom m) (rw length-drop (omega arith))) ∙ zero-part m valuesFrom valuesLength z (omega arith) ∙ zero-values
 
   -- from the page set on there is nothing
-  pub none-from-pages : Zero m pagesFrom (messageLength - pagesFrom) → (pagesOf m ≡ 0) × (versionOf m ≡ 0) × (setsOf m ≡ noSets) × (drop valuesFrom m ≡ words 8 noValues ++ [])
+  pub none-from-pages : Zero m pagesFrom (messageLength - pagesFrom) → (pagesOf m ≡ 0) × (versionOf m ≡ 0) × (setsOf m ≡ noSets) × (drop valuesFrom m ≡ words valueLength noValues ++ [])
   none-from-pages z = (
     zero-32 m pagesFrom (inside m pagesFrom (messageLength - pagesFrom) pagesFrom 4 z (omega arith) (omega arith)),
     zero-32 m versionFrom (inside m pagesFrom (messageLength - pagesFrom) versionFrom 4 z (omega arith) (omega arith)),
-    no-sets m (omega arith) (inside m pagesFrom (messageLength - pagesFrom) setsFrom 32 z (omega arith) (omega arith)),
+    no-sets m (omega arith) (inside m pagesFrom (messageLength - pagesFrom) setsFrom setsLength z (omega arith) (omega arith)),
     no-values (inside m pagesFrom (messageLength - pagesFrom) valuesFrom valuesLength z (omega arith) (omega arith)),
   )

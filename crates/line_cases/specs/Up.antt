@@ -19,7 +19,8 @@ use Rattle.record_meaning.specs.Meaning.{read-written}
 use Rattle.line.specs.Messages.{address, Up, ReadRequest, WriteRequest, Commit, Abort, Purge, Busy, Done, WrittenSet}
 use Rattle.line.specs.Server.{usedPage}
 use Rattle.line.specs.Fields.{noValues, oneSet, pageSet, workFields, upFields}
-use Rattle.message.specs.Layout.{pageFrom, objectFrom, transactionFrom, pagesFrom, versionFrom, setsFrom, secondSet, valuesFrom, valuesLength, messageLength, kindOf, stationOf, pageOf, requesterOf, objectOf, transactionOf, pagesOf, setOf}
+use Rattle.layout.specs.Record.{valueLength}
+use Rattle.message.specs.Layout.{pageFrom, objectFrom, transactionFrom, pagesFrom, versionFrom, setsFrom, setsLength, secondSet, valuesFrom, valuesLength, messageLength, kindOf, stationOf, pageOf, requesterOf, objectOf, transactionOf, pagesOf, setOf}
 use Rattle.message.specs.Accepted.{fields-fit}
 use Rattle.message.specs.Commit.{versionsAt, versionWidth, recordAt}
 use Rattle.message_meaning.specs.Meant.{objectsOn, pagesIn, versionAt, workAt, upOf}
@@ -46,40 +47,40 @@ module _ (i k : ℕ) (m : List ℕ) (hm : Bytes m) (hl : length m ≡ messageLen
     object-is = omega (arith, f .object-is)
 
   bytes-1 : kindOf m ≡ 1 → RequestFields m → m ≡ wire (upFields i k (ReadRequest (address (pageOf m) (objectOf m)) (transactionOf m)))
-  bytes-1 e f = let r = none-from-pages m hl (f .unnamed-8) in made m hm (omega arith) e own (page-is f) (object-is f) refl (r .0) (r .1) (r .2) (r .3)
+  bytes-1 e f = let r = none-from-pages m hl (f .unnamed-pages) in made m hm (omega arith) e own (page-is f) (object-is f) refl (r .0) (r .1) (r .2) (r .3)
 
   bytes-2 : kindOf m ≡ 2 → RequestFields m → m ≡ wire (upFields i k (WriteRequest (address (pageOf m) (objectOf m)) (transactionOf m)))
-  bytes-2 e f = let r = none-from-pages m hl (f .unnamed-8) in made m hm (omega arith) e own (page-is f) (object-is f) refl (r .0) (r .1) (r .2) (r .3)
+  bytes-2 e f = let r = none-from-pages m hl (f .unnamed-pages) in made m hm (omega arith) e own (page-is f) (object-is f) refl (r .0) (r .1) (r .2) (r .3)
 
   bytes-4 : kindOf m ≡ 4 → AbortFields m → m ≡ wire (upFields i k (Abort (transactionOf m)))
   bytes-4 e f =
-      let r = none-from-pages m hl (f .unnamed-8) in
-      made m hm (omega arith) e own (zero-at m pageFrom (transactionFrom - pageFrom) (f .unnamed-2) (omega arith)) (zero-at m objectFrom 1 (inside m pageFrom (transactionFrom - pageFrom) objectFrom 1 (f .unnamed-2) (omega arith) (omega arith)) (omega arith)) refl
+      let r = none-from-pages m hl (f .unnamed-pages) in
+      made m hm (omega arith) e own (zero-at m pageFrom (transactionFrom - pageFrom) (f .unnamed-page) (omega arith)) (zero-at m objectFrom 1 (inside m pageFrom (transactionFrom - pageFrom) objectFrom 1 (f .unnamed-page) (omega arith) (omega arith)) (omega arith)) refl
       (r .0) (r .1) (r .2) (r .3)
 
   bytes-5 : kindOf m ≡ 5 → PurgeFields m → m ≡ wire (upFields i k (Purge (pageOf m)))
   bytes-5 e f =
-      let z = f .unnamed-3 in
+      let z = f .unnamed-object in
       let r = none-from-pages m hl (inside m objectFrom (messageLength - objectFrom) pagesFrom (messageLength - pagesFrom) z (omega arith) (omega arith)) in
       made m hm (omega arith) e own refl (zero-at m objectFrom (messageLength - objectFrom) z (omega arith)) (zero-32 m transactionFrom (inside m objectFrom (messageLength - objectFrom) transactionFrom 4 z (omega arith) (omega arith))) (r .0) (r .1) (r .2) (r .3)
 
   bytes-6 : kindOf m ≡ 6 → BusyFields m → m ≡ wire (upFields i k (Busy (requesterOf m) (transactionOf m)))
   bytes-6 e f =
-      let r = none-from-pages m hl (f .unnamed-8) in
-      made m hm (omega arith) e own refl (zero-at m objectFrom 1 (f .unnamed-3) (omega arith)) refl (r .0) (r .1) (r .2) (r .3)
+      let r = none-from-pages m hl (f .unnamed-pages) in
+      made m hm (omega arith) e own refl (zero-at m objectFrom 1 (f .unnamed-object) (omega arith)) refl (r .0) (r .1) (r .2) (r .3)
 
   bytes-7 : kindOf m ≡ 7 → DoneFields m → m ≡ wire (upFields i k (Done (requesterOf m) (transactionOf m) (pagesIn (pagesOf m))))
   bytes-7 e f =
-      let z = f .unnamed-12 in
-      made m hm (omega arith) e own refl (zero-at m objectFrom 1 (f .unnamed-3) (omega arith)) refl (sym (pages-back m hm)) (zero-32 m versionFrom (inside m versionFrom (messageLength - versionFrom) versionFrom 4 z (omega arith) (omega arith)))
-      (no-sets m (omega arith) (inside m versionFrom (messageLength - versionFrom) setsFrom 32 z (omega arith) (omega arith))) (no-values m hl (inside m versionFrom (messageLength - versionFrom) valuesFrom valuesLength z (omega arith) (omega arith)))
+      let z = f .unnamed-version in
+      made m hm (omega arith) e own refl (zero-at m objectFrom 1 (f .unnamed-object) (omega arith)) refl (sym (pages-back m hm)) (zero-32 m versionFrom (inside m versionFrom (messageLength - versionFrom) versionFrom 4 z (omega arith) (omega arith)))
+      (no-sets m (omega arith) (inside m versionFrom (messageLength - versionFrom) setsFrom setsLength z (omega arith) (omega arith))) (no-values m hl (inside m versionFrom (messageLength - versionFrom) valuesFrom valuesLength z (omega arith) (omega arith)))
 
   bytes-8 : kindOf m ≡ 8 → WrittenSetFields m → m ≡ wire (upFields i k (WrittenSet (pageOf m) (transactionOf m) (objectsOn (pageOf m) (setOf m 0))))
   bytes-8 e f =
-      let z = f .unnamed-17 in
+      let z = f .unnamed-other-sets in
       let set-is = one-set m (omega arith) (inside m secondSet (messageLength - secondSet) secondSet (valuesFrom - secondSet) z (omega arith) (omega arith)) ∙ ap oneSet (sym (set-of-page (pageOf m) (setOf m 0) (byte-at m setsFrom hm))) in
-      made m hm (omega arith) e own refl (zero-at m objectFrom 1 (f .unnamed-3) (omega arith)) refl (zero-32 m pagesFrom (inside m pagesFrom (setsFrom - pagesFrom) pagesFrom 4 (f .unnamed-8) (omega arith) (omega arith)))
-      (zero-32 m versionFrom (inside m pagesFrom (setsFrom - pagesFrom) versionFrom 4 (f .unnamed-8) (omega arith) (omega arith))) set-is (no-values m hl (inside m secondSet (messageLength - secondSet) valuesFrom valuesLength z (omega arith) (omega arith)))
+      made m hm (omega arith) e own refl (zero-at m objectFrom 1 (f .unnamed-object) (omega arith)) refl (zero-32 m pagesFrom (inside m pagesFrom (setsFrom - pagesFrom) pagesFrom 4 (f .unnamed-pages) (omega arith) (omega arith)))
+      (zero-32 m versionFrom (inside m pagesFrom (setsFrom - pagesFrom) versionFrom 4 (f .unnamed-pages) (omega arith) (omega arith))) set-is (no-values m hl (inside m secondSet (messageLength - secondSet) valuesFrom valuesLength z (omega arith) (omega arith)))
 
 -- THE COMMIT: "followed by 32 versions of 4 bytes .. and a record"
 
@@ -93,12 +94,12 @@ module _ (i k : ℕ) (m : List ℕ) (hm : Bytes m) (own : stationOf m ≡ i) (f 
   pages-are : pagesOf m ≡ pageSet (usedPage (workAt m))
   pages-are = sym (bits-back 32 0 (pagesOf m) (usedPage (workAt m)) ((fields-fit m hm) .pages-fit) (λ p l. ap (usedPage (workAt m)) (zero-add p) ∙ sym (f .pages-are p)))
 
-  versions-are : take (32 * versionWidth) (drop versionsAt m) ≡ words 4 (table 32 0 (versionAt m))
+  versions-are : take (32 * versionWidth) (drop versionsAt m) ≡ words versionWidth (table 32 0 (versionAt m))
   unfolding versionAt
   versions-are =
       sym (numbers-written versionWidth versionsAt m 32 0 hm (omega (arith, long)))
-      ∙ sym (words-table 4 32 0 (λ p. numAt 4 m (versionsAt + p * versionWidth)))
-      ∙ ap (words 4) (table-same 32 0 (λ p. numAt 4 m (versionsAt + p * versionWidth)) (versionAt m) (λ p l q. rw (lt-ltb p 32 q) (sym (u32At-is m (versionsAt + p * versionWidth)))))
+      ∙ sym (words-table versionWidth 32 0 (λ p. numAt versionWidth m (versionsAt + p * versionWidth)))
+      ∙ ap (words versionWidth) (table-same 32 0 (λ p. numAt versionWidth m (versionsAt + p * versionWidth)) (versionAt m) (λ p l q. rw (lt-ltb p 32 q) (sym (u32At-is m (versionsAt + p * versionWidth)))))
 
   record-is : s ≡ wireRecord (workFields i k (workAt m)) ++ []
   unfolding workAt
@@ -111,17 +112,17 @@ module _ (i k : ℕ) (m : List ℕ) (hm : Bytes m) (own : stationOf m ≡ i) (f 
       ∙ sym (record-back (recordOf s) w 0 (transactionOf m) i k (f .commit-0) (f .transaction-is) (f .station-is ∙ own) (f .kind-is))
       ∙ sym (append-nil (wireRecord (workFields i k (workAt m))))
 
-  behind-sets : drop valuesFrom m ≡ words 8 noValues ++ (words 4 (table 32 0 (versionAt m)) ++ (wireRecord (workFields i k (workAt m)) ++ []))
+  behind-sets : drop valuesFrom m ≡ words valueLength noValues ++ (words versionWidth (table 32 0 (versionAt m)) ++ (wireRecord (workFields i k (workAt m)) ++ []))
   behind-sets =
-      let zeros = inside m versionFrom (messageLength - versionFrom) valuesFrom valuesLength (f .unnamed-12) (omega arith) (omega arith) in
-      let values : take valuesLength (drop valuesFrom m) ≡ words 8 noValues = zero-part m valuesFrom valuesLength zeros (omega (arith, long)) ∙ zero-values ∙ append-nil (words 8 noValues) in
-      sym (part-rest valuesLength valuesFrom versionsAt m refl) ∙ rw values (ap (λ (x : List ℕ). words 8 noValues ++ x) (sym (part-rest (32 * versionWidth) versionsAt recordAt m refl) ∙ rw (versions-are, ← record-is)))
+      let zeros = inside m versionFrom (messageLength - versionFrom) valuesFrom valuesLength (f .unnamed-version) (omega arith) (omega arith) in
+      let values : take valuesLength (drop valuesFrom m) ≡ words valueLength noValues = zero-part m valuesFrom valuesLength zeros (omega (arith, long)) ∙ zero-values ∙ append-nil (words valueLength noValues) in
+      sym (part-rest valuesLength valuesFrom versionsAt m refl) ∙ rw values (ap (λ (x : List ℕ). words valueLength noValues ++ x) (sym (part-rest (32 * versionWidth) versionsAt recordAt m refl) ∙ rw (versions-are, ← record-is)))
 
   bytes-3 : kindOf m ≡ 3 → m ≡ wire (upFields i k (Commit (workAt m)))
   unfolding workAt
   bytes-3 e =
-      made m hm (omega (arith, long)) e own (zero-at m pageFrom (transactionFrom - pageFrom) (f .unnamed-2) (omega arith)) (zero-at m objectFrom 1 (inside m pageFrom (transactionFrom - pageFrom) objectFrom 1 (f .unnamed-2) (omega arith) (omega arith)) (omega arith)) refl
-      pages-are (zero-32 m versionFrom (inside m versionFrom (messageLength - versionFrom) versionFrom 4 (f .unnamed-12) (omega arith) (omega arith))) (no-sets m (omega (arith, long)) (inside m versionFrom (messageLength - versionFrom) setsFrom 32 (f .unnamed-12) (omega arith) (omega arith)))
+      made m hm (omega (arith, long)) e own (zero-at m pageFrom (transactionFrom - pageFrom) (f .unnamed-page) (omega arith)) (zero-at m objectFrom 1 (inside m pageFrom (transactionFrom - pageFrom) objectFrom 1 (f .unnamed-page) (omega arith) (omega arith)) (omega arith)) refl
+      pages-are (zero-32 m versionFrom (inside m versionFrom (messageLength - versionFrom) versionFrom 4 (f .unnamed-version) (omega arith) (omega arith))) (no-sets m (omega (arith, long)) (inside m versionFrom (messageLength - versionFrom) setsFrom setsLength (f .unnamed-version) (omega arith) (omega arith)))
       behind-sets
 
 -- EVERY KIND THAT THE SERVER TAKES

@@ -2,10 +2,11 @@
 use mathlib.Core.List.{List, [], _∷_, _++_}
 use Prim.Native.Nat.{ℕ}
 use Rattle.le.specs.Width.{bytes}
-use Rattle.layout.specs.Record.{Entry, bytesOf}
+use Rattle.layout.specs.Record.{valueLength, Entry, bytesOf}
 use Rattle.entries.specs.Entries.{entry}
 use Rattle.line.specs.Fields.{Fields, RecordFields}
 use Rattle.message.specs.Layout.{message}
+use Rattle.message.specs.Commit.{versionWidth}
 
 -- numbers of w bytes, one behind the other
 abbrev pub words : ℕ → List ℕ → List ℕ
@@ -29,4 +30,4 @@ wireRecords (r ∷ l) = wireRecord r ++ wireRecords l
 abbrev pub wire : Fields → List ℕ
 wire f =
     message (f .kind) (f .station) (f .pageOrRequester) (f .objectOrCause) (f .transaction) (f .pages) (f .versionOrNumber) (f .sets)
-    (words 8 (f .values) ++ (words 4 (f .versions) ++ wireRecords (f .behind)))
+    (words valueLength (f .values) ++ (words versionWidth (f .versions) ++ wireRecords (f .behind)))

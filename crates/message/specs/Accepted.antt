@@ -77,8 +77,8 @@ pub record PageFields (m : List ℕ) : Type 0 where
   pub page-is : pageOf m < 32
   pub object-is : objectOf m < 8
   pub transaction-not-0 : transactionOf m ≢ 0
-  pub unnamed-8 : Zero m pagesFrom (versionFrom - pagesFrom)
-  pub unnamed-17 : Zero m secondSet (valuesFrom - secondSet)
+  pub unnamed-pages : Zero m pagesFrom (versionFrom - pagesFrom)
+  pub unnamed-other-sets : Zero m secondSet (valuesFrom - secondSet)
 
 page-fields : (m : List ℕ) → pageMessageOk m ≡ true → PageFields m
 unfolding pageMessageOk
@@ -87,16 +87,16 @@ page-fields m h =
       page-is = page-lt m (search (and-l, and-r));
       object-is = object-lt m (search (and-l, and-r));
       transaction-not-0 = transaction-named m (search (and-l, and-r));
-      unnamed-8 = zeros-are m pagesFrom (versionFrom - pagesFrom) (search (and-l, and-r));
-      unnamed-17 = zeros-are m secondSet (valuesFrom - secondSet) (search (and-l, and-r));
+      unnamed-pages = zeros-are m pagesFrom (versionFrom - pagesFrom) (search (and-l, and-r));
+      unnamed-other-sets = zeros-are m secondSet (valuesFrom - secondSet) (search (and-l, and-r));
     }
 
 -- "19 de-escalate (page, transaction)"
 pub record DeescalateFields (m : List ℕ) : Type 0 where
   pub page-is : pageOf m < 32
   pub transaction-not-0 : transactionOf m ≢ 0
-  pub unnamed-3 : Zero m objectFrom 1
-  pub unnamed-8 : Zero m pagesFrom (messageLength - pagesFrom)
+  pub unnamed-object : Zero m objectFrom 1
+  pub unnamed-pages : Zero m pagesFrom (messageLength - pagesFrom)
 
 deescalate-fields : (m : List ℕ) → deescalateOk m ≡ true → DeescalateFields m
 unfolding deescalateOk
@@ -104,8 +104,8 @@ deescalate-fields m h =
     record {
       page-is = page-lt m (search (and-l, and-r));
       transaction-not-0 = transaction-named m (search (and-l, and-r));
-      unnamed-3 = zeros-are m objectFrom 1 (search (and-l, and-r));
-      unnamed-8 = zeros-are m pagesFrom (messageLength - pagesFrom) (search (and-l, and-r));
+      unnamed-object = zeros-are m objectFrom 1 (search (and-l, and-r));
+      unnamed-pages = zeros-are m pagesFrom (messageLength - pagesFrom) (search (and-l, and-r));
     }
 
 -- "20 callback (requester, its transaction, object sets by page)": it comes to `at`
@@ -113,9 +113,9 @@ pub record CallbackFields (at : ℕ) (m : List ℕ) : Type 0 where
   pub requester-is : requesterOf m < 8
   pub requester-other : requesterOf m ≢ at
   pub transaction-not-0 : transactionOf m ≢ 0
-  pub unnamed-3 : Zero m objectFrom 1
-  pub unnamed-8 : Zero m pagesFrom (setsFrom - pagesFrom)
-  pub unnamed-48 : Zero m valuesFrom (messageLength - valuesFrom)
+  pub unnamed-object : Zero m objectFrom 1
+  pub unnamed-pages : Zero m pagesFrom (setsFrom - pagesFrom)
+  pub unnamed-values : Zero m valuesFrom (messageLength - valuesFrom)
 
 callback-fields : (at : ℕ) (m : List ℕ) → callbackOk at m ≡ true → CallbackFields at m
 unfolding callbackOk
@@ -124,18 +124,18 @@ callback-fields at m h =
       requester-is = requester-lt m (search (and-l, and-r) depth 7);
       requester-other = eqb-false (requesterOf m) at (not-true (eqb (requesterOf m) at) (search (and-l, and-r) depth 7));
       transaction-not-0 = transaction-named m (search (and-l, and-r));
-      unnamed-3 = zeros-are m objectFrom 1 (search (and-l, and-r));
-      unnamed-8 = zeros-are m pagesFrom (setsFrom - pagesFrom) (search (and-l, and-r));
-      unnamed-48 = zeros-are m valuesFrom (messageLength - valuesFrom) (search (and-l, and-r));
+      unnamed-object = zeros-are m objectFrom 1 (search (and-l, and-r));
+      unnamed-pages = zeros-are m pagesFrom (setsFrom - pagesFrom) (search (and-l, and-r));
+      unnamed-values = zeros-are m valuesFrom (messageLength - valuesFrom) (search (and-l, and-r));
     }
 
 -- "21 committed (transaction, commit number)"
 pub record CommittedFields (m : List ℕ) : Type 0 where
   pub transaction-not-0 : transactionOf m ≢ 0
   pub number-not-0 : versionOf m ≢ 0
-  pub unnamed-2 : Zero m pageFrom (transactionFrom - pageFrom)
-  pub unnamed-8 : Zero m pagesFrom (versionFrom - pagesFrom)
-  pub unnamed-16 : Zero m setsFrom (messageLength - setsFrom)
+  pub unnamed-page : Zero m pageFrom (transactionFrom - pageFrom)
+  pub unnamed-pages : Zero m pagesFrom (versionFrom - pagesFrom)
+  pub unnamed-sets : Zero m setsFrom (messageLength - setsFrom)
 
 committed-fields : (m : List ℕ) → committedOk m ≡ true → CommittedFields m
 unfolding committedOk
@@ -143,9 +143,9 @@ committed-fields m h =
     record {
       transaction-not-0 = transaction-named m (search (and-l, and-r));
       number-not-0 = eqb-false (versionOf m) 0 (not-true (eqb (versionOf m) 0) (search (and-l, and-r)));
-      unnamed-2 = zeros-are m pageFrom (transactionFrom - pageFrom) (search (and-l, and-r));
-      unnamed-8 = zeros-are m pagesFrom (versionFrom - pagesFrom) (search (and-l, and-r));
-      unnamed-16 = zeros-are m setsFrom (messageLength - setsFrom) (search (and-l, and-r));
+      unnamed-page = zeros-are m pageFrom (transactionFrom - pageFrom) (search (and-l, and-r));
+      unnamed-pages = zeros-are m pagesFrom (versionFrom - pagesFrom) (search (and-l, and-r));
+      unnamed-sets = zeros-are m setsFrom (messageLength - setsFrom) (search (and-l, and-r));
     }
 
 -- "22 aborted (transaction, cause)"
@@ -153,8 +153,8 @@ pub record AbortedFields (m : List ℕ) : Type 0 where
   pub cause-not-0 : causeOf m ≢ 0
   pub cause-is : causeOf m ≤ 4
   pub transaction-not-0 : transactionOf m ≢ 0
-  pub unnamed-2 : Zero m pageFrom 1
-  pub unnamed-8 : Zero m pagesFrom (messageLength - pagesFrom)
+  pub unnamed-page : Zero m pageFrom 1
+  pub unnamed-pages : Zero m pagesFrom (messageLength - pagesFrom)
 
 aborted-fields : (m : List ℕ) → abortedOk m ≡ true → AbortedFields m
 unfolding abortedOk
@@ -164,19 +164,19 @@ aborted-fields m h =
       cause-not-0 = omega arith;
       cause-is = leb-true (causeOf m) 4 (search (and-l, and-r));
       transaction-not-0 = transaction-named m (search (and-l, and-r));
-      unnamed-2 = zeros-are m pageFrom 1 (search (and-l, and-r));
-      unnamed-8 = zeros-are m pagesFrom (messageLength - pagesFrom) (search (and-l, and-r));
+      unnamed-page = zeros-are m pageFrom 1 (search (and-l, and-r));
+      unnamed-pages = zeros-are m pagesFrom (messageLength - pagesFrom) (search (and-l, and-r));
     }
 
 -- "23 invalidate (page set)"
 pub record InvalidateFields (m : List ℕ) : Type 0 where
-  pub unnamed-2 : Zero m pageFrom (pagesFrom - pageFrom)
-  pub unnamed-12 : Zero m versionFrom (messageLength - versionFrom)
+  pub unnamed-page : Zero m pageFrom (pagesFrom - pageFrom)
+  pub unnamed-version : Zero m versionFrom (messageLength - versionFrom)
 
 invalidate-fields : (m : List ℕ) → invalidateOk m ≡ true → InvalidateFields m
 unfolding invalidateOk
 invalidate-fields m h =
-    record { unnamed-2 = zeros-are m pageFrom (pagesFrom - pageFrom) (and-l (zeros m pageFrom (pagesFrom - pageFrom)) (zeros m versionFrom (messageLength - versionFrom)) h); unnamed-12 = zeros-are m versionFrom (messageLength - versionFrom) (and-r (zeros m pageFrom (pagesFrom - pageFrom)) (zeros m versionFrom (messageLength - versionFrom)) h) }
+    record { unnamed-page = zeros-are m pageFrom (pagesFrom - pageFrom) (and-l (zeros m pageFrom (pagesFrom - pageFrom)) (zeros m versionFrom (messageLength - versionFrom)) h); unnamed-version = zeros-are m versionFrom (messageLength - versionFrom) (and-r (zeros m pageFrom (pagesFrom - pageFrom)) (zeros m versionFrom (messageLength - versionFrom)) h) }
 
 -- WHAT A STATION TAKES
 

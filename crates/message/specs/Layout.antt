@@ -1,5 +1,5 @@
 -- Document 01, "Messages, 112 bytes": the fields at their places, and a message made of its fields.
-use Prim.Native.Nat.{ℕ, _+_, _*_}
+use Prim.Native.Nat.{ℕ, _+_, _*_, _-_}
 use mathlib.Core.List.{List, [], _∷_, _++_}
 use lib.ListN.{getD, replicate}
 use Rattle.le.specs.Le.{u32At, u64At}
@@ -36,8 +36,11 @@ setsFrom = versionFrom + 4
 abbrev pub secondSet : ℕ
 secondSet = setsFrom + 1
 
+abbrev pub setsLength : ℕ
+setsLength = 32
+
 abbrev pub valuesFrom : ℕ
-valuesFrom = setsFrom + 32
+valuesFrom = setsFrom + setsLength
 
 abbrev pub valuesLength : ℕ
 valuesLength = 8 * valueLength
@@ -78,14 +81,14 @@ setOf m p = getD m (setsFrom + p) 0
 abbrev pub valueOf : List ℕ → ℕ → ℕ
 valueOf m o = u64At m (valuesFrom + o * valueLength)
 
--- a message of these fields: `sets` are 32 bytes, `values` eight numbers
+-- a message of these fields: `sets` and `values` are bytes
 unfoldable pub message : ℕ → ℕ → ℕ → ℕ → ℕ → ℕ → ℕ → List ℕ → List ℕ → List ℕ
 message kind station page object transaction pages version sets values =
     kind ∷ station ∷ page ∷ object ∷ (bytes 4 transaction ++ (bytes 4 pages ++ (bytes 4 version ++ (sets ++ values))))
 
 -- "one set of a single page: byte 16"
 abbrev pub single : ℕ → List ℕ
-single x = x ∷ replicate 31 0
+single x = x ∷ replicate (setsLength - 1) 0
 
 -- what stations send: no version and no values; "Fields that a kind doesn't name are 0"
 abbrev pub upMessage : ℕ → ℕ → ℕ → ℕ → ℕ → ℕ → ℕ → List ℕ

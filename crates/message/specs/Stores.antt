@@ -10,7 +10,7 @@ use Rattle.lists.specs.Stores.{sets-join}
 use Rattle.le.specs.Le.{setU32}
 use Rattle.le.specs.Width.{bytes, length-bytes}
 use Rattle.le.specs.Laws.{setU32-is}
-use Rattle.message.specs.Layout.{stationFrom, pageFrom, objectFrom, transactionFrom, pagesFrom, versionFrom, setsFrom, secondSet, valuesLength, messageLength, message, single, upMessage}
+use Rattle.message.specs.Layout.{stationFrom, pageFrom, objectFrom, transactionFrom, pagesFrom, versionFrom, setsFrom, setsLength, secondSet, valuesLength, messageLength, message, single, upMessage}
 
 -- s with 0 in the n places from a
 unfoldable pub cleared : List ℕ → ℕ → ℕ → List ℕ
@@ -72,12 +72,12 @@ length-up kind station page object transaction pages x = length-message kind sta
 module _ (kind station page object transaction pages : ℕ) (s : List ℕ) (at : ℕ) where
   -- zeros behind the fields in front
   pub message-stores : (version : ℕ) {s1 s2 : List ℕ} → s1 ≡ sets s at (front kind station page object transaction pages version) → s2 ≡ cleared s1 (at + setsFrom) (messageLength - setsFrom)
-      → s2 ≡ sets s at (message kind station page object transaction pages version (replicate 32 0) (replicate valuesLength 0))
+      → s2 ≡ sets s at (message kind station page object transaction pages version (replicate setsLength 0) (replicate valuesLength 0))
   message-stores version e1 e2 =
       let f = front kind station page object transaction pages version in
       cleared-behind f s at (at + setsFrom) (messageLength - setsFrom) e1 e2 (rw length-front)
-      ∙ ap (λ (x : List ℕ). sets s at (f ++ x)) (sym (replicate-append-replicate 32 valuesLength 0))
-      ∙ ap (sets s at) (front-rest kind station page object transaction pages version (replicate 32 0) (replicate valuesLength 0))
+      ∙ ap (λ (x : List ℕ). sets s at (f ++ x)) (sym (replicate-append-replicate setsLength valuesLength 0))
+      ∙ ap (sets s at) (front-rest kind station page object transaction pages version (replicate setsLength 0) (replicate valuesLength 0))
 
   -- one set, then zeros
   pub up-stores : (x : ℕ) {s1 s2 s3 : List ℕ} → s1 ≡ sets s at (front kind station page object transaction pages 0) → s2 ≡ set s1 (at + setsFrom) x → s3 ≡ cleared s2 (at + secondSet) (messageLength - secondSet)
@@ -88,5 +88,5 @@ module _ (kind station page object transaction pages : ℕ) (s : List ℕ) (at :
       let e : s2 ≡ sets s at (f ++ one) = rw (e2, e1) (sets-join f one s at (at + setsFrom) (rw length-front)) in
       cleared-behind (f ++ one) s at (at + secondSet) (messageLength - secondSet) e e3 (rw (length-append, length-front) (omega arith))
       ∙ ap (sets s at) (append-assoc f one (replicate (messageLength - secondSet) 0))
-      ∙ ap (λ (y : List ℕ). sets s at (f ++ (x ∷ y))) (sym (replicate-append-replicate 31 valuesLength 0))
+      ∙ ap (λ (y : List ℕ). sets s at (f ++ (x ∷ y))) (sym (replicate-append-replicate (setsLength - 1) valuesLength 0))
       ∙ ap (sets s at) (front-rest kind station page object transaction pages 0 (single x) (replicate valuesLength 0))

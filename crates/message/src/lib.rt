@@ -4,7 +4,7 @@ ghost use Prim.Native.Nat.{_+_, _^_, _≤_, _<_};
 ghost use lib.ListN.{length, replicate};
 ghost use lib.Seq.{sets};
 ghost use mathlib.Core.Bool.{cond};
-ghost use Rattle.message.specs.Layout.{setsFrom, valuesLength, messageLength, kindOf, message as Layout·message, upMessage};
+ghost use Rattle.message.specs.Layout.{setsFrom, setsLength, valuesLength, messageLength, kindOf, message as Layout·message, upMessage};
 ghost use Rattle.message.specs.Range.{zeroAt, zeros as Range·zeros, requestOk, commitOk, abortOk, purgeOk, busyOk, doneOk, writtenSetOk, pageMessageOk, deescalateOk, callbackOk, committedOk, abortedOk, invalidateOk, upFieldsOk, downFieldsOk};
 ghost use Rattle.message.specs.Commit.{recordAt, addressesAt, entriesOf, commitLengthOk, versionOk, pagesTo, recordAgrees, commitNumber};
 ghost use Rattle.message.specs.Number.{lengthOk, upRange, downRange, downNumber, kindOk, kindsOk, upNumber};
@@ -29,7 +29,9 @@ pub const VERSION: usize = PAGES + 4;
 
 pub const SETS: usize = VERSION + 4;
 
-pub const VALUES: usize = SETS + 32;
+pub const SETS_LENGTH: usize = 32;
+
+pub const VALUES: usize = SETS + SETS_LENGTH;
 
 pub const LENGTH: usize = VALUES + 8 * record::VALUE;
 
@@ -138,7 +140,7 @@ pub fn put_message(
     version: u32,
 )
     requires { ⌜ at + messageLength ≤ length (now o) ⌝ }
-    ensures { λ _. ⌜ now (o .exit) ≡ sets (now (o .entry)) at (Layout·message kind station page object transaction pages version (replicate 32 0) (replicate valuesLength 0)) ⌝ }
+    ensures { λ _. ⌜ now (o .exit) ≡ sets (now (o .entry)) at (Layout·message kind station page object transaction pages version (replicate setsLength 0) (replicate valuesLength 0)) ⌝ }
 {
     put_front(
         o,

@@ -12,7 +12,7 @@ use Rattle.le.specs.Le.{u32At, u64At}
 use Rattle.le.specs.Width.{bytes, bytes-are, bytes-numAt}
 use Rattle.le.specs.Laws.{u32At-is, u64At-is}
 use Rattle.le.specs.Parts.{numAt-drop}
-use Rattle.message.specs.Layout.{kindFrom, stationFrom, pageFrom, objectFrom, transactionFrom, pagesFrom, versionFrom, setsFrom, valuesFrom, valuesLength, messageLength, kindOf, stationOf, pageOf, objectOf, transactionOf, pagesOf, versionOf, setOf, valueOf, message}
+use Rattle.message.specs.Layout.{kindFrom, stationFrom, pageFrom, objectFrom, transactionFrom, pagesFrom, versionFrom, setsFrom, setsLength, valuesFrom, valuesLength, messageLength, kindOf, stationOf, pageOf, objectOf, transactionOf, pagesOf, versionOf, setOf, valueOf, message}
 use Rattle.message_meaning.specs.Meant.{setsOf}
 use Rattle.message_meaning.specs.Numbers.{numbers, numbers-read, numbers-written}
 use Rattle.layout.specs.Record.{valueLength}
@@ -35,9 +35,9 @@ pub record ReadBack (kind station page object transaction pages version : ℕ) (
   pub length-is : length m ≡ valuesFrom + length values
 
 -- what stands behind the single fields
-module _ (sets values m : List ℕ) (e : drop setsFrom m ≡ sets ++ values) (hs : length sets ≡ 32) where
+module _ (sets values m : List ℕ) (e : drop setsFrom m ≡ sets ++ values) (hs : length sets ≡ setsLength) where
   sets-back : setsOf m ≡ sets
-  sets-back = rw e (take-at sets values 32 hs)
+  sets-back = rw e (take-at sets values setsLength hs)
 
   set-back : (p : ℕ) → p < 32 → setOf m p ≡ getD sets p 0
   set-back p l = sym (getD-drop setsFrom m p 0) ∙ rw e (List·getD-append sets values 0 p (omega arith))
@@ -53,7 +53,7 @@ module _ (kind station page object transaction pages version : ℕ) (sets values
   unfolding message bytes
   behind-front = refl
 
-  pub written-read : transaction < 2 ^ 32 → pages < 2 ^ 32 → version < 2 ^ 32 → length sets ≡ 32
+  pub written-read : transaction < 2 ^ 32 → pages < 2 ^ 32 → version < 2 ^ 32 → length sets ≡ setsLength
       → ReadBack kind station page object transaction pages version sets values (message kind station page object transaction pages version sets values)
   unfolding message bytes u32At
   written-read ht hp hv hs =
@@ -109,7 +109,7 @@ module _ (m : List ℕ) (hm : Bytes m) (hl : length m ≡ messageLength) where
         bytes-numAt 4 m transactionFrom hm (omega arith),
         bytes-numAt 4 m pagesFrom hm (omega arith),
         bytes-numAt 4 m versionFrom hm (omega arith),
-        part-rest 32 setsFrom valuesFrom m refl,
+        part-rest setsLength setsFrom valuesFrom m refl,
         part-rest 4 versionFrom setsFrom m refl,
         part-rest 4 pagesFrom versionFrom m refl,
         part-rest 4 transactionFrom pagesFrom m refl,

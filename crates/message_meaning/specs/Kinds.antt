@@ -10,7 +10,7 @@ use lib.Dec.{ltb}
 use Rattle.sets.specs.Laws.{byB, ltb-yes, ltb-no}
 use Rattle.cells.specs.Bits.{tb, tb-zero}
 use Rattle.line.specs.Messages.{address, ReadRequest, WriteRequest, Commit, Abort, Purge, Busy, Done, WrittenSet, NoLock, ObjectLock, WholeLock, Deescalate, Callback, Committed, Aborted, Invalidate}
-use Rattle.message.specs.Layout.{setsFrom, kindOf, pageOf, requesterOf, objectOf, causeOf, transactionOf, pagesOf, versionOf, setOf}
+use Rattle.message.specs.Layout.{setsFrom, setsLength, kindOf, pageOf, requesterOf, objectOf, causeOf, transactionOf, pagesOf, versionOf, setOf}
 use Rattle.message_meaning.specs.Meant.{objectsOn, objectsIn, pagesIn, setsOf, workAt, upOf, pageAt, downOf}
 
 module _ (m : List ℕ) where
@@ -81,7 +81,7 @@ module _ (m : List ℕ) where
   -- the set of a page, by its place in the message; there are 32
   pub sets-at : (p : ℕ) → getD (setsOf m) p 0 ≡ cond (ltb p 32) (setOf m p) 0
   sets-at p =
-      byB (ltb p 32) (λ e. rw e (getD-take 32 (drop setsFrom m) p 0 (ltb-yes p 32 e) ∙ getD-drop setsFrom m p 0))
+      byB (ltb p 32) (λ e. rw e (getD-take setsLength (drop setsFrom m) p 0 (ltb-yes p 32 e) ∙ getD-drop setsFrom m p 0))
       (λ e. rw e (List·getD-eq-default (setsOf m) 0 {n = p} (rw length-take (omega (arith, ltb-no p 32 e)))))
 
   pub objects-at : (a : ℕ) → objectsIn (setsOf m) a ≡ cond (ltb (a / 8) 32) (tb (setOf m (a / 8)) (a % 8)) false

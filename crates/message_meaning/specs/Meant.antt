@@ -12,7 +12,7 @@ use Rattle.cells.specs.Bits.{tb}
 use Rattle.line.specs.Messages.{address, Work, Up, ReadRequest, WriteRequest, Commit, Abort, Purge, Busy, Done, WrittenSet, Lock, NoLock, ObjectLock, WholeLock, Down, Page, Deescalate, Callback, Committed, Aborted, Invalidate}
 use Rattle.entries.specs.Entries.{valueIn}
 use Rattle.record_meaning.specs.Parse.{recordOf}
-use Rattle.message.specs.Layout.{setsFrom, kindOf, pageOf, requesterOf, objectOf, causeOf, transactionOf, pagesOf, versionOf, setOf, valueOf}
+use Rattle.message.specs.Layout.{setsFrom, setsLength, kindOf, pageOf, requesterOf, objectOf, causeOf, transactionOf, pagesOf, versionOf, setOf, valueOf}
 use Rattle.message.specs.Commit.{versionsAt, versionWidth, recordAt}
 
 -- SETS AND VALUES
@@ -31,7 +31,7 @@ pagesIn set p = tb set p
 
 -- "16–47 object sets by page": what stands behind them is no set
 abbrev pub setsOf : List ℕ → List ℕ
-setsOf m = take 32 (drop setsFrom m)
+setsOf m = take setsLength (drop setsFrom m)
 
 -- "eight values" of a page, by address; 0 off the page
 abbrev pub valuesOn : ℕ → List ℕ → ℕ → ℕ

@@ -13,7 +13,7 @@ use Rattle.lists.specs.Bytes.{Bytes}
 use Rattle.le.specs.Width.{bytes}
 use Rattle.line.specs.Messages.{address, Up, ReadRequest, WriteRequest, Abort, Purge, Busy, Done, WrittenSet}
 use Rattle.message.specs.Stores.{length-up}
-use Rattle.message.specs.Layout.{pageFrom, objectFrom, transactionFrom, pagesFrom, versionFrom, setsFrom, secondSet, valuesLength, messageLength, kindOf, stationOf, transactionOf, message, single, upMessage}
+use Rattle.message.specs.Layout.{pageFrom, objectFrom, transactionFrom, pagesFrom, versionFrom, setsFrom, setsLength, secondSet, valuesLength, messageLength, kindOf, stationOf, transactionOf, message, single, upMessage}
 use Rattle.message.specs.Range.{zeroAt, zeros, transactionOk, requestOk, abortOk, purgeOk, busyOk, doneOk, writtenSetOk, upFieldsOk}
 use Rattle.message.specs.Number.{lengthOk, upRange, kindsOk, upNumber}
 use Rattle.message_meaning.specs.Meant.{objectsOn, pagesIn, upOf}
@@ -71,7 +71,7 @@ module _ (k st p o t pages set : ℕ) where
 
 pub up-are : (k st p o t pages set : ℕ) → k < 256 → st < 256 → p < 256 → o < 256 → set < 256 → Bytes (upMessage k st p o t pages set)
 up-are k st p o t pages set hk hs hp ho hx =
-    message-are k st p o t pages 0 (single set) (replicate valuesLength 0) hk hs hp ho (hx, zeros-bytes 31) (zeros-bytes valuesLength)
+    message-are k st p o t pages 0 (single set) (replicate valuesLength 0) hk hs hp ho (hx, zeros-bytes (setsLength - 1)) (zeros-bytes valuesLength)
   where
     zeros-bytes : (n : ℕ) → Bytes (replicate n 0)
     zeros-bytes zero = tt

@@ -39,7 +39,7 @@ pub record RequestFields (m : List ℕ) : Type 0 where
   pub page-is : pageOf m < 32
   pub object-is : objectOf m < 8
   pub transaction-not-0 : transactionOf m ≢ 0
-  pub unnamed-8 : Zero m pagesFrom (messageLength - pagesFrom)
+  pub unnamed-pages : Zero m pagesFrom (messageLength - pagesFrom)
 
 request-fields : (m : List ℕ) → requestOk m ≡ true → RequestFields m
 unfolding requestOk
@@ -48,39 +48,39 @@ request-fields m h =
       page-is = page-lt m (search (and-l, and-r));
       object-is = object-lt m (search (and-l, and-r));
       transaction-not-0 = transaction-named m (search (and-l, and-r));
-      unnamed-8 = zeros-are m pagesFrom (messageLength - pagesFrom) (search (and-l, and-r));
+      unnamed-pages = zeros-are m pagesFrom (messageLength - pagesFrom) (search (and-l, and-r));
     }
 
 -- "4 abort (transaction)"
 pub record AbortFields (m : List ℕ) : Type 0 where
   pub transaction-not-0 : transactionOf m ≢ 0
-  pub unnamed-2 : Zero m pageFrom (transactionFrom - pageFrom)
-  pub unnamed-8 : Zero m pagesFrom (messageLength - pagesFrom)
+  pub unnamed-page : Zero m pageFrom (transactionFrom - pageFrom)
+  pub unnamed-pages : Zero m pagesFrom (messageLength - pagesFrom)
 
 abort-fields : (m : List ℕ) → abortOk m ≡ true → AbortFields m
 unfolding abortOk
 abort-fields m h =
     record {
       transaction-not-0 = transaction-named m (search (and-l, and-r));
-      unnamed-2 = zeros-are m pageFrom (transactionFrom - pageFrom) (search (and-l, and-r));
-      unnamed-8 = zeros-are m pagesFrom (messageLength - pagesFrom) (search (and-l, and-r));
+      unnamed-page = zeros-are m pageFrom (transactionFrom - pageFrom) (search (and-l, and-r));
+      unnamed-pages = zeros-are m pagesFrom (messageLength - pagesFrom) (search (and-l, and-r));
     }
 
 -- "5 purge (page)"
 pub record PurgeFields (m : List ℕ) : Type 0 where
   pub page-is : pageOf m < 32
-  pub unnamed-3 : Zero m objectFrom (messageLength - objectFrom)
+  pub unnamed-object : Zero m objectFrom (messageLength - objectFrom)
 
 purge-fields : (m : List ℕ) → purgeOk m ≡ true → PurgeFields m
 unfolding purgeOk
-purge-fields m h = record { page-is = page-lt m (and-l (pageOk m) (zeros m objectFrom (messageLength - objectFrom)) h); unnamed-3 = zeros-are m objectFrom (messageLength - objectFrom) (and-r (pageOk m) (zeros m objectFrom (messageLength - objectFrom)) h) }
+purge-fields m h = record { page-is = page-lt m (and-l (pageOk m) (zeros m objectFrom (messageLength - objectFrom)) h); unnamed-object = zeros-are m objectFrom (messageLength - objectFrom) (and-r (pageOk m) (zeros m objectFrom (messageLength - objectFrom)) h) }
 
 -- "6 busy (requester, its transaction)"
 pub record BusyFields (m : List ℕ) : Type 0 where
   pub requester-is : requesterOf m < 8
   pub transaction-not-0 : transactionOf m ≢ 0
-  pub unnamed-3 : Zero m objectFrom 1
-  pub unnamed-8 : Zero m pagesFrom (messageLength - pagesFrom)
+  pub unnamed-object : Zero m objectFrom 1
+  pub unnamed-pages : Zero m pagesFrom (messageLength - pagesFrom)
 
 busy-fields : (m : List ℕ) → busyOk m ≡ true → BusyFields m
 unfolding busyOk
@@ -88,16 +88,16 @@ busy-fields m h =
     record {
       requester-is = requester-lt m (search (and-l, and-r));
       transaction-not-0 = transaction-named m (search (and-l, and-r));
-      unnamed-3 = zeros-are m objectFrom 1 (search (and-l, and-r));
-      unnamed-8 = zeros-are m pagesFrom (messageLength - pagesFrom) (search (and-l, and-r));
+      unnamed-object = zeros-are m objectFrom 1 (search (and-l, and-r));
+      unnamed-pages = zeros-are m pagesFrom (messageLength - pagesFrom) (search (and-l, and-r));
     }
 
 -- "7 done (same, and the set of dropped pages)"
 pub record DoneFields (m : List ℕ) : Type 0 where
   pub requester-is : requesterOf m < 8
   pub transaction-not-0 : transactionOf m ≢ 0
-  pub unnamed-3 : Zero m objectFrom 1
-  pub unnamed-12 : Zero m versionFrom (messageLength - versionFrom)
+  pub unnamed-object : Zero m objectFrom 1
+  pub unnamed-version : Zero m versionFrom (messageLength - versionFrom)
 
 done-fields : (m : List ℕ) → doneOk m ≡ true → DoneFields m
 unfolding doneOk
@@ -105,17 +105,17 @@ done-fields m h =
     record {
       requester-is = requester-lt m (search (and-l, and-r));
       transaction-not-0 = transaction-named m (search (and-l, and-r));
-      unnamed-3 = zeros-are m objectFrom 1 (search (and-l, and-r));
-      unnamed-12 = zeros-are m versionFrom (messageLength - versionFrom) (search (and-l, and-r));
+      unnamed-object = zeros-are m objectFrom 1 (search (and-l, and-r));
+      unnamed-version = zeros-are m versionFrom (messageLength - versionFrom) (search (and-l, and-r));
     }
 
 -- "8 written set (page, own transaction as named in kind 19, set)"
 pub record WrittenSetFields (m : List ℕ) : Type 0 where
   pub page-is : pageOf m < 32
   pub transaction-not-0 : transactionOf m ≢ 0
-  pub unnamed-3 : Zero m objectFrom 1
-  pub unnamed-8 : Zero m pagesFrom (setsFrom - pagesFrom)
-  pub unnamed-17 : Zero m secondSet (messageLength - secondSet)
+  pub unnamed-object : Zero m objectFrom 1
+  pub unnamed-pages : Zero m pagesFrom (setsFrom - pagesFrom)
+  pub unnamed-other-sets : Zero m secondSet (messageLength - secondSet)
 
 written-set-fields : (m : List ℕ) → writtenSetOk m ≡ true → WrittenSetFields m
 unfolding writtenSetOk
@@ -123,17 +123,17 @@ written-set-fields m h =
     record {
       page-is = page-lt m (search (and-l, and-r));
       transaction-not-0 = transaction-named m (search (and-l, and-r));
-      unnamed-3 = zeros-are m objectFrom 1 (search (and-l, and-r));
-      unnamed-8 = zeros-are m pagesFrom (setsFrom - pagesFrom) (search (and-l, and-r));
-      unnamed-17 = zeros-are m secondSet (messageLength - secondSet) (search (and-l, and-r));
+      unnamed-object = zeros-are m objectFrom 1 (search (and-l, and-r));
+      unnamed-pages = zeros-are m pagesFrom (setsFrom - pagesFrom) (search (and-l, and-r));
+      unnamed-other-sets = zeros-are m secondSet (messageLength - secondSet) (search (and-l, and-r));
     }
 
 -- "3 commit (transaction, set of pages used)", "followed by 32 versions of 4 bytes (0 for an unused page; all 0 from a locking station) and
 -- a record": what number 5 looks at; kind is that of the station at the server
 pub record CommitFields (kind : ℕ) (m : List ℕ) : Type 0 where
   pub transaction-not-0 : transactionOf m ≢ 0
-  pub unnamed-2 : Zero m pageFrom (transactionFrom - pageFrom)
-  pub unnamed-12 : Zero m versionFrom (messageLength - versionFrom)
+  pub unnamed-page : Zero m pageFrom (transactionFrom - pageFrom)
+  pub unnamed-version : Zero m versionFrom (messageLength - versionFrom)
   pub length-is : length m ≡ recordAt + lengthOf (drop recordAt m)
   pub record-accepted : checkOf (drop recordAt m) ≡ 0
   pub commit-0 : (recordOf (drop recordAt m)) .commit ≡ 0
@@ -169,8 +169,8 @@ commit-fields kind m h len n =
     let pages : pagesTo m (entriesIn m) ≡ pagesOf m = eqb-true (pagesTo m (entriesIn m)) (pagesOf m) (search (and-l, and-r) depth 7) in
     record {
       transaction-not-0 = transaction-named m (search (and-l, and-r));
-      unnamed-2 = zeros-are m pageFrom (transactionFrom - pageFrom) (search (and-l, and-r));
-      unnamed-12 = zeros-are m versionFrom (messageLength - versionFrom) (search (and-l, and-r));
+      unnamed-page = zeros-are m pageFrom (transactionFrom - pageFrom) (search (and-l, and-r));
+      unnamed-version = zeros-are m versionFrom (messageLength - versionFrom) (search (and-l, and-r));
       length-is = size;
       record-accepted = eqb-true (checkOf (drop recordAt m)) 0 (checked .0);
       commit-0 = sym (u32-behind recordAt m commitNumberFrom) ∙ eqb-true (u32At m (recordAt + commitNumberFrom)) 0 (search (and-l, and-r) depth 7);
@@ -284,7 +284,7 @@ module _ (kind : ℕ) (m : List ℕ) (hm : Bytes m) (c : CommitFields kind m) wh
       let w = commit-record in
       record {
         transaction-not-0 = c .transaction-not-0;
-        transaction-fits = rw u32At-is (numAt-lt 4 m 4 hm);
+        transaction-fits = rw u32At-is (numAt-lt 4 m transactionFrom hm);
         reads-within = value-within (r .reads) (w .reads-fit);
         writes-within = value-within (r .writes) (w .writes-fit);
         reads-fit = value-fits (r .reads) (w .reads-fit);

@@ -36,12 +36,12 @@ page-of at m a h =
     (λ e.
     byEq (kindOf m) 19 (λ q. (a .deescalate (eqb-yes _ _ q)) .page-is)
     (λ q₁.
-    byEq (kindOf m) 21 (λ q. zero-page m ((a .committed (eqb-yes _ _ q)) .unnamed-2 0 (omega arith)))
+    byEq (kindOf m) 21 (λ q. zero-page m ((a .committed (eqb-yes _ _ q)) .unnamed-page 0 (omega arith)))
     (λ q₂.
-    byEq (kindOf m) 22 (λ q. zero-page m ((a .aborted (eqb-yes _ _ q)) .unnamed-2 0 (omega arith)))
+    byEq (kindOf m) 22 (λ q. zero-page m ((a .aborted (eqb-yes _ _ q)) .unnamed-page 0 (omega arith)))
     (λ q₃.
     zero-page m
-    ((a .invalidate (last (kindOf m) (a .kind-to) (ltb-no _ _ e) (eqb-no _ _ q₁) h (eqb-no _ _ q₂) (eqb-no _ _ q₃))) .unnamed-2 0 (omega arith))))))
+    ((a .invalidate (last (kindOf m) (a .kind-to) (ltb-no _ _ e) (eqb-no _ _ q₁) h (eqb-no _ _ q₂) (eqb-no _ _ q₃))) .unnamed-page 0 (omega arith))))))
 
 pub for-stations : (at : ℕ) (m : List ℕ) → downNumber at m ≡ 0 → ForStations m
 for-stations at m e = let a = down-accepted at m e in (a .kind-from, omega (arith, a .kind-to))
