@@ -1,7 +1,7 @@
 -- Arrivals never run out. A transaction of a locking station asks for each address at most once to read it and at most once to write it, and one
 -- of a validating station waits with its commit alone: so a transaction joins the waiting list at most 512 times. Eight stations number their
 -- transactions up to 4,294,967,295.
-use Prim.Native.Nat.{ℕ, zero, suc, _+_, _*_, _^_, _≤_, _<_}
+use Prim.Native.Nat.{ℕ, zero, suc, _+_, _*_, _≤_, _<_}
 use mathlib.Core.Path.{_≡_, refl, sym, ap, _∙_}
 use mathlib.Core.Bool.{Bool, true, false, not, _&&_, _||_, cond, false≢true}
 use mathlib.Core.List.{List, [], _∷_, _++_}
@@ -22,6 +22,7 @@ use Rattle.line.specs.Counters.{numbers-run}
 use Rattle.truth.specs.Frame.{count-append, Owns, performs, closes, isLock, arrived, Takes, takes, installs, accepts}
 use Rattle.truth.specs.ValidatedMoves.{perform-kind, step-kind}
 use Rattle.truth.specs.GoalsOwner.{undo-num}
+use Rattle.server_state.specs.Layout.{counterLimit}
 use Rattle.line_bytes.specs.Kinds.{server-kind}
 
 -- WHO JOINS: "Every other request, and a validating commit, joins one waiting list by arrival."
@@ -484,5 +485,5 @@ arrivals-most kinds cs =
     omega (arith, h .within, sum-most 8 (λ i. share (w .station i)) (λ i. share-most (w .station i) (h .steady i) (n .begun i)))
 
 -- "2^63 being out of range"
-pub arrivals-below : (kinds : ℕ → ℕ) (cs : List Call) → (run cs (fresh kinds)) .server .arrivals < 2 ^ 63
+pub arrivals-below : (kinds : ℕ → ℕ) (cs : List Call) → (run cs (fresh kinds)) .server .arrivals < counterLimit
 arrivals-below kinds cs = omega (arith, arrivals-most kinds cs)

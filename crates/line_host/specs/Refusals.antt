@@ -7,7 +7,7 @@ use lib.Dec.{eqb}
 use lib.ListN.{length}
 use Rattle.sets.specs.Laws.{byEq}
 use Rattle.line.specs.Line.{Op, Begin, Read, Write, Commits, Aborts, Purges}
-use Rattle.message.specs.Layout.{kindOf, transactionOf, pagesOf}
+use Rattle.message.specs.Layout.{setsFrom, kindOf, transactionOf, pagesOf}
 use Rattle.station_state.specs.Layout.{wait, readSetFrom, writtenSetFrom, member}
 use Rattle.station_pages.specs.Pages.{inUseB, touchedB}
 use Rattle.station_callbacks.specs.Callbacks.{setsAt}
@@ -76,7 +76,7 @@ module _ (s : List ℕ) where
   down-sure x =
       let k = kindOf x in
       both SureDid (eqb k 19) tt
-      (both SureDid (eqb k 20) (both SureDid (inUseB (setsAt x 16) s) tt tt)
+      (both SureDid (eqb k 20) (both SureDid (inUseB (setsAt x setsFrom) s) tt tt)
       (both SureDid (eqb k 21) tt
       (both SureDid (eqb k 22) tt
       (both SureDid (eqb k 23) (both SureDid (touchedB (pagesOf x) s && not (eqb (wait s) 3)) tt tt) (page-sure x)))))

@@ -8,11 +8,11 @@ use lib.Dec.{eqb}
 use Rattle.sets.specs.Base.{snoc}
 use Rattle.cells.specs.Loops.{maskTo}
 use Rattle.layout.specs.Record.{bytesOf}
-use Rattle.message.specs.Layout.{valuesLength, message, single, stationOf, pageOf, requesterOf, objectOf, transactionOf, pagesOf, setOf}
+use Rattle.message.specs.Layout.{setsLength, valuesLength, message, single, stationOf, pageOf, requesterOf, objectOf, transactionOf, pagesOf, setOf}
 use Rattle.message.specs.Layout as Message
 use Rattle.station_state.specs.Layout.{hasBit}
 use Rattle.set_record.specs.Record.{recordFrom}
-use Rattle.server_state.specs.Layout.{pageRow, pageValuesFrom, readValuesFrom, writtenValuesFrom, versionOf, workNumber, latestOf, lastOf, askedOf, wholeOf, readSetFrom, writtenSetFrom, writtenSet, kindOf, requestOf, lockingB}
+use Rattle.server_state.specs.Layout.{pageRow, setRow, pageValuesFrom, readValuesFrom, writtenValuesFrom, versionOf, workNumber, latestOf, lastOf, askedOf, wholeOf, readSetFrom, writtenSetFrom, writtenSet, kindOf, requestOf, lockingB}
 use Rattle.server_tests.specs.Tests.{openCallB, openAskB, shutB, concernedSet, hinderedB, unavailableB, informedB}
 use Rattle.server_changes.specs.Changes.{noticeB, finishB, leaveB, joinReadB, joinWriteB, joinCommitB, unpackB, listB, unlistB, markBusyB, answeredB, loosenB, askedB, calledB, lockPageB, lockObjectB, writeB}
 
@@ -34,7 +34,7 @@ send x m = serving (x .state) (snoc (x .sent) m) (x .recs)
 -- messages
 
 abbrev pub plain : ℕ → ℕ → ℕ → ℕ → ℕ → ℕ → ℕ → List ℕ
-plain kind i page object transaction pages version = message kind i page object transaction pages version (replicate 32 0) (replicate valuesLength 0)
+plain kind i page object transaction pages version = message kind i page object transaction pages version (replicate setsLength 0) (replicate valuesLength 0)
 
 -- 16, 17, 18 for address a; the page's values stand in the state as they are sent
 abbrev pub pageB : ℕ → ℕ → ℕ → ℕ → List ℕ → List ℕ
@@ -46,7 +46,7 @@ deescalateB h p s = plain 19 h p 0 (latestOf s h) 0 0
 
 -- to station j, for requester i
 abbrev pub callbackB : ℕ → ℕ → List ℕ → List ℕ
-callbackB j i s = message 20 j i 0 (latestOf s i) 0 0 (take 32 (drop (writtenSetFrom i) s)) (replicate valuesLength 0)
+callbackB j i s = message 20 j i 0 (latestOf s i) 0 0 (take setRow (drop (writtenSetFrom i) s)) (replicate valuesLength 0)
 
 abbrev pub committedB : ℕ → ℕ → ℕ → List ℕ
 committedB i t n = plain 21 i 0 0 t 0 n

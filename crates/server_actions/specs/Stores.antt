@@ -7,10 +7,10 @@ use lib.ListN.{length, take, drop, set, replicate, length-take, length-drop, len
 use lib.Seq.{sets, sets-eq, set-set, length-take-le}
 use Rattle.lists.specs.Stores.{copy-whole, put-part}
 use Rattle.le.specs.Width.{bytes}
-use Rattle.message.specs.Layout.{valuesFrom, setsFrom, valuesLength, messageLength, message, single}
+use Rattle.message.specs.Layout.{setsFrom, setsLength, valuesFrom, valuesLength, messageLength, message, single}
 use Rattle.message.specs.Stores.{length-message}
 use Rattle.set_record.specs.Filled.{one-first}
-use Rattle.server_state.specs.Layout.{pageRow, pageValuesFrom, serverLength, versionOf, latestOf, writtenSetFrom}
+use Rattle.server_state.specs.Layout.{pageRow, setRow, pageValuesFrom, serverLength, versionOf, latestOf, writtenSetFrom}
 use Rattle.server_actions.specs.Actions.{plain, pageB, callbackB}
 
 -- a copy out of one list into a part of another
@@ -40,7 +40,7 @@ sets-over (v ∷ y) x s a b k e h =
 
 module _ (kind station page object transaction version : ℕ) (o : List ℕ) (at : ℕ) where
   abbrev bare : List ℕ
-  bare = message kind station page object transaction 0 version (replicate 32 0) (replicate valuesLength 0)
+  bare = message kind station page object transaction 0 version (replicate setsLength 0) (replicate valuesLength 0)
 
   page-is : (u : ℕ) (y : List ℕ) → length y ≡ valuesLength → sets (set bare setsFrom u) valuesFrom y ≡ message kind station page object transaction 0 version (single u) y
   unfolding message bytes
@@ -51,7 +51,7 @@ module _ (kind station page object transaction version : ℕ) (o : List ℕ) (at
       → o₃ ≡ sets o at (message kind station page object transaction 0 version (single u) y)
   page-stores u y h e₁ e₂ e₃ =
       let one = set bare setsFrom u in
-      let len : length bare ≡ messageLength = length-message kind station page object transaction 0 version (replicate 32 0) (replicate valuesLength 0) in
+      let len : length bare ≡ messageLength = length-message kind station page object transaction 0 version (replicate setsLength 0) (replicate valuesLength 0) in
       rw (e₃, e₂, e₁, set-over bare o at (at + setsFrom) setsFrom u refl (omega arith))
       (sets-over y one o at (at + valuesFrom) valuesFrom refl (rw length-set (omega arith)) ∙ ap (sets o at) (page-is u y h))
 
@@ -63,7 +63,7 @@ module _ (kind station page object transaction version : ℕ) (o : List ℕ) (at
   sets-stores : (x : List ℕ) {o₁ o₂ : List ℕ} → length x ≡ 32 → o₁ ≡ sets o at bare → o₂ ≡ sets o₁ (at + setsFrom) x
       → o₂ ≡ sets o at (message kind station page object transaction 0 version x (replicate valuesLength 0))
   sets-stores x h e₁ e₂ =
-      let len : length bare ≡ messageLength = length-message kind station page object transaction 0 version (replicate 32 0) (replicate valuesLength 0) in
+      let len : length bare ≡ messageLength = length-message kind station page object transaction 0 version (replicate setsLength 0) (replicate valuesLength 0) in
       rw (e₂, e₁) (sets-over x bare o at (at + setsFrom) setsFrom refl (omega arith) ∙ ap (sets o at) (sets-are x h))
 
 part-length : (s : List ℕ) (at n : ℕ) → at + n ≤ length s → length (take n (drop at s)) ≡ n
@@ -78,6 +78,6 @@ module _ (s o : List ℕ) (at : ℕ) (len : length s ≡ serverLength) where
       ∙ rw (et, ev)
 
   pub callback-put : (j i : ℕ) → i < 8 → {t : ℕ} {o₁ o₂ : List ℕ} → t ≡ latestOf s i → o₁ ≡ sets o at (plain 20 j i 0 t 0 0)
-      → o₂ ≡ sets o₁ (at + setsFrom) (take 32 (drop (writtenSetFrom i) s)) → o₂ ≡ sets o at (callbackB j i s)
+      → o₂ ≡ sets o₁ (at + setsFrom) (take setRow (drop (writtenSetFrom i) s)) → o₂ ≡ sets o at (callbackB j i s)
   callback-put j i l {t} et e₁ e₂ =
-      sets-stores 20 j i 0 t 0 o at (take 32 (drop (writtenSetFrom i) s)) (part-length s (writtenSetFrom i) 32 (omega arith)) e₁ e₂ ∙ rw et
+      sets-stores 20 j i 0 t 0 o at (take setRow (drop (writtenSetFrom i) s)) (part-length s (writtenSetFrom i) setRow (omega arith)) e₁ e₂ ∙ rw et

@@ -10,6 +10,7 @@ use Rattle.le.specs.Width.{bytes}
 use Rattle.sets.specs.Base.{Val}
 use Rattle.layout.specs.Record.{Record, bytesOf}
 use Rattle.message.specs.Layout.{upMessage}
+use Rattle.message.specs.Commit.{versionWidth}
 use Rattle.station_state.specs.Layout.{readValueFrom, writtenValueFrom, versionOf, number, station, kind, readSetFrom, writtenSetFrom}
 use Rattle.station_pages.specs.Pages.{usedPageB, usedPagesB}
 use Rattle.set_record.specs.Record.{valuesAt, recordFrom}
@@ -33,7 +34,7 @@ versionSent s p = cond (not (eqb (kind s) 0) && usedPageB s p) (versionOf s p) 0
 -- the n versions from page p on
 unfoldable pub versionsSent : List ℕ → ℕ → ℕ → List ℕ
 versionsSent s zero p = []
-versionsSent s (suc n) p = bytes 4 (versionSent s p) ++ versionsSent s n (suc p)
+versionsSent s (suc n) p = bytes versionWidth (versionSent s p) ++ versionsSent s n (suc p)
 
 unfoldable pub commitBytes : List ℕ → List ℕ
 commitBytes s =

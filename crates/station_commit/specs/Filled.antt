@@ -21,12 +21,12 @@ use Rattle.message.specs.Commit.{versionsAt, versionWidth, recordAt}
 
 -- THE VERSIONS
 
-versions-snoc : (s : List ℕ) (n p : ℕ) → versionsSent s (suc n) p ≡ versionsSent s n p ++ bytes 4 (versionSent s (p + n))
+versions-snoc : (s : List ℕ) (n p : ℕ) → versionsSent s (suc n) p ≡ versionsSent s n p ++ bytes versionWidth (versionSent s (p + n))
 unfolding versionsSent
-versions-snoc s zero p = append-nil (bytes 4 (versionSent s p)) ∙ ap (λ (q : ℕ). bytes 4 (versionSent s q)) (omega arith)
+versions-snoc s zero p = append-nil (bytes versionWidth (versionSent s p)) ∙ ap (λ (q : ℕ). bytes versionWidth (versionSent s q)) (omega arith)
 versions-snoc s (suc n) p =
-    ap (λ (l : List ℕ). bytes 4 (versionSent s p) ++ l) (versions-snoc s n (suc p) ∙ ap (λ (q : ℕ). versionsSent s n (suc p) ++ bytes 4 (versionSent s q)) (omega arith))
-    ∙ sym (append-assoc (bytes 4 (versionSent s p)) (versionsSent s n (suc p)) (bytes 4 (versionSent s (p + suc n))))
+    ap (λ (l : List ℕ). bytes versionWidth (versionSent s p) ++ l) (versions-snoc s n (suc p) ∙ ap (λ (q : ℕ). versionsSent s n (suc p) ++ bytes versionWidth (versionSent s q)) (omega arith))
+    ∙ sym (append-assoc (bytes versionWidth (versionSent s p)) (versionsSent s n (suc p)) (bytes versionWidth (versionSent s (p + suc n))))
 
 length-versions : (s : List ℕ) (n p : ℕ) → length (versionsSent s n p) ≡ n * 4
 unfolding versionsSent
@@ -38,12 +38,12 @@ unfolding versionsTo versionsSent
 versions-are c s zero = refl
 versions-are c s (suc n) = one (versions-are c s n) (versions-snoc s n 0)
   where
-    one : {t y : List ℕ} → t ≡ sets c versionsAt (versionsSent s n 0) → y ≡ versionsSent s n 0 ++ bytes 4 (versionSent s (0 + n))
+    one : {t y : List ℕ} → t ≡ sets c versionsAt (versionsSent s n 0) → y ≡ versionsSent s n 0 ++ bytes versionWidth (versionSent s (0 + n))
         → setU32 t (versionsAt + n * versionWidth) (versionSent s n) ≡ sets c versionsAt y
     one et ey =
         rw (et, ey, setU32-is)
-        (sets-join (versionsSent s n 0) (bytes 4 (versionSent s n)) c versionsAt (versionsAt + n * versionWidth) (rw length-versions)
-        ∙ ap (λ (q : ℕ). sets c versionsAt (versionsSent s n 0 ++ bytes 4 (versionSent s q))) (omega arith))
+        (sets-join (versionsSent s n 0) (bytes versionWidth (versionSent s n)) c versionsAt (versionsAt + n * versionWidth) (rw length-versions)
+        ∙ ap (λ (q : ℕ). sets c versionsAt (versionsSent s n 0 ++ bytes versionWidth (versionSent s q))) (omega arith))
 
 -- THE COMMIT
 

@@ -23,7 +23,7 @@ use Rattle.message.specs.Accepted.{fields-fit}
 use Rattle.message_meaning.specs.Meant.{objectsOn, pagesIn, workAt, upOf}
 use Rattle.message_meaning.specs.Kinds.{up-1, up-2, up-3, up-4, up-5, up-6, up-7, up-8}
 use Rattle.message_meaning.specs.UpAccepted.{CommitFields, UpAccepted, up-accepted}
-use Rattle.server_state.specs.Layout.{agesOf, arrivalsOf, lastOf, lockingB}
+use Rattle.server_state.specs.Layout.{counterLimit, agesOf, arrivalsOf, lastOf, lockingB}
 use Rattle.server_tests.specs.Tests.{unexpectedB, openCallB, openAskB}
 use Rattle.server_changes.specs.Changes.{noticeB, finishB, leaveB, joinReadB, joinWriteB, joinCommitB, unpackB, unlistB, markBusyB, answeredB, loosenB}
 use Rattle.server_actions.specs.Actions.{Serving, serving, onState, sendPageB, installB, commitNowB, addressOf, noticedB, onReadB, onWriteB, onCommitB, onAbortB, onPurgeB, onBusyB, onDoneB, onWrittenSetB, acceptB}
@@ -279,7 +279,7 @@ module _ (i t : ℕ) (z : Model.Serving) where
 -- KIND BY KIND
 
 -- "each transaction gets a new age, 2^63 being out of range"
-module _ {b : Serving} {z : Model.Serving} (h : Serves b z) (kinds x : List ℕ) (a : UpAccepted kinds x) (hx : Bytes x) (la : agesOf (b .state) < 2 ^ 63) (ln : arrivalsOf (b .state) < 2 ^ 63) where
+module _ {b : Serving} {z : Model.Serving} (h : Serves b z) (kinds x : List ℕ) (a : UpAccepted kinds x) (hx : Bytes x) (la : agesOf (b .state) < counterLimit) (ln : arrivalsOf (b .state) < counterLimit) where
   noticed : transactionOf x ≢ 0 → Serves (noticedB x b) (notice (stationOf x) (transactionOf x) z)
   unfolding noticedB
   noticed n = notice-means h (stationOf x) (transactionOf x) (a .station-is) n (fields-fit x hx .transaction-fits) (omega arith)
@@ -386,7 +386,7 @@ module _ {b : Serving} {z : Model.Serving} (h : Serves b z) (kinds x : List ℕ)
       (λ e. rw (up-8 x e, e) (on-written-set e))
 
 -- the message's own effect, on a state that means a server
-pub accept-means : {s : List ℕ} {m : Server} → Is s m → Wanting s → Sound m → (kinds x : List ℕ) → upNumber kinds x ≡ 0 → AllBytes x → agesOf s < 2 ^ 63 → arrivalsOf s < 2 ^ 63
+pub accept-means : {s : List ℕ} {m : Server} → Is s m → Wanting s → Sound m → (kinds x : List ℕ) → upNumber kinds x ≡ 0 → AllBytes x → agesOf s < counterLimit → arrivalsOf s < counterLimit
     → Serves (acceptB x (serving s [] [])) (accept (stationOf x) (upOf x) (start m))
 accept-means {s} {m} h k q kinds x e b la ln =
     let begun : Serves (serving s [] []) (start m) = record { state = h; wanting = k; sound = q; sent = tt; recs = tt } in

@@ -20,7 +20,7 @@ use Rattle.cells.specs.Num.{bytes-all, num-frame}
 use Rattle.cells.specs.Bits.{tb, tb-zero}
 use Rattle.line.specs.Messages.{Lock, NoLock, ObjectLock, WholeLock, Down, Page, Deescalate, Callback, Committed, Aborted, Invalidate, To}
 use Rattle.line.specs.Server.{Server, valuesOn}
-use Rattle.message.specs.Layout.{pageFrom, objectFrom, transactionFrom, pagesFrom, versionFrom, setsFrom, secondSet, valuesFrom, valuesLength, messageLength, kindOf, stationOf, transactionOf, message, single}
+use Rattle.message.specs.Layout.{pageFrom, objectFrom, transactionFrom, pagesFrom, versionFrom, setsFrom, setsLength, secondSet, valuesFrom, valuesLength, messageLength, kindOf, stationOf, transactionOf, message, single}
 use Rattle.message.specs.Layout as Message
 use Rattle.message.specs.Range.{zeroAt, zeros, transactionOk, pageMessageOk, deescalateOk, callbackOk, committedOk, abortedOk, invalidateOk, downFieldsOk}
 use Rattle.message.specs.Number.{lengthOk, downRange, downNumber}
@@ -29,7 +29,7 @@ use Rattle.message_meaning.specs.Meant.{objectsOn, pageAt, downOf}
 use Rattle.message_meaning.specs.Kinds.{down-16, down-17, down-18, down-19, down-20, down-21, down-22, down-23}
 use Rattle.message_meaning.specs.Inverse.{ReadBack, written-read, message-are}
 use Rattle.station_state.specs.Layout.{valueWidth}
-use Rattle.server_state.specs.Layout.{pageRow, pageValuesFrom, valueFrom, serverLength, versionOf, latestOf, writtenSet, writtenSetFrom}
+use Rattle.server_state.specs.Layout.{pageRow, setRow, pageValuesFrom, valueFrom, serverLength, versionOf, latestOf, writtenSet, writtenSetFrom}
 use Rattle.server_actions.specs.Actions.{plain, pageB, deescalateB, callbackB, committedB, abortedB, invalidateB}
 use Rattle.server_meaning.specs.Meant.{Is}
 use Rattle.server_meaning.specs.Tests.{bit-is, value-at, version-at, version-lt, latest-at, latest-lt, writes-at, writes-high}
@@ -109,14 +109,14 @@ module _ (k i p o t pages version : ℕ) where
   none-from-sets = refl
 
   plain-are : k < 256 → i < 256 → p < 256 → o < 256 → Bytes (plain k i p o t pages version)
-  plain-are hk hi hp ho = message-are k i p o t pages version (replicate 32 0) (replicate valuesLength 0) hk hi hp ho (zeros-bytes 32) (zeros-bytes valuesLength)
+  plain-are hk hi hp ho = message-are k i p o t pages version (replicate setsLength 0) (replicate valuesLength 0) hk hi hp ho (zeros-bytes setsLength) (zeros-bytes valuesLength)
 
   plain-length : length (plain k i p o t pages version) ≡ messageLength
-  plain-length = length-message k i p o t pages version (replicate 32 0) (replicate valuesLength 0)
+  plain-length = length-message k i p o t pages version (replicate setsLength 0) (replicate valuesLength 0)
 
   plain-back : t < 2 ^ 32 → pages < 2 ^ 32 → version < 2 ^ 32
-      → ReadBack k i p o t pages version (replicate 32 0) (replicate valuesLength 0) (plain k i p o t pages version)
-  plain-back ht hp hv = written-read k i p o t pages version (replicate 32 0) (replicate valuesLength 0) ht hp hv refl
+      → ReadBack k i p o t pages version (replicate setsLength 0) (replicate valuesLength 0) (plain k i p o t pages version)
+  plain-back ht hp hv = written-read k i p o t pages version (replicate setsLength 0) (replicate valuesLength 0) ht hp hv refl
 
 -- no values
 no-values : (x : List ℕ) → drop valuesFrom x ≡ replicate valuesLength 0 → zeros x valuesFrom (messageLength - valuesFrom) ≡ true
@@ -134,7 +134,7 @@ committed-ok i t n h0 ht n0 hn =
     rw (
       no-page-object 21 i 0 0 t 0 n,
       named (committedB i t n) t (r .transaction-is) h0,
-      no-pages 21 i 0 0 t n (replicate 32 0) (replicate valuesLength 0),
+      no-pages 21 i 0 0 t n (replicate setsLength 0) (replicate valuesLength 0),
       r .version-is,
       ne-eqb n 0 n0,
       none-from-sets 21 i 0 0 t 0 n,
@@ -196,10 +196,10 @@ kindFor ObjectLock = 17
 kindFor WholeLock = 18
 
 -- the eight values of a page, and a value among them
-page-value : (s : List ℕ) (at o : ℕ) → o < 8 → u64At (take pageRow (drop at s)) (o * 8) ≡ u64At s (at + o * 8)
+page-value : (s : List ℕ) (at o : ℕ) → o < 8 → u64At (take pageRow (drop at s)) (o * valueWidth) ≡ u64At s (at + o * valueWidth)
 page-value s at o l =
-    rw (u64At-is (take pageRow (drop at s)) (o * 8), u64At-is s (at + o * 8), ← numAt-drop 8 at s (o * 8))
-    (num-frame 8 (take pageRow (drop at s)) (drop at s) (o * 8) (λ j a b. getD-take pageRow (drop at s) j 0 (omega arith)))
+    rw (u64At-is (take pageRow (drop at s)) (o * valueWidth), u64At-is s (at + o * valueWidth), ← numAt-drop valueWidth at s (o * valueWidth))
+    (num-frame valueWidth (take pageRow (drop at s)) (drop at s) (o * valueWidth) (λ j a b. getD-take pageRow (drop at s) j 0 (omega arith)))
 
 module _ {s : List ℕ} {m : Server} (h : Is s m) where
   part-are : (at n : ℕ) → Bytes (take n (drop at s))
@@ -224,7 +224,7 @@ module _ {s : List ℕ} {m : Server} (h : Is s m) where
     page-are : k < 256 → u < 256 → Bytes (pageB k i a u s)
     page-are hk hu =
         message-are k i (a / 8) (a % 8) (latestOf s i) 0 (versionOf s (a / 8)) (single u) (take pageRow (drop (pageValuesFrom (a / 8)) s)) hk (omega arith) (omega arith) (omega arith)
-        (hu, zeros-bytes 31) (part-are (pageValuesFrom (a / 8)) pageRow)
+        (hu, zeros-bytes (setsLength - 1)) (part-are (pageValuesFrom (a / 8)) pageRow)
 
     page-ok : m .latest i ≢ 0 → pageMessageOk (pageB k i a u s) ≡ true
     unfolding pageMessageOk
@@ -288,7 +288,7 @@ module _ {s : List ℕ} {m : Server} (h : Is s m) where
       rw (
         r .page-is,
         le-leb p 31 (omega arith),
-        no-object 19 i p t 0 0 (replicate 32 0) (replicate valuesLength 0),
+        no-object 19 i p t 0 0 (replicate setsLength 0) (replicate valuesLength 0),
         named (deescalateB i p s) (m .latest i) (r .transaction-is ∙ latest-at h i l) h0,
         none-from-pages 19 i p 0 t 0 0,
       )
@@ -307,32 +307,32 @@ module _ {s : List ℕ} {m : Server} (h : Is s m) where
   -- CALLBACKS
 
   -- the objects that i's entry writes, as the bytes name them
-  written-sets : (i a : ℕ) → i < 8 → tb (getD (take 32 (drop (writtenSetFrom i) s)) (a / 8) 0) (a % 8) ≡ m .queue i .writes a
+  written-sets : (i a : ℕ) → i < 8 → tb (getD (take setRow (drop (writtenSetFrom i) s)) (a / 8) 0) (a % 8) ≡ m .queue i .writes a
   written-sets i a l = byB (ltb (a / 8) 32) some none
     where
-      some : ltb (a / 8) 32 ≡ true → tb (getD (take 32 (drop (writtenSetFrom i) s)) (a / 8) 0) (a % 8) ≡ m .queue i .writes a
+      some : ltb (a / 8) 32 ≡ true → tb (getD (take setRow (drop (writtenSetFrom i) s)) (a / 8) 0) (a % 8) ≡ m .queue i .writes a
       some e =
           let lp = ltb-yes (a / 8) 32 e in
           let whole : a / 8 * 8 + a % 8 ≡ a = omega arith in
-          rw (getD-take 32 (drop (writtenSetFrom i) s) (a / 8) 0 lp, getD-drop (writtenSetFrom i) s (a / 8) 0, ← bit-is (writtenSet s i (a / 8)) (a % 8))
+          rw (getD-take setRow (drop (writtenSetFrom i) s) (a / 8) 0 lp, getD-drop (writtenSetFrom i) s (a / 8) 0, ← bit-is (writtenSet s i (a / 8)) (a % 8))
           (writes-at h i (a / 8) (a % 8) l lp (omega arith) ∙ rw whole)
 
-      none : ltb (a / 8) 32 ≡ false → tb (getD (take 32 (drop (writtenSetFrom i) s)) (a / 8) 0) (a % 8) ≡ m .queue i .writes a
+      none : ltb (a / 8) 32 ≡ false → tb (getD (take setRow (drop (writtenSetFrom i) s)) (a / 8) 0) (a % 8) ≡ m .queue i .writes a
       none e =
           let lp = ltb-no (a / 8) 32 e in
-          rw (List·getD-eq-default (take 32 (drop (writtenSetFrom i) s)) 0 {n = a / 8} (rw length-take (omega arith)), writes-high h i a (omega arith)) (tb-zero (a % 8))
+          rw (List·getD-eq-default (take setRow (drop (writtenSetFrom i) s)) 0 {n = a / 8} (rw length-take (omega arith)), writes-high h i a (omega arith)) (tb-zero (a % 8))
 
   module _ (j i : ℕ) (lj : j < 8) (l : i < 8) where
-    callback-back : ReadBack 20 j i 0 (latestOf s i) 0 0 (take 32 (drop (writtenSetFrom i) s)) (replicate valuesLength 0) (callbackB j i s)
+    callback-back : ReadBack 20 j i 0 (latestOf s i) 0 0 (take setRow (drop (writtenSetFrom i) s)) (replicate valuesLength 0) (callbackB j i s)
     callback-back =
-        written-read 20 j i 0 (latestOf s i) 0 0 (take 32 (drop (writtenSetFrom i) s)) (replicate valuesLength 0) (latest-lt h i l) (omega arith) (omega arith)
-        (part-length (writtenSetFrom i) 32 (omega arith))
+        written-read 20 j i 0 (latestOf s i) 0 0 (take setRow (drop (writtenSetFrom i) s)) (replicate valuesLength 0) (latest-lt h i l) (omega arith) (omega arith)
+        (part-length (writtenSetFrom i) setRow (omega arith))
 
     callback-ok : i ≢ j → m .latest i ≢ 0 → callbackOk j (callbackB j i s) ≡ true
     unfolding callbackOk
     callback-ok n h0 =
         let r = callback-back in
-        let x = take 32 (drop (writtenSetFrom i) s) in
+        let x = take setRow (drop (writtenSetFrom i) s) in
         rw (
           r .page-is,
           le-leb i 7 (omega arith),
@@ -349,10 +349,10 @@ module _ {s : List ℕ} {m : Server} (h : Is s m) where
     callback-post n h0 =
         let r = callback-back in
         let t = latestOf s i in
-        let x = take 32 (drop (writtenSetFrom i) s) in
+        let x = take setRow (drop (writtenSetFrom i) s) in
         let number = r .transaction-is ∙ latest-at h i l in
         sent j 20 (callbackB j i s) lj (r .kind-is) refl refl (r .station-is)
-        (length-message 20 j i 0 t 0 0 x (replicate valuesLength 0) ∙ rw (part-length (writtenSetFrom i) 32 (omega arith)))
-        (message-are 20 j i 0 t 0 0 x (replicate valuesLength 0) (omega arith) (omega arith) (omega arith) (omega arith) (part-are (writtenSetFrom i) 32) (zeros-bytes valuesLength))
+        (length-message 20 j i 0 t 0 0 x (replicate valuesLength 0) ∙ rw (part-length (writtenSetFrom i) setRow (omega arith)))
+        (message-are 20 j i 0 t 0 0 x (replicate valuesLength 0) (omega arith) (omega arith) (omega arith) (omega arith) (part-are (writtenSetFrom i) setRow) (zeros-bytes valuesLength))
         (rw (r .kind-is) (callback-ok n h0))
         (down-20 _ (r .kind-is) ∙ rw (r .page-is, number, r .sets-are) (ap (Callback i (m .latest i)) (fun-ext (λ a. written-sets i a l))))
