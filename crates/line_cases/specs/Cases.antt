@@ -87,7 +87,7 @@ C9-holds = (runs _ _ refl refl refl, tt)
 
 C10-holds : Holds C10
 unfolding C10 File.table upNumber Number.kindsOk kindOk lengthOk upRange commitLengthOk versionOk pagesTo recordAgrees commitNumber zeroAt zeros commitOk upFieldsOk allTo u16At u32At headOk headAt riseAt rises addressesRise checkOf
-C10-holds = (comes _ 4864 0 refl refl, (File.table-holds .0, (comes _ 2569 5 refl refl, (File.table-holds .1 .0, tt))))
+C10-holds = (comes _ _ 0 refl refl, (File.table-holds .0, (comes _ _ 5 refl refl, (File.table-holds .1 .0, tt))))
 
 C11-holds : Holds C11
 unfolding C11 File.table seen

@@ -1,8 +1,11 @@
 -- Document 01's cases C1 to C12 as one table: of each call its answer, the bytes of the messages that it sends and the bytes that it
 -- archives. 8 is page 1, object 0; 9 is page 1, object 1.
-use Prim.Native.Nat.{ℕ, zero, suc, _+_}
+use Prim.Native.Nat.{ℕ, zero, suc, _+_, _*_, _-_}
 use mathlib.Core.List.{List, [], _∷_, _++_}
 use lib.ListN.{replicate}
+use Rattle.layout.specs.Record.{valueLength, recordLength}
+use Rattle.message.specs.Layout.{versionFrom, setsFrom, setsLength, messageLength}
+use Rattle.message.specs.Commit.{versionWidth, recordAt}
 use Rattle.line.specs.Messages.{Answer, Nothing, Begun, Value, Waits, Written, CommittedAs, AbortedFor, Refused, Empty}
 use Rattle.line.specs.Line.{Call, Owner, ServerTakes, StationTakes, Begin, Read, Write, Commits, Aborts}
 use Rattle.cases.specs.Archive.{filled, c12, readOf8}
@@ -18,14 +21,14 @@ padded (suc n) [] = 0 ∷ padded n []
 padded (suc n) (x ∷ l) = x ∷ padded n l
 
 -- 112 bytes: "Byte 0 kind, 1 station on the line, 2 page or requester, 3 object or cause, 4–7 transaction, 8–11 page set, 12–15 version or
--- commit number", and from byte 16 on "object sets by page (one set of a single page: byte 16), 48–111 eight values"
+-- commit number", and from the sets on "object sets by page (one set of a single page: byte 16), 48–111 eight values"
 abbrev message : ℕ → ℕ → ℕ → ℕ → ℕ → ℕ → ℕ → List ℕ → List ℕ
-message k i p o t d n from16 = k ∷ i ∷ p ∷ o ∷ t ∷ 0 ∷ 0 ∷ 0 ∷ d ∷ 0 ∷ 0 ∷ 0 ∷ n ∷ 0 ∷ 0 ∷ 0 ∷ padded 96 from16
+message k i p o t d n fromSets = k ∷ i ∷ p ∷ o ∷ t ∷ 0 ∷ 0 ∷ 0 ∷ d ∷ 0 ∷ 0 ∷ 0 ∷ n ∷ 0 ∷ 0 ∷ 0 ∷ padded (messageLength - setsFrom) fromSets
 
 -- "n + m values of 8 bytes"
 abbrev values : List ℕ → List ℕ
 values [] = []
-values (v ∷ l) = v ∷ 0 ∷ 0 ∷ 0 ∷ 0 ∷ 0 ∷ 0 ∷ 0 ∷ values l
+values (v ∷ l) = padded valueLength (v ∷ []) ++ values l
 
 -- "reads n (2 bytes), writes m (2), commit number (4; 0 on the way up), transaction (4), station (1), its kind (1), two zero bytes; then
 -- n + m addresses of one byte; then n + m values of 8 bytes"
@@ -34,7 +37,7 @@ recorded n m number t i k a v = n ∷ 0 ∷ m ∷ 0 ∷ number ∷ 0 ∷ 0 ∷ 0
 
 -- "A commit is followed by 32 versions of 4 bytes .. and a record": station, transaction, set of pages used, versions, record
 abbrev commit : ℕ → ℕ → ℕ → List ℕ → List ℕ → List ℕ
-commit i t d v r = message 3 i 0 0 t d 0 [] ++ (padded 128 v ++ r)
+commit i t d v r = message 3 i 0 0 t d 0 [] ++ (padded (32 * versionWidth) v ++ r)
 
 -- PARTS OF ROWS
 
@@ -208,17 +211,19 @@ upFrom a (suc n) = a ∷ upFrom (suc a) n
 abbrev commitsAll : ℕ → ℕ → ℕ → ℕ → List ℕ → List ℕ
 commitsAll n n′ m m′ rest =
     3 ∷ 0 ∷ 0 ∷ 0 ∷ 1 ∷ 0 ∷ 0 ∷ 0 ∷ 255 ∷ 255 ∷ 255 ∷ 255
-    ∷ (replicate 100 0 ++ (padded 128 [] ++ (n ∷ n′ ∷ m ∷ m′ ∷ 0 ∷ 0 ∷ 0 ∷ 0 ∷ 1 ∷ 0 ∷ 0 ∷ 0 ∷ 0 ∷ 0 ∷ 0 ∷ 0 ∷ rest)))
+    ∷ (replicate (messageLength - versionFrom) 0
+    ++ (padded (32 * versionWidth) []
+    ++ (n ∷ n′ ∷ m ∷ m′ ∷ 0 ∷ 0 ∷ 0 ∷ 0 ∷ 1 ∷ 0 ∷ 0 ∷ 0 ∷ 0 ∷ 0 ∷ 0 ∷ 0 ∷ rest)))
 
 unfoldable pub C10 : Row
 C10 =
     row "C10 n = m = 256: 4,624 bytes; n = 257: number 5."
     -- on the way up: 240 bytes and the record's
-    (OfCommit (commitsAll 0 1 0 1 (upFrom 0 256 ++ (upFrom 0 256 ++ replicate 4096 0))) 4864 0
+    (OfCommit (commitsAll 0 1 0 1 (upFrom 0 256 ++ (upFrom 0 256 ++ replicate (valueLength * (256 + 256)) 0))) (recordAt + recordLength 256 256) 0
     ∷ OfFile (filled 256 256) 4624 0 "commit station transaction reads writes\n1 0 1 256 256\nend 1\n"
     -- a byte has no 257th address
-    ∷ OfCommit (commitsAll 1 1 0 0 (upFrom 0 256 ++ (255 ∷ replicate 2056 0))) 2569 5
-    ∷ OfFile (filled 257 0) 2329 5 "commit station transaction reads writes\nrefused 5 after 0\n"
+    ∷ OfCommit (commitsAll 1 1 0 0 (upFrom 0 256 ++ (255 ∷ replicate (valueLength * 257) 0))) (recordAt + recordLength 257 0) 5
+    ∷ OfFile (filled 257 0) (recordLength 257 0) 5 "commit station transaction reads writes\nrefused 5 after 0\n"
     ∷ [])
 
 -- no calls archive nothing; record check of no bytes is short
@@ -244,7 +249,7 @@ abbrev pub readOf8By1 : List Step
 readOf8By1 =
     answers (Owner 1 Begin) (Begun 1)
     ∷ sends (Owner 1 (Read 8)) Waits (message 1 1 1 0 1 0 0 [] ∷ [])
-    ∷ serves 1 (message 16 1 1 0 1 0 1 (replicate 32 0 ++ (1 ∷ [])) ∷ [])
+    ∷ serves 1 (message 16 1 1 0 1 0 1 (replicate setsLength 0 ++ (1 ∷ [])) ∷ [])
     ∷ answers (StationTakes 1) (Value 1)
     ∷ sends (Owner 1 Commits) Waits (commit 1 1 2 (0 ∷ 0 ∷ 0 ∷ 0 ∷ 1 ∷ []) (recorded 1 0 0 1 1 1 (8 ∷ []) (1 ∷ [])) ∷ [])
     ∷ step (ServerTakes 1) Nothing (message 21 1 0 0 1 0 2 [] ∷ []) readOf8
@@ -258,7 +263,7 @@ C12 =
     ∷ OfFile c12 34 0 "commit station transaction reads writes\n1 0 1 1 1\nend 1\n"
     -- "C12 followed by a read of 8 (value 1) in transaction 1 of station 1 prints"
     ∷ OfLine (commits12 ++ readOf8By1) (c12 ++ readOf8)
-    ∷ OfFile (c12 ++ readOf8) 59 0 "commit station transaction reads writes\n1 0 1 1 1\n2 1 1 1 0\nend 2\n"
+    ∷ OfFile (c12 ++ readOf8) (recordLength 1 1 + recordLength 1 0) 0 "commit station transaction reads writes\n1 0 1 1 1\n2 1 1 1 0\nend 2\n"
     ∷ [])
 
 unfoldable pub table : List Row
