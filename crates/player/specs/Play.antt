@@ -70,23 +70,22 @@ ran v c p at last k = record { values = v; counts = c; text = p; at = at; last =
 abbrev pub noRoom : ℕ
 noRoom = 255
 
--- what an answer leads to; w are the values afterwards
+-- what an answer leads to; w are the values afterwards. Behind a line there must be room for another
 abbrev pub runFor : (ℕ → ℕ → List ℕ → List ℕ → Put → Ran) → Job → ℕ → List ℕ → ℕ → ℕ → List ℕ → List ℕ → List ℕ → Put → Answer → Ran
 runFor next job base t at last v w c p (Record f) =
     let n = noteOf job base t f (getD v (job .counter) 0) (getD w (job .counter) 0) c p in
-    next (f .end) (f .commit) w (n .counts) (n .text)
+    cond (hasRoom longest (length (n .text .out)) (n .text .at)) (next (f .end) (f .commit) w (n .counts) (n .text))
+    (ran w (n .counts) (n .text) (f .end) (f .commit) noRoom)
 runFor next job base t at last v w c p End = ran w c p at last 0
 runFor next job base t at last v w c p (Refused k) = ran w c p at last k
 
--- the bytes from `at` on, record by record, up to the job's last commit and as long as there is room. Each record takes a turn
+-- the bytes from `at` on, record by record, up to the job's last commit and as long as there is room behind a line. Each record takes a turn
 -- (`run-enough` in Steps).
 unfoldable pub runFrom : ℕ → Job → ℕ → List ℕ → ℕ → ℕ → List ℕ → List ℕ → Put → Ran
 runFrom zero job base s at last v c p = ran v c p at last 12
 runFrom (suc turns) job base s at last v c p =
     cond (eqb last (job .until)) (ran v c p at last 0)
-    (cond (hasRoom longest (length (p .out)) (p .at))
     (runFor (runFrom turns job base s) job base (drop at s) at last v (replayOf s at last v .values) c p (replayOf s at last v .answer))
-    (ran v c p at last noRoom))
 
 unfoldable pub runOf : Job → ℕ → List ℕ → ℕ → List ℕ → List ℕ → Put → Ran
 runOf job base s last v c p = runFrom (suc (length s)) job base s 0 last v c p

@@ -25,7 +25,7 @@ unfolding runFrom
 run-enough zero n job base s at last v c p h hm hn = absurd (omega arith)
 run-enough (suc m) zero job base s at last v c p h hm hn = absurd (omega arith)
 run-enough (suc m) (suc n) job base s at last v c p h hm hn =
-    ap (λ (r : Ran). cond (eqb last (job .until)) (ran v c p at last 0) (cond (hasRoom longest (length (p .out)) (p .at)) r (ran v c p at last noRoom)))
+    ap (cond (eqb last (job .until)) (ran v c p at last 0))
     (on-answer (λ q l w d x. run-enough m n job base s q l w d x) (replayOf s at last v .answer) refl)
   where
     w₁ : List ℕ
@@ -37,7 +37,8 @@ run-enough (suc m) (suc n) job base s at last v c p h hm hn =
     on-answer rest (Record f) e =
         let o = onwards s at last f (replay-read s at last v f e) in
         let note = noteOf job base (drop at s) f (getD v (job .counter) 0) (getD w₁ (job .counter) 0) c p in
-        rest (f .end) (f .commit) w₁ (note .counts) (note .text) (o .within) (omega arith) (omega arith)
+        ap (λ (r : Ran). cond (hasRoom longest (length (note .text .out)) (note .text .at)) r (ran w₁ (note .counts) (note .text) (f .end) (f .commit) noRoom))
+        (rest (f .end) (f .commit) w₁ (note .counts) (note .text) (o .within) (omega arith) (omega arith))
     on-answer rest End e = refl
     on-answer rest (Refused k) e = refl
 
@@ -56,26 +57,39 @@ module _ (job : Job) (base : ℕ) (s : List ℕ) (at last : ℕ) (v c : List ℕ
   unfolding runFrom
   reached e = one-turn ∙ rw (eq-eqb last (job .until) e)
 
-  pub crowded : (last ≡ job .until → ⊥) → hasRoom longest (length (p .out)) (p .at) ≡ false
-      → runFrom (suc (length s) - at) job base s at last v c p ≡ ran v c p at last noRoom
-  unfolding runFrom
-  crowded far h = one-turn ∙ rw (ne-eqb last (job .until) far, h)
-
-  pub turn : (last ≡ job .until → ⊥) → hasRoom longest (length (p .out)) (p .at) ≡ true → (w : List ℕ) (a : Answer) → replayed w a ≡ replayOf s at last v
+  pub turn : (last ≡ job .until → ⊥) → (w : List ℕ) (a : Answer) → replayed w a ≡ replayOf s at last v
       → runFrom (suc (length s) - at) job base s at last v c p ≡ runFor (runFrom (length s - at) job base s) job base (drop at s) at last v w c p a
   unfolding runFrom
-  turn far h w a e = one-turn ∙ rw (ne-eqb last (job .until) far, h, ← e)
+  turn far w a e = one-turn ∙ rw (ne-eqb last (job .until) far, ← e)
 
-  -- a record's turn leaves the play from its end on
-  pub turn-record : (last ≡ job .until → ⊥) → hasRoom longest (length (p .out)) (p .at) ≡ true
-      → (w : List ℕ) (f : Fields) → replayed w (Record f) ≡ replayOf s at last v
-      → {before after : ℕ} (d : List ℕ) (q : Put) → noted d q ≡ noteOf job base (take (length s - at) (drop at s)) f before after c p
-      → before ≡ getD v (job .counter) 0 → after ≡ getD w (job .counter) 0
-      → runFrom (suc (length s) - at) job base s at last v c p ≡ runFrom (suc (length s) - f .end) job base s (f .end) (f .commit) w d q
-  turn-record far h w f e d q en eb ea =
-      let o = moves s at last v w f e in
-      let note = noteOf job base (drop at s) f (getD v (job .counter) 0) (getD w (job .counter) 0) c p in
-      let told : note ≡ noted d q = sym (rw (to-the-end, eb, ea) at en) in
-      turn far h w (Record f) e
-      ∙ run-enough (length s - at) (suc (length s) - f .end) job base s (f .end) (f .commit) w (note .counts) (note .text) (o .within) (omega arith) (omega arith)
-      ∙ ap (λ (n : Noted). runFrom (suc (length s) - f .end) job base s (f .end) (f .commit) w (n .counts) (n .text)) told
+  module _ (far : last ≡ job .until → ⊥) (w : List ℕ) (f : Fields) (e : replayed w (Record f) ≡ replayOf s at last v) (d : List ℕ) (q : Put) where
+    -- what a record's note leaves
+    abbrev note : Noted
+    note = noteOf job base (drop at s) f (getD v (job .counter) 0) (getD w (job .counter) 0) c p
+
+    abbrev behind : Noted → Ran
+    behind n =
+        cond (hasRoom longest (length (n .text .out)) (n .text .at)) (runFrom (length s - at) job base s (f .end) (f .commit) w (n .counts) (n .text))
+        (ran w (n .counts) (n .text) (f .end) (f .commit) noRoom)
+
+    noted-turn : noted d q ≡ note → runFrom (suc (length s) - at) job base s at last v c p ≡ behind (noted d q)
+    noted-turn told = turn far w (Record f) e ∙ ap behind (sym told)
+
+    is-note : {before after : ℕ} → noted d q ≡ noteOf job base (take (length s - at) (drop at s)) f before after c p
+        → before ≡ getD v (job .counter) 0 → after ≡ getD w (job .counter) 0 → noted d q ≡ note
+    is-note en eb ea = rw (to-the-end, eb, ea) at en
+
+    -- a record's turn leaves the play from its end on
+    pub turn-record : {before after : ℕ} → noted d q ≡ noteOf job base (take (length s - at) (drop at s)) f before after c p
+        → before ≡ getD v (job .counter) 0 → after ≡ getD w (job .counter) 0 → hasRoom longest (length (q .out)) (q .at) ≡ true
+        → runFrom (suc (length s) - at) job base s at last v c p ≡ runFrom (suc (length s) - f .end) job base s (f .end) (f .commit) w d q
+    turn-record en eb ea room =
+        let o = moves s at last v w f e in
+        noted-turn (is-note en eb ea)
+        ∙ rw room (run-enough (length s - at) (suc (length s) - f .end) job base s (f .end) (f .commit) w d q (o .within) (omega arith) (omega arith))
+
+    -- or the end, where another line has no room
+    pub turn-full : {before after : ℕ} → noted d q ≡ noteOf job base (take (length s - at) (drop at s)) f before after c p
+        → before ≡ getD v (job .counter) 0 → after ≡ getD w (job .counter) 0 → hasRoom longest (length (q .out)) (q .at) ≡ false
+        → runFrom (suc (length s) - at) job base s at last v c p ≡ ran w d q (f .end) (f .commit) noRoom
+    turn-full en eb ea room = noted-turn (is-note en eb ea) ∙ rw room

@@ -26,9 +26,8 @@ pub run-tally : (turns : ℕ) (job : Job) (base : ℕ) (s : List ℕ) (at last :
 unfolding runFrom tallyFrom noteOf tally-noted
 run-tally zero job base s at last v c p is room = refl
 run-tally (suc turns) job base s at last v c p is room =
-    rw room
-    (by-test (eqb last (job .until)) (runFor (runFrom turns job base s) job base (drop at s) at last v w₁ c p (replayOf s at last v .answer))
-    (on-answer (λ q l w d. run-tally turns job base s q l w d p is room) (replayOf s at last v .answer)))
+    by-test (eqb last (job .until)) (runFor (runFrom turns job base s) job base (drop at s) at last v w₁ c p (replayOf s at last v .answer))
+    (on-answer (λ q l w d. run-tally turns job base s q l w d p is room) (replayOf s at last v .answer))
   where
     w₁ : List ℕ
     w₁ = replayOf s at last v .values
@@ -41,7 +40,7 @@ run-tally (suc turns) job base s at last v c p is room =
         → (a : Answer)
         → tallyOfRun (runFor (runFrom turns job base s) job base (drop at s) at last v w₁ c p a)
         ≡ tallyFor (tallyFrom turns true s (job .until)) true (drop at s) at last w₁ c a
-    on-answer rest (Record f) = rw is (rest (f .end) (f .commit) w₁ (counted (drop at s) c))
+    on-answer rest (Record f) = rw (is, room) (rest (f .end) (f .commit) w₁ (counted (drop at s) c))
     on-answer rest End = refl
     on-answer rest (Refused k) = refl
 

@@ -119,8 +119,9 @@ fn note(
     note_text(part, base, f, job, before, after, output, out)
 }
 
-// Plays the records that are whole in the input, up to the commit where the job ends and as long as the output has room. One loop
-// serves all listings: the compiler writes replay in place only where it is called once.
+// Plays the records that are whole in the input, up to the commit where the job ends and as long as the output has room for another
+// line. One loop serves all listings: the compiler writes replay in place only where it is called once. Room is tested behind a
+// line and not in front of it: there the compiler makes a faster loop of it.
 pub fn play(
     input: &[u8],
     base: u64,
@@ -141,9 +142,6 @@ pub fn play(
         if le::long(commit) == job.until {
             return stop_at(at, commit, next, 0);
         }
-        if !text::room(report::LINE, output.len(), next) {
-            return stop_at(at, commit, next, NO_ROOM);
-        }
         let before = values[counter];
         match replay::replay(input, at, commit, values) {
             Answer::Record(f) => {
@@ -152,6 +150,9 @@ pub fn play(
                 next = note(part, base, f, job, before, after, counts, output, next);
                 at = f.end;
                 commit = f.commit;
+                if !text::room(report::LINE, output.len(), next) {
+                    return stop_at(at, commit, next, NO_ROOM);
+                }
             }
             Answer::End => return stop_at(at, commit, next, 0),
             Answer::Refused(number) => return stop_at(at, commit, next, number),
