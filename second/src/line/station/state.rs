@@ -1,6 +1,7 @@
 //! A station's state as bytes, from docs/STATE.md: its table of fields, number 1, and what it calls leftovers.
 
 use super::{Callback, Out, Page, Station, Transaction};
+use crate::line::little::WORD;
 use crate::line::places::Place;
 use crate::line::sets::{address, object_of, page_of, rising};
 use crate::line::sets::{OBJECTS, PAGES, STATIONS};
@@ -29,7 +30,7 @@ pub fn valid(bytes: &[u8]) -> bool {
         && in_range(bytes)
         && !keeps_its_own(bytes)
         && transaction_fits(bytes)
-        && (may_hold(bytes) || is_0(bytes, &Field::OF_LOCKS))
+        && (may_hold(bytes) || holds_nothing(bytes))
 }
 
 fn in_range(bytes: &[u8]) -> bool {
@@ -47,15 +48,29 @@ fn keeps_its_own(bytes: &[u8]) -> bool {
     Field::Kept.word(bytes, station.into()) != 0
 }
 
-fn is_0(bytes: &[u8], fields: &[Field]) -> bool {
-    let zero = |field: &Field| bytes[field.range()].iter().all(|byte| *byte == 0);
-    fields.iter().all(zero)
+/// So many bytes of a field, compared at once.
+fn is_0<const N: usize>(bytes: &[u8], field: Field) -> bool {
+    bytes[field.start()..][..N] == [0; N]
+}
+
+/// `Field::OF_TRANSACTION`
+fn is_closed(bytes: &[u8]) -> bool {
+    is_0::<PAGES>(bytes, Field::ReadSet)
+        && is_0::<PAGES>(bytes, Field::WrittenSet)
+        && Field::Wait.byte(bytes) == 0
+}
+
+/// `Field::OF_LOCKS`
+fn holds_nothing(bytes: &[u8]) -> bool {
+    Field::Whole.word(bytes, 0) == 0
+        && is_0::<PAGES>(bytes, Field::Locks)
+        && is_0::<{ STATIONS * WORD }>(bytes, Field::Kept)
 }
 
 /// "0 while no transaction is open"; "A read that is out is of an object that is in neither set"
 fn transaction_fits(bytes: &[u8]) -> bool {
     if Field::Open.byte(bytes) == 0 {
-        return is_0(bytes, &Field::OF_TRANSACTION);
+        return is_closed(bytes);
     }
     let requested = Field::Address.byte(bytes);
     let seen = |field: &Field| field.sets(bytes, 0).has(requested);
