@@ -24,7 +24,7 @@ use Rattle.server_state.specs.Valid.{mostAt, most, rangesOk, countersOk,
 pub or-else : (a b : Bool) → a ≡ false → a || b ≡ true → b ≡ true
 or-else a b e h = rw e at h
 
-all-3 : (a b c : Bool) → a && b && c ≡ true → (a ≡ true) × (b ≡ true) × (c ≡ true)
+pub all-3 : (a b c : Bool) → a && b && c ≡ true → (a ≡ true) × (b ≡ true) × (c ≡ true)
 all-3 a b c h = let u = and-l (a && b) c h in (and-l a b u, and-r a b u, and-r (a && b) c h)
 
 all-4 : (a b c d : Bool) → a && b && c && d ≡ true → (a ≡ true) × (b ≡ true) × (c ≡ true) × (d ≡ true)
@@ -37,7 +37,7 @@ taken a b c e h = rw e at h
 passed : (a b c : Bool) → a ≡ false → cond a b c ≡ true → c ≡ true
 passed a b c e h = rw e at h
 
-most-at : (s : List ℕ) (at n m : ℕ) → most s at n m ≡ true → (k : ℕ) → k < m → getD s (at + k) 0 ≤ n
+pub most-at : (s : List ℕ) (at n m : ℕ) → most s at n m ≡ true → (k : ℕ) → k < m → getD s (at + k) 0 ≤ n
 unfolding most mostAt
 most-at s at n m h k l = leb-true (getD s (at + k) 0) n (allTo-at (mostAt s at n) m h k l)
 
@@ -171,7 +171,7 @@ module _ (s : List ℕ) (i : ℕ) where
       (eqb-true _ _ (and-l (eqb (pendOf s i) 0) _ u), eqb-true _ _ (and-r (eqb (pendOf s i) 0) _ u))
 
   module _ (h : stationOk s i ≡ true) where
-    parts : (agedOk s i ≡ true) × (entryOk s i ≡ true) × (callsOk s i ≡ true)
+    pub parts : (agedOk s i ≡ true) × (entryOk s i ≡ true) × (callsOk s i ≡ true)
     unfolding stationOk
     parts = all-3 (agedOk s i) (entryOk s i) (callsOk s i) h
 

@@ -4,4 +4,5 @@ pub mod Valid
 pub mod Ages
 pub mod Stores
 pub mod Facts
+pub mod Eights
 pub mod Sets

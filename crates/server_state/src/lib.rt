@@ -5,6 +5,7 @@ ghost use lib.ListN.{length, replicate};
 ghost use Rattle.lists.specs.Tests.{allTo};
 ghost use Rattle.server_state.specs.Layout.{serverLength, otherB};
 ghost use Rattle.server_state.specs.Valid.{mostAt, most as Valid·most, rangesOk, countersOk, wordOf, onlyIn, blankOk, commitOk, requestOk, waiterOk, entryOk, owesAt, callsOk, agedOk, stationOk, holderOk, holderAt, besideAt, pageOk, askedAt, apartAt, apartOk, valid as Valid·valid, kindsOk, kindsTo, freshened, freshOf};
+ghost use Rattle.server_state.specs.Eights.{groupFree, groupOk};
 ghost use Rattle.server_state.specs.Ages.{agedOf};
 use station_state::NUMBER_WIDTH;
 use station_state::PAGE_SET_WIDTH;
@@ -152,16 +153,10 @@ fn blank_ok(s: &[u8], i: usize) -> bool
     requires { ⌜ (length (now s) ≡ serverLength) × (i < 8) ⌝ }
     ensures { λ r. ⌜ r ≡ blankOk (now (s .entry)) i ⌝ }
 {
-    if le::get_u64(s, ARRIVAL + i * AGE_WIDTH) != 0 {
-        return false;
-    }
-    if s[REQUEST + i] != 0 {
-        return false;
-    }
-    if !station_state::none_in(s, READ_SET + i * SET_ROW) {
-        return false;
-    }
-    station_state::none_in(s, WRITTEN_SET + i * SET_ROW)
+    (le::get_u64(s, ARRIVAL + i * AGE_WIDTH) == 0)
+        & (s[REQUEST + i] == 0)
+        & station_state::none_in(s, READ_SET + i * SET_ROW)
+        & station_state::none_in(s, WRITTEN_SET + i * SET_ROW)
 }
 
 // Whether station i may wait with a commit.
@@ -216,6 +211,36 @@ fn entry_ok(s: &[u8], i: usize) -> bool
     waiter_ok(s, i)
 }
 
+fn blanks_ok(s: &[u8]) -> bool
+    requires { ⌜ length (now s) ≡ serverLength ⌝ }
+    ensures { λ r. ⌜ r ≡ allTo (blankOk (now (s .entry))) 8 ⌝ }
+{
+    let mut ok = true;
+    let mut i = 0;
+    while i < 8 {
+        ok &= blank_ok(s, i);
+        i += 1;
+    }
+    ok
+}
+
+// Where nobody waits, eight entries are tested without asking of each which it is.
+fn entries_ok(s: &[u8]) -> bool
+    requires { ⌜ length (now s) ≡ serverLength ⌝ }
+    ensures { λ r. ⌜ r ≡ allTo (entryOk (now (s .entry))) 8 ⌝ }
+{
+    if le::get_u64(s, WANT) == 0 {
+        return blanks_ok(s);
+    }
+    let mut ok = true;
+    let mut i = 0;
+    while i < 8 {
+        ok &= entry_ok(s, i);
+        i += 1;
+    }
+    ok
+}
+
 // Whether station j, if it owes station i a 7, is another, locking one.
 fn owes_at(s: &[u8], i: usize, j: usize) -> bool
     requires { ⌜ (length (now s) ≡ serverLength) × (i < 8) × (j < 8) ⌝ }
@@ -247,6 +272,23 @@ fn calls_ok(s: &[u8], i: usize) -> bool
     (s[WANT + i] >= 2) & (s[BUSY + i] | s[PEND + i] == s[PEND + i]) & owes_ok(s, i)
 }
 
+// Where no 20 is out, the bytes of all eight are tested at once.
+fn all_calls_ok(s: &[u8]) -> bool
+    requires { ⌜ length (now s) ≡ serverLength ⌝ }
+    ensures { λ r. ⌜ r ≡ allTo (callsOk (now (s .entry))) 8 ⌝ }
+{
+    if le::get_u64(s, CALLED) == 0 {
+        return (le::get_u64(s, PEND) == 0) & (le::get_u64(s, BUSY) == 0);
+    }
+    let mut ok = true;
+    let mut i = 0;
+    while i < 8 {
+        ok &= calls_ok(s, i);
+        i += 1;
+    }
+    ok
+}
+
 fn aged_ok(s: &[u8], i: usize) -> bool
     requires { ⌜ (length (now s) ≡ serverLength) × (i < 8) ⌝ }
     ensures { λ r. ⌜ r ≡ agedOk (now (s .entry)) i ⌝ }
@@ -255,24 +297,24 @@ fn aged_ok(s: &[u8], i: usize) -> bool
         & ((s[UNFINISHED + i] == 0) | (le::get_u32(s, LATEST + i * NUMBER_WIDTH) != 0))
 }
 
-fn station_ok(s: &[u8], i: usize) -> bool
-    requires { ⌜ (length (now s) ≡ serverLength) × (i < 8) ⌝ }
-    ensures { λ r. ⌜ r ≡ stationOk (now (s .entry)) i ⌝ }
+fn ages_ok(s: &[u8]) -> bool
+    requires { ⌜ length (now s) ≡ serverLength ⌝ }
+    ensures { λ r. ⌜ r ≡ allTo (agedOk (now (s .entry))) 8 ⌝ }
 {
-    aged_ok(s, i) & entry_ok(s, i) & calls_ok(s, i)
+    let mut ok = true;
+    let mut i = 0;
+    while i < 8 {
+        ok &= aged_ok(s, i);
+        i += 1;
+    }
+    ok
 }
 
 fn stations_ok(s: &[u8]) -> bool
     requires { ⌜ length (now s) ≡ serverLength ⌝ }
     ensures { λ r. ⌜ r ≡ allTo (stationOk (now (s .entry))) 8 ⌝ }
 {
-    let mut ok = true;
-    let mut i = 0;
-    while i < 8 {
-        ok &= station_ok(s, i);
-        i += 1;
-    }
-    ok
+    ages_ok(s) & entries_ok(s) & all_calls_ok(s)
 }
 
 // Whether the lock on object o of page p is nobody's, or that of the page's holder.
@@ -345,15 +387,40 @@ fn page_ok(s: &[u8], p: usize) -> bool
     holder_ok(s, s[WHOLE + p]) & besides_ok(s, p)
 }
 
+// Whether nothing is locked on eight pages.
+fn group_free(s: &[u8], g: usize) -> bool
+    requires { ⌜ (length (now s) ≡ serverLength) × (g < 4) ⌝ }
+    ensures { λ r. ⌜ r ≡ groupFree (now (s .entry)) g ⌝ }
+{
+    most(s, LOCK + g * 64, 0, 64) & (le::get_u64(s, WHOLE + g * 8) == 0)
+}
+
+// Eight pages; where nothing is locked none is looked at.
+fn group_ok(s: &[u8], g: usize) -> bool
+    requires { ⌜ (length (now s) ≡ serverLength) × (g < 4) ⌝ }
+    ensures { λ r. ⌜ r ≡ groupOk (now (s .entry)) g ⌝ }
+{
+    if group_free(s, g) {
+        return true;
+    }
+    let mut ok = true;
+    let mut p = 0;
+    while p < 8 {
+        ok &= page_ok(s, g * 8 + p);
+        p += 1;
+    }
+    ok
+}
+
 fn pages_ok(s: &[u8]) -> bool
     requires { ⌜ length (now s) ≡ serverLength ⌝ }
     ensures { λ r. ⌜ r ≡ allTo (pageOk (now (s .entry))) 32 ⌝ }
 {
     let mut ok = true;
-    let mut p = 0;
-    while p < 32 {
-        ok &= page_ok(s, p);
-        p += 1;
+    let mut g = 0;
+    while g < 4 {
+        ok &= group_ok(s, g);
+        g += 1;
     }
     ok
 }
@@ -432,7 +499,16 @@ pub fn valid(s: &[u8]) -> bool
     if s.len() != LENGTH {
         return false;
     }
-    ranges_ok(s) & counters_ok(s) & stations_ok(s) & pages_ok(s) & asked_ok(s) & all_apart(s)
+    if !(ranges_ok(s) & counters_ok(s)) {
+        return false;
+    }
+    if !stations_ok(s) {
+        return false;
+    }
+    if !pages_ok(s) {
+        return false;
+    }
+    asked_ok(s) & all_apart(s)
 }
 
 fn zero(s: &mut [u8])

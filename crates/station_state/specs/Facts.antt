@@ -1,13 +1,12 @@
 -- What number 1 tells of a state that passes.
-use Prim.Native.Nat.{ℕ, _+_, _≤_}
-use mathlib.Core.Path.{_≡_}
+use Prim.Native.Nat.{ℕ, _≤_}
+use mathlib.Core.Path.{_≡_, refl}
 use mathlib.Core.List.{List}
 use mathlib.Core.Logic.{_≢_}
 use mathlib.Core.Bool.{Bool, true, false, not, _&&_, _||_, cond}
 use lib.ListN.{length}
 use lib.Dec.{eqb, leb}
 use borrow.Author.Tests.{eqb-true, eqb-false, leb-true, eq-eqb, ne-eqb, not-true, not-false}
-use Rattle.le.specs.Le.{u64At}
 use Rattle.lists.specs.Tests.{and-l, and-r}
 use Rattle.station_state.specs.Layout.{keptFrom, readSetFrom, writtenSetFrom, locksFrom, stateLength, keptOf, number, whole, station, kind, opened, wait, address, member, noneIn}
 use Rattle.station_state.specs.Valid.{fieldsOk, ownKept, closedOk, firstOk, worksOk, locklessOk, holdsOk, valid}
@@ -95,8 +94,17 @@ valid-ranged s h =
       lockless = λ e. lockless-of s (passed own-in true (locklessOk s) e (u .3));
     }
 
--- the last of four words, the others being 0
-pub none-last : (s : List ℕ) (at : ℕ) {a b c d : ℕ} → a ≡ u64At s at → b ≡ u64At s (at + 8) → c ≡ u64At s (at + 16) → d ≡ u64At s (at + 24)
-    → a ≡ 0 → b ≡ 0 → c ≡ 0 → eqb d 0 ≡ noneIn s at
-unfolding noneIn
-none-last s at {a} {b} {c} {d} ea eb ec ed za zb zc = rw (← ea, ← eb, ← ec, ← ed, eq-eqb a 0 za, eq-eqb b 0 zb, eq-eqb c 0 zc)
+-- WHAT THE CODE PASSES OVER
+
+neither : (a : Bool) → a && false ≡ false
+neither true = refl
+neither false = refl
+
+-- no transaction is open
+pub closed-works : (s : List ℕ) → opened s ≡ 0 → worksOk s ≡ closedOk s
+unfolding worksOk
+closed-works s e = rw (eq-eqb (opened s) 0 e)
+
+pub closed-holds : (s : List ℕ) → opened s ≡ 0 → holdsOk s ≡ locklessOk s
+unfolding holdsOk
+closed-holds s e = rw (eq-eqb (opened s) 0 e, neither (eqb (kind s) 0))

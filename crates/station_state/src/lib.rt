@@ -1,9 +1,10 @@
 // The bytes of a station's state: number 1, a fresh state, and the changes that touch one place or one set.
 // Where each field stands is said here for all code, in specs/Layout.antt for the definitions and in docs/STATE.md for readers.
 ghost use mathlib.Core.Path.{_≡_};
+ghost use mathlib.Core.Logic.{_≢_};
 ghost use Prim.Native.Nat.{_+_, _^_, _≤_, _<_};
 ghost use lib.ListN.{length, replicate};
-ghost use Rattle.station_state.specs.Layout.{pageSetWidth, setRow, stateLength, station as Layout·station, number, hasBit, member as Layout·member, noneIn, requestedB};
+ghost use Rattle.station_state.specs.Layout.{pageSetWidth, setRow, stateLength, station as Layout·station, opened, number, hasBit, member as Layout·member, noneIn, requestedB};
 ghost use Rattle.station_state.specs.Valid.{fieldsOk, ownKept, closedOk, firstOk, worksOk, locklessOk, holdsOk, valid as Valid·valid, freshened, freshOf};
 ghost use Rattle.station_state.specs.Changes.{addTo, pageOn, pageOff, clearTo, copyTo, beginB, recordReadB, writeLocalB, idleB, forReadB, forWriteB, forCommitB, loosenB, keepB, unkeepB, closedB};
 
@@ -94,21 +95,15 @@ pub fn member(s: &[u8], at: usize, a: usize) -> bool
     has_bit8(s[at + a / 8], a % 8)
 }
 
-// Whether the object sets from `at` have nothing. Eight at a time, and no further than the first that has something.
+// Whether the object sets from `at` have nothing. Eight at a time, and one test behind the last: most have nothing.
 pub fn none_in(s: &[u8], at: usize) -> bool
     requires { ⌜ at + setRow ≤ length (now s) ⌝ }
     ensures { λ r. ⌜ r ≡ noneIn (now (s .entry)) at ⌝ }
 {
-    if le::get_u64(s, at) != 0 {
-        return false;
-    }
-    if le::get_u64(s, at + 8) != 0 {
-        return false;
-    }
-    if le::get_u64(s, at + 16) != 0 {
-        return false;
-    }
-    le::get_u64(s, at + 24) == 0
+    (le::get_u64(s, at) == 0)
+        & (le::get_u64(s, at + 8) == 0)
+        & (le::get_u64(s, at + 16) == 0)
+        & (le::get_u64(s, at + 24) == 0)
 }
 
 // Whether a read or a write of an object of page p is out.
@@ -144,13 +139,7 @@ fn closed_ok(s: &[u8]) -> bool
     requires { ⌜ length (now s) ≡ stateLength ⌝ }
     ensures { λ r. ⌜ r ≡ closedOk (now (s .entry)) ⌝ }
 {
-    if s[WAIT] != 0 {
-        return false;
-    }
-    if !none_in(s, READ_SET) {
-        return false;
-    }
-    none_in(s, WRITTEN_SET)
+    (s[WAIT] == 0) & none_in(s, READ_SET) & none_in(s, WRITTEN_SET)
 }
 
 // Whether the object of the read that is out was neither read nor written.
@@ -162,13 +151,11 @@ fn first_ok(s: &[u8]) -> bool
     !member(s, READ_SET, a) & !member(s, WRITTEN_SET, a)
 }
 
+// Of an open transaction.
 fn works_ok(s: &[u8]) -> bool
-    requires { ⌜ length (now s) ≡ stateLength ⌝ }
+    requires { ⌜ (length (now s) ≡ stateLength) × (opened (now s) ≢ 0) ⌝ }
     ensures { λ r. ⌜ r ≡ worksOk (now (s .entry)) ⌝ }
 {
-    if s[OPEN] == 0 {
-        return closed_ok(s);
-    }
     if s[WAIT] != 1 {
         return true;
     }
@@ -180,20 +167,15 @@ fn lockless_ok(s: &[u8]) -> bool
     requires { ⌜ length (now s) ≡ stateLength ⌝ }
     ensures { λ r. ⌜ r ≡ locklessOk (now (s .entry)) ⌝ }
 {
-    if le::get_u32(s, WHOLE) != 0 {
-        return false;
-    }
-    if !none_in(s, LOCKS) {
-        return false;
-    }
-    none_in(s, KEPT)
+    (le::get_u32(s, WHOLE) == 0) & none_in(s, LOCKS) & none_in(s, KEPT)
 }
 
+// Of an open transaction.
 fn holds_ok(s: &[u8]) -> bool
-    requires { ⌜ length (now s) ≡ stateLength ⌝ }
+    requires { ⌜ (length (now s) ≡ stateLength) × (opened (now s) ≢ 0) ⌝ }
     ensures { λ r. ⌜ r ≡ holdsOk (now (s .entry)) ⌝ }
 {
-    if (s[KIND] == 0) & (s[OPEN] != 0) {
+    if s[KIND] == 0 {
         return true;
     }
     lockless_ok(s)
@@ -209,7 +191,13 @@ pub fn valid(s: &[u8]) -> bool
     if s[STATION] > 7 {
         return false;
     }
-    fields_ok(s) & !own_kept(s) & works_ok(s) & holds_ok(s)
+    if !(fields_ok(s) & !own_kept(s)) {
+        return false;
+    }
+    if s[OPEN] == 0 {
+        return closed_ok(s) & lockless_ok(s);
+    }
+    works_ok(s) & holds_ok(s)
 }
 
 fn zero(s: &mut [u8])

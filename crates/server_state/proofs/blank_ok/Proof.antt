@@ -1,8 +1,7 @@
 -- `server_state::blank_ok` meets its contract.
 use mathlib.Core.Path.{sym}
-use borrow.Author.Tests.{eq-eqb, ne-eqb, not-true, not-false}
-use Rattle.server_state.specs.Valid.{blankOk}
 use borrow.Author.Needs.{needs}
+use Rattle.server_state.specs.Valid.{blankOk}
 use Rattle.server_state.proofs.blank_ok.Statement.{statement}
 use Rattle.server_state.proofs.blank_ok.Tie as tie
 
@@ -15,19 +14,11 @@ add-get-u64 c = search needs
 get-u64-requires : tie.Need-get-u64-requires
 get-u64-requires c κs = search needs
 
-returns : tie.Need-returns
-unfolding blankOk
-returns c = simp (sym (c .before .get-u64 .ensures), ne-eqb _ _ (c .if1 .taken))
+add-result : tie.Need-add-result
+add-result c = search needs
 
-add-if2 : tie.Need-add-if2
-add-if2 c = search needs
-
-shared-slice-read-if2 : tie.Need-shared-slice-read-if2
-shared-slice-read-if2 c = search needs
-
-returns-2 : tie.Need-returns-2
-unfolding blankOk
-returns-2 c = simp (sym (c .before .before .before .get-u64 .ensures), eq-eqb _ _ (c .before .before .if1 .left), ne-eqb _ _ (c .if2 .taken))
+shared-slice-read-result : tie.Need-shared-slice-read-result
+shared-slice-read-result c = search needs
 
 mul-none-in : tie.Need-mul-none-in
 mul-none-in c = search needs
@@ -38,10 +29,6 @@ add-none-in c = search needs
 none-in-requires : tie.Need-none-in-requires
 none-in-requires c κs = search needs
 
-returns-3 : tie.Need-returns-3
-unfolding blankOk
-returns-3 c = simp (sym (c .before .before .before .before .before .get-u64 .ensures), eq-eqb _ _ (c .before .before .before .before .if1 .left), eq-eqb _ _ (c .before .before .if2 .left), sym (c .before .none-in .ensures), not-true (c .before .none-in .result) (c .if3 .taken))
-
 mul-none-in-2 : tie.Need-mul-none-in-2
 mul-none-in-2 c = search needs
 
@@ -51,9 +38,9 @@ add-none-in-2 c = search needs
 none-in-requires-2 : tie.Need-none-in-requires-2
 none-in-requires-2 c κs = search needs
 
-returns-4 : tie.Need-returns-4
+returns : tie.Need-returns
 unfolding blankOk
-returns-4 c = simp (sym (c .before .before .before .before .before .before .get-u64 .ensures), eq-eqb _ _ (c .before .before .before .before .before .if1 .left), eq-eqb _ _ (c .before .before .before .if2 .left), sym (c .before .before .none-in .ensures), not-false (c .before .before .none-in .result) (c .before .if3 .left), sym (c .none-in2 .ensures))
+returns c = simp (sym (c .before .before .before .get-u64 .ensures), sym (c .before .none-in .ensures), sym (c .none-in2 .ensures))
 
 pub blank-ok-spec : {M : Type 1} → statement M
 blank-ok-spec =
@@ -62,15 +49,12 @@ blank-ok-spec =
     mul-get-u64
     add-get-u64
     get-u64-requires
-    returns
-    add-if2
-    shared-slice-read-if2
-    returns-2
+    add-result
+    shared-slice-read-result
     mul-none-in
     add-none-in
     none-in-requires
-    returns-3
     mul-none-in-2
     add-none-in-2
     none-in-requires-2
-    returns-4)
+    returns)

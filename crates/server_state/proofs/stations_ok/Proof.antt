@@ -1,41 +1,21 @@
--- `server_state::stations_ok` meets its contract. The loop's invariant: the answer is the definition's at the count of stations passed.
-use Prim.Native.Nat.{_≤_, _-_}
-use mathlib.Core.Path.{_≡_, ap, _∙_}
-use native.Mathlib.Numerals.{add-one}
-use native.Mathlib.Omega.{arith}
+-- `server_state::stations_ok` meets its contract.
+use mathlib.Core.Path.{sym, _∙_}
 use borrow.Author.Needs.{needs}
-use Rattle.lists.specs.Tests.{allTo}
-use Rattle.server_state.specs.Valid.{stationOk}
+use Rattle.server_state.specs.Eights.{stations-all}
 use Rattle.server_state.proofs.stations_ok.Statement.{statement}
 use Rattle.server_state.proofs.stations_ok.Tie as tie
 
-abbrev Inv-loop : tie.InvT-loop
-Inv-loop s ok₀ i₀ ok i = (i ≤ 8) × (ok ≡ allTo (stationOk s) i)
+ages-ok-requires : tie.Need-ages-ok-requires
+ages-ok-requires c κs = search needs
 
-abbrev μ-loop : tie.MeasureT-loop
-μ-loop s ok₀ i₀ ok i = 8 - i
+entries-ok-requires : tie.Need-entries-ok-requires
+entries-ok-requires c κs = search needs
 
-loop-holds : tie.Need-loop-holds Inv-loop μ-loop
-unfolding allTo
-loop-holds c = search needs
+all-calls-ok-requires : tie.Need-all-calls-ok-requires
+all-calls-ok-requires c κs = search needs
 
-station-ok-requires : tie.Need-station-ok-requires Inv-loop μ-loop
-station-ok-requires c κs = search needs
-
-add-i : tie.Need-add-i Inv-loop μ-loop
-add-i c = search needs
-
-loop-less : tie.Need-loop-less Inv-loop μ-loop
-loop-less c = search needs
-
-loop-again : tie.Need-loop-again Inv-loop μ-loop
-unfolding allTo
-loop-again c = (search needs, rw add-one (cc))
-
-returns : tie.Need-returns Inv-loop μ-loop
-returns c = c .before .loop .inv .1 ∙ ap (allTo _) (omega arith)
+returns : tie.Need-returns
+returns c = simp (c .before .before .ages-ok .ensures, c .before .entries-ok .ensures, c .all-calls-ok .ensures) (stations-all _)
 
 pub stations-ok-spec : {M : Type 1} → statement M
-stations-ok-spec =
-    tie.close
-    (tie.spec Inv-loop μ-loop loop-holds station-ok-requires add-i loop-less loop-again returns)
+stations-ok-spec = tie.close (tie.spec ages-ok-requires entries-ok-requires all-calls-ok-requires returns)

@@ -1,43 +1,24 @@
 -- `station_state::works_ok` meets its contract.
 use mathlib.Core.Path.{sym}
 use borrow.Author.Tests.{eq-eqb, ne-eqb}
-use Rattle.station_state.specs.Valid.{worksOk}
 use borrow.Author.Needs.{needs}
+use Rattle.station_state.specs.Valid.{worksOk}
 use Rattle.station_state.proofs.works_ok.Statement.{statement}
 use Rattle.station_state.proofs.works_ok.Tie as tie
 
 shared-slice-read-if1 : tie.Need-shared-slice-read-if1
 shared-slice-read-if1 c = search needs
 
-closed-ok-requires : tie.Need-closed-ok-requires
-closed-ok-requires c κs = search needs
-
 returns : tie.Need-returns
 unfolding worksOk
-returns c = simp (eq-eqb _ _ (c .before .if1 .taken), sym (c .closed-ok .ensures))
-
-shared-slice-read-if2 : tie.Need-shared-slice-read-if2
-shared-slice-read-if2 c = search needs
-
-returns-2 : tie.Need-returns-2
-unfolding worksOk
-returns-2 c = simp (ne-eqb _ _ (c .before .before .if1 .left), ne-eqb _ _ (c .if2 .taken))
+returns c = simp (ne-eqb _ _ (c .before .before .before .pre .1), ne-eqb _ _ (c .if1 .taken))
 
 first-ok-requires : tie.Need-first-ok-requires
 first-ok-requires c κs = search needs
 
-returns-3 : tie.Need-returns-3
+returns-2 : tie.Need-returns-2
 unfolding worksOk
-returns-3 c = simp (ne-eqb _ _ (c .before .before .before .if1 .left), eq-eqb _ _ (c .before .if2 .left), sym (c .first-ok .ensures))
+returns-2 c = simp (ne-eqb _ _ (c .before .before .before .before .pre .1), eq-eqb _ _ (c .before .if1 .left), sym (c .first-ok .ensures))
 
 pub works-ok-spec : {M : Type 1} → statement M
-works-ok-spec =
-    tie.close
-    (tie.spec
-    shared-slice-read-if1
-    closed-ok-requires
-    returns
-    shared-slice-read-if2
-    returns-2
-    first-ok-requires
-    returns-3)
+works-ok-spec = tie.close (tie.spec shared-slice-read-if1 returns first-ok-requires returns-2)
