@@ -4,9 +4,10 @@ use mathlib.Core.Path.{_≡_, refl, sym, ap, _∙_}
 use mathlib.Core.List.{List, [], _∷_, _++_, append-assoc, append-nil}
 use mathlib.Core.Bool.{Bool, true, false, cond}
 use native.Mathlib.Omega.{arith}
-use lib.ListN.{length, take, drop, set, length-append, length-take, length-drop, drop-of-length-le}
-use lib.Seq.{sets, set-comm}
-use Rattle.lists.specs.Stores.{sets-join, sets-front, put-part}
+use native.Mathlib.Numerals.{add-one}
+use lib.ListN.{length, take, drop, getD, set, length-append, length-take, length-drop, drop-of-length-le}
+use lib.Seq.{sets, set-comm, length-sets, length-take-le, take-suc, take-at, drop-at}
+use Rattle.lists.specs.Stores.{sets-join, sets-front, put-part, copy-whole}
 use Rattle.le.specs.Le.{u64At, setU64}
 use Rattle.le.specs.Width.{bytes, length-bytes}
 use Rattle.sets.specs.Base.{Val, none, some}
@@ -15,21 +16,16 @@ use Rattle.cells.specs.Loops.{rank}
 use Rattle.layout.specs.Record.{headerLength, valueLength, entryLength, Entry, Record, entries, header, addresses, values, bytesOf}
 use Rattle.entries.specs.Entries.{entryIf, entriesFrom, entriesOf}
 use Rattle.record.specs.Stores.{length-header}
+use Rattle.record_meaning.specs.Layout.{addresses-append, values-append, length-addresses, length-bytesOf}
 use Rattle.station_state.specs.Layout.{member}
 use Rattle.set_record.specs.Record.{valuesAt, recordFrom, filled, recordFilled}
-use Rattle.set_record.specs.Stores.{entryOne, entriesTo}
+use Rattle.set_record.specs.Stores.{entryOne, entriesTo, valuesFor, bothFor}
 
--- STORES THAT DO NOT MEET CHANGE PLACES
-
+-- a store in front of a run changes places with it
 pub one-first : (y s : List ℕ) (p q v : ℕ) → p < q → set (sets s q y) p v ≡ sets (set s p v) q y
 one-first [] s p q v h = refl
 one-first (w ∷ y) s p q v h =
     one-first y (set s q w) p (suc q) v (omega arith) ∙ ap (λ (l : List ℕ). sets l (suc q) y) (set-comm s q p w v (λ e. omega arith))
-
-run-first : (x y s : List ℕ) (p q : ℕ) → p + length x ≤ q → sets (sets s q y) p x ≡ sets (sets s p x) q y
-run-first [] y s p q h = refl
-run-first (v ∷ x) y s p q h =
-    ap (λ (l : List ℕ). sets l (suc p) x) (one-first y s p q v (omega arith)) ∙ run-first x y (set s p v) (suc p) q (omega arith)
 
 -- a part that a callee filled from its start to its end
 part-filled : (h s x : List ℕ) (a k : ℕ) → k ≡ length h → a + k ≤ length s → x ≡ sets (take k (drop a s)) 0 h
@@ -40,23 +36,7 @@ part-filled h s x a k e fits ex =
     let whole : x ≡ h = rw (ex, sets-front h p k e (omega arith), drop-of-length-le p {i = k} (omega arith), append-nil) in
     put-part h x s a k whole e fits
 
--- ADDRESSES AND VALUES OF ENTRIES
-
-addresses-append : (es fs : List Entry) → addresses (es ++ fs) ≡ addresses es ++ addresses fs
-addresses-append [] fs = refl
-addresses-append (e ∷ es) fs = rw (addresses-append es fs)
-
-values-append : (es fs : List Entry) → values (es ++ fs) ≡ values es ++ values fs
-values-append [] fs = refl
-values-append (e ∷ es) fs = rw (values-append es fs, append-assoc)
-
-length-addresses : (es : List Entry) → length (addresses es) ≡ length es
-length-addresses [] = refl
-length-addresses (e ∷ es) = ap suc (length-addresses es)
-
-length-values : (es : List Entry) → length (values es) ≡ valueLength * length es
-length-values [] = refl
-length-values (e ∷ es) = rw (length-append, length-bytes, length-values es) (omega arith)
+-- THE LIST OF A SET'S ADDRESSES
 
 -- the entries of one address more: it comes last
 from-snoc : (n a : ℕ) (f : ℕ → Val) → entriesFrom (suc n) a f ≡ entriesFrom n a f ++ entryIf (a + n) (f (a + n)) []
@@ -69,6 +49,12 @@ from-snoc (suc n) a f =
     behind : (v : Val) (es fs : List Entry) → entryIf a v (es ++ fs) ≡ entryIf a v es ++ fs
     behind none es fs = refl
     behind (some x) es fs = refl
+
+-- an address behind the addresses, if so
+entry-step : (o t : List ℕ) (i a v : ℕ) (l : List Entry) (b : Bool) → t ≡ sets o i (addresses l)
+    → cond b (set t (i + length l) a) t ≡ sets o i (addresses (l ++ entryIf a (cond b (some v) none) []))
+entry-step o t i a v l false e = rw append-nil e
+entry-step o t i a v l true e = rw (addresses-append, e) (sets-join (addresses l) (a ∷ []) o i (i + length l) (rw length-addresses))
 
 module _ (s : List ℕ) (at from : ℕ) where
   -- the entries of the addresses below n
@@ -99,84 +85,131 @@ module _ (s : List ℕ) (at from : ℕ) where
   length-all : length (entriesOf (valuesAt s at from)) ≡ rank (member s at) 256
   length-all = rw (← below-all) (length-below 256)
 
--- STORES GO TO ADDRESSES AND VALUES IN TURN
+  listed-below : (o : List ℕ) (i n : ℕ) → entriesTo o s at i n ≡ sets o i (addresses (below n))
+  unfolding entriesTo entryOne
+  listed-below o i zero = rw below-none
+  listed-below o i (suc n) =
+      rw (below-more n, ← length-below n)
+      (entry-step o (entriesTo o s at i n) i n (u64At s (from + n * valueLength)) (below n) (member s at n) (listed-below o i n))
 
--- an address behind the addresses and its value behind the values, if so: the addresses end before the values begin
-entry-step : (o : List ℕ) (base k i a v : ℕ) (l : List Entry) (b : Bool) (t : List ℕ) → i + (length l + cond b 1 0) ≤ k
-    → t ≡ sets (sets o (base + headerLength + i) (addresses l)) (base + headerLength + k + i * valueLength) (values l)
-    → cond b (setU64 (set t (base + headerLength + (i + length l)) a) (base + headerLength + k + (i + length l) * valueLength) v) t
-    ≡ sets (sets o (base + headerLength + i) (addresses (l ++ entryIf a (cond b (some v) none) []))) (base + headerLength + k + i * valueLength) (values (l ++ entryIf a (cond b (some v) none) []))
-entry-step o base k i a v l false t h e = rw append-nil e
-entry-step o base k i a v l true t h e =
-    let p = base + headerLength + i in
-    let q = base + headerLength + k + i * valueLength in
-    let next = base + headerLength + (i + length l) in
-    let one = a ∷ [] in
-    let e₁ : set t next a ≡ sets (sets o p (addresses l ++ one)) q (values l) =
-    rw e
-    (one-first (values l) (sets o p (addresses l)) next q a (omega arith)
-    ∙ ap (λ (x : List ℕ). sets x q (values l)) (sets-join (addresses l) one o p next (rw length-addresses (omega arith)))) in
-    rw (e₁, setU64-is, addresses-append, values-append, append-nil)
-    (sets-join (values l) (bytes valueLength v) (sets o p (addresses l ++ one)) q (base + headerLength + k + (i + length l) * valueLength) (rw length-values (omega arith)))
+  listed : (o : List ℕ) (i : ℕ) → entriesTo o s at i 256 ≡ sets o i (addresses (entriesOf (valuesAt s at from)))
+  listed o i = rw (← below-all) (listed-below o i 256)
 
-entries-are : (o s : List ℕ) (base at from k i n : ℕ) → i + rank (member s at) n ≤ k
-    → entriesTo o s base at from k i n ≡ sets (sets o (base + headerLength + i) (addresses (below s at from n))) (base + headerLength + k + i * valueLength) (values (below s at from n))
-unfolding entriesTo entryOne rank
-entries-are o s base at from k i zero h = rw below-none
-entries-are o s base at from k i (suc n) h =
-    rw (below-more s at from n, ← length-below s at from n)
-    (entry-step o base k i n (u64At s (from + n * valueLength)) (below s at from n) (member s at n) (entriesTo o s base at from k i n) (rw length-below h) (entries-are o s base at from k i n (omega arith)))
+  -- the entries' values are those of their addresses
+  values-from : (n a : ℕ) → valuesFor s from (addresses (entriesFrom n a (valuesAt s at from))) ≡ values (entriesFrom n a (valuesAt s at from))
+  unfolding entriesFrom valuesFor
+  values-from zero a = refl
+  values-from (suc n) a = one (member s at a) (entriesFrom n (suc a) (valuesAt s at from)) (values-from n (suc a))
+    where
+      one : (b : Bool) (es : List Entry) → valuesFor s from (addresses es) ≡ values es
+          → valuesFor s from (addresses (entryIf a (cond b (some (u64At s (from + a * valueLength))) none) es)) ≡ values (entryIf a (cond b (some (u64At s (from + a * valueLength))) none) es)
+      one true es e = rw e
+      one false es e = e
 
--- reads from place p, then writes: the addresses of both, then the values of both
-both-are : (o : List ℕ) (es fs : List Entry) (n m p q : ℕ) {b d : ℕ} → length es ≡ n → length fs ≡ m
-    → q ≡ p + (n + m) → b ≡ p + n → d ≡ q + n * valueLength
-    → sets (sets (sets (sets o p (addresses es)) q (values es)) b (addresses fs)) d (values fs) ≡ sets o p (addresses (es ++ fs) ++ values (es ++ fs))
-both-are o es fs n m p q {b} {d} hn hm hq hb hd =
-    let a₁ = addresses es in
-    let a₂ = addresses fs in
-    let v₁ = values es in
-    let v₂ = values fs in
-    let la₁ = length-addresses es in
-    let la₂ = length-addresses fs in
-    rw (addresses-append es fs, values-append es fs, run-first a₂ v₁ (sets o p a₁) b q (omega arith), sets-join a₁ a₂ o p b (omega arith))
-    (sets-join v₁ v₂ (sets o p (a₁ ++ a₂)) q d (rw length-values (omega arith))
-    ∙ sets-join (a₁ ++ a₂) (v₁ ++ v₂) o p q (rw length-append (omega arith)))
+  values-of : valuesFor s from (addresses (entriesOf (valuesAt s at from))) ≡ values (entriesOf (valuesAt s at from))
+  unfolding entriesOf
+  values-of = values-from 256 0
 
--- THE RECORD, ITS SIZES AS COUNTED
+-- THE VALUES OF A LIST OF ADDRESSES
 
-module _ (s : List ℕ) (ra rv wa wv commit transaction station kind n m : ℕ) (en : n ≡ rank (member s ra) 256) (em : m ≡ rank (member s wa) 256) where
+for-append : (s : List ℕ) (from : ℕ) (x y : List ℕ) → valuesFor s from (x ++ y) ≡ valuesFor s from x ++ valuesFor s from y
+unfolding valuesFor
+for-append s from [] y = refl
+for-append s from (a ∷ x) y = rw (for-append s from x y, append-assoc)
+
+length-for : (s : List ℕ) (from : ℕ) (x : List ℕ) → length (valuesFor s from x) ≡ length x * valueLength
+unfolding valuesFor
+length-for s from [] = refl
+length-for s from (a ∷ x) = rw (length-append, length-bytes, length-for s from x) (omega arith)
+
+-- a turn of the loop over the addresses
+pub values-turn : (o s : List ℕ) (from i : ℕ) (l : List ℕ) (c : ℕ) {d e : List ℕ} → c < length l → d ≡ sets o (i * valueLength) (valuesFor s from (take c l))
+    → e ≡ setU64 d ((i + c) * valueLength) (u64At s (from + getD l c 0 * valueLength))
+    → e ≡ sets o (i * valueLength) (valuesFor s from (take (c + 1) l))
+unfolding valuesFor
+values-turn o s from i l c lt ed ee =
+    let there : length (take c l) ≡ c = length-take-le c l (omega arith) in
+    rw (add-one, take-suc l c 0 lt, for-append s from (take c l) (getD l c 0 ∷ []), append-nil, ee, setU64-is, ed)
+    (sets-join (valuesFor s from (take c l)) (bytes valueLength (u64At s (from + getD l c 0 * valueLength))) o (i * valueLength) ((i + c) * valueLength)
+    (rw (length-for s from (take c l), there) (omega arith)))
+
+-- values behind values, from the start of a part to its end
+pub values-filled : (p v w : List ℕ) (n : ℕ) {p₁ p₂ : List ℕ} → p₁ ≡ sets p (0 * valueLength) v → p₂ ≡ sets p₁ (n * valueLength) w
+    → length v ≡ n * valueLength → length p ≡ length (v ++ w) → p₂ ≡ v ++ w
+values-filled p v w n e₁ e₂ hv hp =
+    let start : 0 * valueLength ≡ 0 = omega arith in
+    rw (e₂, e₁, start, sets-join v w p 0 (n * valueLength) (omega arith), sets-front (v ++ w) p (length (v ++ w)) refl (omega arith), drop-of-length-le p {i = length (v ++ w)} (omega arith), append-nil)
+
+pub length-both : (s : List ℕ) (rv wv n : ℕ) (l : List ℕ) → n ≤ length l → length (bothFor s rv wv n l) ≡ length l * valueLength
+length-both s rv wv n l h =
+    let there : length (take n l) ≡ n = length-take-le n l h in
+    rw (length-append, length-for s rv (take n l), length-for s wv (drop n l), there, length-drop) (omega arith)
+
+pub length-first : (s : List ℕ) (rv n : ℕ) (l : List ℕ) → n ≤ length l → length (valuesFor s rv (take n l)) ≡ n * valueLength
+length-first s rv n l h = rw (length-for, length-take-le n l h)
+
+-- the addresses through a part, then the values through the next
+pub parts-put : (o l v : List ℕ) (e a b : ℕ) {y z : List ℕ} → a ≡ e + length l → b ≡ a + length v → b ≤ length o
+    → y ≡ take (length l) l ++ drop (length l) (take (a - e) (drop e o)) → z ≡ v
+    → take a (take e o ++ (y ++ drop (a - e) (drop e o))) ++ (z ++ drop (b - a) (drop a (take e o ++ (y ++ drop (a - e) (drop e o))))) ≡ sets o e (l ++ v)
+parts-put o l v e a b {y} {z} ha hb fits ey ez =
+    let p = take (a - e) (drop e o) in
+    let there : length p ≡ length l = simp (length-take, length-drop) (omega arith) in
+    let first : take e o ++ (y ++ drop (a - e) (drop e o)) ≡ sets o e l = put-part l y o e (a - e) (ey ∙ copy-whole l p there) (omega arith) (omega arith) in
+    let same : length (sets o e l) ≡ length o = length-sets o e l in
+    rw first (put-part v z (sets o e l) a (b - a) ez (omega arith) (omega arith) ∙ sets-join l v o e a ha)
+
+-- THE RECORD, ITS SIZES AS LISTED
+
+module _ (s : List ℕ) (ra rv wa wv commit transaction station kind n k : ℕ) (en : n ≡ 0 + rank (member s ra) 256) (ek : k ≡ n + rank (member s wa) 256) where
   abbrev whole : Record
   whole = recordFrom s ra rv wa wv commit transaction station kind
 
-  record-is : bytesOf whole ≡ header n m commit transaction station kind ++ (addresses (entries whole) ++ values (entries whole))
+  reads-are : length (whole .reads) ≡ n
+  reads-are = let l = length-all s ra rv in omega arith
+
+  writes-are : length (whole .writes) ≡ k - n
+  writes-are = let l = length-all s wa wv in omega arith
+
+  reads-listed : length (addresses (whole .reads)) ≡ n
+  reads-listed = length-addresses (whole .reads) ∙ reads-are
+
+  -- the list behind both sets, lent from its start to its k-th
+  pub both-listed : (l : List ℕ) {l₁ l₂ : List ℕ} → l₁ ≡ entriesTo l s ra 0 256 → l₂ ≡ entriesTo l₁ s wa n 256 → k ≤ length l → take (k - 0) l₂ ≡ addresses (entries whole)
+  both-listed l e₁ e₂ fits =
+      let r = addresses (whole .reads) in
+      let w = addresses (whole .writes) in
+      let lr = reads-listed in
+      let lw = length-addresses (whole .writes) in
+      let lx = writes-are in
+      let la = length-append r w in
+      let all : length (r ++ w) ≡ k = omega arith in
+      let to-k : k - 0 ≡ k = omega arith in
+      rw (to-k, e₂, listed s wa wv _ n, e₁, listed s ra rv l 0, sets-join r w l 0 n (omega arith), sets-front (r ++ w) l k (sym all) (omega arith))
+      (take-at (r ++ w) (drop k l) k all ∙ sym (addresses-append (whole .reads) (whole .writes)))
+
+  both-values : (l : List ℕ) → l ≡ addresses (entries whole) → bothFor s rv wv n l ≡ values (entries whole)
+  both-values l e =
+      let r = addresses (whole .reads) in
+      let w = addresses (whole .writes) in
+      rw (e, addresses-append (whole .reads) (whole .writes), take-at r w n reads-listed, drop-at r w n reads-listed, values-of s ra rv, values-of s wa wv)
+      (sym (values-append (whole .reads) (whole .writes)))
+
+  record-is : bytesOf whole ≡ header n (k - n) commit transaction station kind ++ (addresses (entries whole) ++ values (entries whole))
   unfolding bytesOf
-  record-is = rw (length-all s ra rv, length-all s wa wv, ← en, ← em)
+  record-is = rw (reads-are, writes-are)
 
-  record-length : length (bytesOf whole) ≡ headerLength + entryLength * (n + m)
-  record-length =
-      rw record-is
-      (simp (length-append, length-header, length-addresses, length-values, length-all s ra rv, length-all s wa wv, ← en, ← em) (omega arith))
-
-  entries-stores : (o : List ℕ) (base : ℕ) {o₁ o₂ : List ℕ} → o₁ ≡ entriesTo o s base ra rv (n + m) 0 256 → o₂ ≡ entriesTo o₁ s base wa wv (n + m) n 256
-      → o₂ ≡ sets o (base + headerLength) (addresses (entries whole) ++ values (entries whole))
-  entries-stores o base {o₁} e₁ e₂ =
-      let first : base + headerLength + 0 ≡ base + headerLength = omega arith in
-      let ln : length (whole .reads) ≡ n = length-all s ra rv ∙ sym en in
-      let lm : length (whole .writes) ≡ m = length-all s wa wv ∙ sym em in
-      e₂ ∙ entries-are o₁ s base wa wv (n + m) n 256 (omega arith)
-      ∙ rw (e₁, entries-are o s base ra rv (n + m) 0 256 (omega arith), first, below-all s ra rv, below-all s wa wv)
-      (both-are o (whole .reads) (whole .writes) n m (base + headerLength) (base + headerLength + (n + m) + 0) ln lm (omega arith) (omega arith) (omega arith))
+  record-length : length (bytesOf whole) ≡ headerLength + entryLength * k
+  record-length = length-bytesOf whole ∙ rw (reads-are, writes-are) (omega arith)
 
   -- header, addresses and values, each behind the one before; as `put_record` calls, the header is put into a part
-  pub record-filled : (o : List ℕ) (base : ℕ) {x o₁ o₂ : List ℕ}
-      → x ≡ sets (take (base + headerLength - base) (drop base o)) 0 (header n m commit transaction station kind)
-      → o₁ ≡ entriesTo (take base o ++ (x ++ drop (base + headerLength - base) (drop base o))) s base ra rv (n + m) 0 256
-      → o₂ ≡ entriesTo o₁ s base wa wv (n + m) n 256 → base + headerLength ≤ length o
-      → filled o₂ (headerLength + entryLength * (n + m)) ≡ recordFilled o base whole
-  record-filled o base {x} ex e₁ e₂ fits =
-      let h = header n m commit transaction station kind in
-      let l = addresses (entries whole) ++ values (entries whole) in
+  pub record-filled : (o : List ℕ) (base : ℕ) (l : List ℕ) {x o₂ : List ℕ} → l ≡ addresses (entries whole)
+      → x ≡ sets (take (base + headerLength - base) (drop base o)) 0 (header n (k - n) commit transaction station kind)
+      → o₂ ≡ sets (take base o ++ (x ++ drop (base + headerLength - base) (drop base o))) (base + headerLength) (l ++ bothFor s rv wv n l) → base + headerLength ≤ length o
+      → filled o₂ (headerLength + entryLength * k) ≡ recordFilled o base whole
+  record-filled o base l {x} el ex e₂ fits =
+      let h = header n (k - n) commit transaction station kind in
       let size : base + headerLength - base ≡ length h = rw length-header (omega arith) in
       let e₀ = part-filled h o x base (base + headerLength - base) size (omega arith) ex in
-      rw (entries-stores _ base e₁ e₂, e₀, record-length, record-is)
-      (ap (λ (y : List ℕ). filled y (headerLength + entryLength * (n + m))) (sets-join h l o base (base + headerLength) (rw length-header)))
+      rw (e₂, e₀, both-values l el, el, record-length, record-is)
+      (ap (λ (y : List ℕ). filled y (headerLength + entryLength * k)) (sets-join h (addresses (entries whole) ++ values (entries whole)) o base (base + headerLength) (rw length-header)))

@@ -1,54 +1,71 @@
--- `set_record::put_entries` meets its contract. The loop's invariant: bytes and next entry are the definition's at the pages passed.
+-- `set_record::put_entries` meets its contract. Each part is filled by its callee, and `parts-put` joins them.
 use native.Mathlib.Omega.{arith}
-use borrow.Author.Needs.{needs}
-use Prim.Native.Nat.{_≤_, _-_, _*_, _+_}
+use Prim.Native.Nat.{_+_, _*_}
 use lib.ListN.{length}
-use mathlib.Core.Path.{_≡_, ap, _∙_}
-use Rattle.cells.specs.Loops.{rank, rank-most}
-use Rattle.station_state.specs.Layout.{member}
-use Rattle.set_record.specs.Stores.{entriesTo}
-use Rattle.set_record.specs.Spans.{page-turn}
+use Rattle.layout.specs.Record.{headerLength, valueLength}
+use Rattle.set_record.specs.Stores.{bothFor}
+use Rattle.set_record.specs.Filled.{length-both, parts-put}
+use borrow.Author.Needs.{needs}
 use Rattle.set_record.proofs.put_entries.Statement.{statement}
 use Rattle.set_record.proofs.put_entries.Tie as tie
 
-abbrev Inv-loop : tie.InvT-loop
-Inv-loop out₀ s base at values k i j₀ p₀ out j p = (p ≤ 32) × (length out ≡ length out₀) × (j ≡ i + rank (member s at) (p * 8)) × (out ≡ entriesTo out₀ s base at values k i (p * 8))
+add-e : tie.Need-add-e
+add-e c = search needs
 
-abbrev μ-loop : tie.MeasureT-loop
-μ-loop out₀ s base at values k i j₀ p₀ out j p = 32 - p
+add-a : tie.Need-add-a
+add-a c = search needs
 
-loop-holds : tie.Need-loop-holds Inv-loop μ-loop
-unfolding rank entriesTo
-loop-holds c = search needs
+mul-v : tie.Need-mul-v
+mul-v c = search needs
 
-put-page-requires : tie.Need-put-page-requires Inv-loop μ-loop
-put-page-requires c κs = let most = rank-most (member (c .before .before .before .before .before .args .s .now) (c .before .before .before .before .before .args .at)) (c .before .before .loop .p * 8) in search needs
+add-v : tie.Need-add-v
+add-v c = search needs
 
-add-p : tie.Need-add-p Inv-loop μ-loop
-add-p c = search needs
+sub-copy : tie.Need-sub-copy
+sub-copy c = search needs
 
-loop-less : tie.Need-loop-less Inv-loop μ-loop
-loop-less c = search needs
+part-copy-start : tie.Need-part-copy-start
+part-copy-start c = search needs
 
-loop-again : tie.Need-loop-again Inv-loop μ-loop
-loop-again c = let t = page-turn _ _ _ _ _ _ _ _ (c .before .before .before .before .before .loop .inv .2) (c .before .before .before .before .before .loop .inv .3) (c .before .before .put-page .ensures) in (search needs, search needs, t .0, t .1)
+part-copy-end : tie.Need-part-copy-end
+part-copy-end c = search needs
 
-same-length : tie.Need-same-length Inv-loop μ-loop
+copy-requires : tie.Need-copy-requires
+copy-requires c κs = search needs
+
+sub-fill-values : tie.Need-sub-fill-values
+sub-fill-values c = search needs
+
+part-fill-values-start : tie.Need-part-fill-values-start
+part-fill-values-start c = search needs
+
+part-fill-values-end : tie.Need-part-fill-values-end
+part-fill-values-end c = search needs
+
+fill-values-requires : tie.Need-fill-values-requires
+fill-values-requires c κs = search needs
+
+same-length : tie.Need-same-length
 same-length c = search needs
 
-returns : tie.Need-returns Inv-loop μ-loop
-returns c = c .before .loop .inv .3 ∙ ap (entriesTo _ _ _ _ _ _ _) (omega arith)
+returns : tie.Need-returns
+returns c = let g = c .before .before .before .before .before .before .before .before .before .before .before .args in let l = g .addresses .now in let e = g .base + headerLength in let a = e + length l in let v = bothFor (g .s .now) (g .read-values) (g .written-values) (g .n) l in let lv = length-both (g .s .now) (g .read-values) (g .written-values) (g .n) l (c .before .before .before .before .before .before .before .before .before .before .before .pre .2) in parts-put (g .out .now) l v e a (a + length l * valueLength) (omega arith) (omega arith) (omega arith) (c .before .before .before .before .before .before .copy .ensures .1) (c .before .before .fill-values .ensures)
 
 pub put-entries-spec : {M : Type 1} → statement M
 put-entries-spec =
     tie.close
     (tie.spec
-    Inv-loop
-    μ-loop
-    loop-holds
-    put-page-requires
-    add-p
-    loop-less
-    loop-again
+    add-e
+    add-a
+    mul-v
+    add-v
+    sub-copy
+    part-copy-start
+    part-copy-end
+    copy-requires
+    sub-fill-values
+    part-fill-values-start
+    part-fill-values-end
+    fill-values-requires
     same-length
     returns)

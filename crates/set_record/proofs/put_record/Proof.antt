@@ -1,18 +1,21 @@
--- `set_record::put_record` meets its contract. Each call is a run of stores, and `record-filled` joins them.
+-- `set_record::put_record` meets its contract. The list has the addresses of both sets (`both-listed`); header and entries are runs of stores, which `record-filled` joins.
 use native.Mathlib.Omega.{arith}
+use Rattle.set_record.specs.Filled.{both-listed, record-filled}
 use borrow.Author.Needs.{needs}
-use Rattle.set_record.specs.Filled.{record-filled}
 use Rattle.set_record.proofs.put_record.Statement.{statement}
 use Rattle.set_record.proofs.put_record.Tie as tie
 
-count-requires : tie.Need-count-requires
-count-requires c κs = search needs
+slice-aggregate-list-set : tie.Need-slice-aggregate-list-set
+slice-aggregate-list-set c = search needs
 
-count-requires-2 : tie.Need-count-requires-2
-count-requires-2 c κs = search needs
+list-set-requires : tie.Need-list-set-requires
+list-set-requires c κs = search needs
 
-add-k : tie.Need-add-k
-add-k c = search needs
+slice-aggregate-list-set-2 : tie.Need-slice-aggregate-list-set-2
+slice-aggregate-list-set-2 c = search needs
+
+list-set-requires-2 : tie.Need-list-set-requires-2
+list-set-requires-2 c κs = search needs
 
 add-e : tie.Need-add-e
 add-e c = search needs
@@ -29,17 +32,26 @@ part-put-header-end c = search needs
 cast-put-header : tie.Need-cast-put-header
 cast-put-header c = search needs
 
+sub-put-header-2 : tie.Need-sub-put-header-2
+sub-put-header-2 c = search needs
+
 cast-put-header-2 : tie.Need-cast-put-header-2
 cast-put-header-2 c = search needs
 
 put-header-requires : tie.Need-put-header-requires
 put-header-requires c κs = search needs
 
+sub-addresses : tie.Need-sub-addresses
+sub-addresses c = search needs
+
+part-addresses-start : tie.Need-part-addresses-start
+part-addresses-start c = search needs
+
+part-addresses-end : tie.Need-part-addresses-end
+part-addresses-end c = search needs
+
 put-entries-requires : tie.Need-put-entries-requires
 put-entries-requires c κs = search needs
-
-put-entries-requires-2 : tie.Need-put-entries-requires-2
-put-entries-requires-2 c κs = search needs
 
 mul-result : tie.Need-mul-result
 mul-result c = search needs
@@ -51,24 +63,28 @@ same-length : tie.Need-same-length
 same-length c = search needs
 
 returns : tie.Need-returns
-returns c = (record-filled _ _ _ _ _ _ _ _ _ _ _ (c .before .before .before .before .before .before .before .before .before .before .before .before .before .count .ensures .0) (c .before .before .before .before .before .before .before .before .before .before .before .before .count2 .ensures .0) _ (c .before .before .before .before .before .before .before .before .before .before .before .before .before .before .before .before .args .base) (c .before .before .before .before .before .before .before .before .before .before .put-header .ensures) (c .before .before .before .before .before .before .put-entries .ensures) (c .before .before .put-entries2 .ensures) (omega arith), search needs)
+returns c = let g = c .before .before .before .before .before .before .before .before .before .before .before .before .before .before .before .before .before .before .args in let s = g .s .now in let en = c .before .before .before .before .before .before .before .before .before .before .before .before .before .before .list-set .ensures .1 in let ek = c .before .before .before .before .before .before .before .before .before .before .before .list-set2 .ensures .1 in let all = both-listed s (g .reads) (g .read-values) (g .writes) (g .written-values) (g .commit) (g .transaction) (g .station) (g .kind) _ _ en ek _ (c .before .before .before .before .before .before .before .before .before .before .before .before .before .before .list-set .ensures .0) (c .before .before .before .before .before .before .before .before .before .before .before .list-set2 .ensures .0) (omega arith) in (record-filled s (g .reads) (g .read-values) (g .writes) (g .written-values) (g .commit) (g .transaction) (g .station) (g .kind) _ _ en ek (g .out .now) (g .base) _ all (c .before .before .before .before .before .before .before .before .put-header .ensures) (c .before .before .put-entries .ensures) (omega arith), search needs)
 
 pub put-record-spec : {M : Type 1} → statement M
 put-record-spec =
     tie.close
     (tie.spec
-    count-requires
-    count-requires-2
-    add-k
+    slice-aggregate-list-set
+    list-set-requires
+    slice-aggregate-list-set-2
+    list-set-requires-2
     add-e
     sub-put-header
     part-put-header-start
     part-put-header-end
     cast-put-header
+    sub-put-header-2
     cast-put-header-2
     put-header-requires
+    sub-addresses
+    part-addresses-start
+    part-addresses-end
     put-entries-requires
-    put-entries-requires-2
     mul-result
     add-result
     same-length
