@@ -1,7 +1,7 @@
 -- Eight stations or eight pages at a time, as the code looks at them: where eight have nothing, none is looked at.
 use Prim.Native.Nat.{ℕ, zero, suc, _+_, _*_, _/_, _%_, _≤_, _<_}
 use mathlib.Core.Path.{_≡_, refl, sym, ap, _∙_}
-use mathlib.Core.Bool.{Bool, true, false, _&&_}
+use mathlib.Core.Bool.{Bool, true, _&&_}
 use mathlib.Core.List.{List}
 use native.Mathlib.Omega.{arith}
 use lib.Dec.{eqb}
@@ -12,15 +12,10 @@ use Rattle.lists.specs.Parts.{allTo-same}
 use Rattle.le.specs.Le.{u64At}
 use Rattle.le.specs.Width.{numAt}
 use Rattle.le.specs.Laws.{u64At-is}
+use Rattle.station_state.specs.Facts.{same}
 use Rattle.server_state.specs.Layout.{wantFrom, calledFrom, pendFrom, busyFrom, lockFrom, wholeFrom, lockOf, wholeOf, wantOf, calledOf, pendOf, busyOf}
 use Rattle.server_state.specs.Valid.{most, blankOk, entryOk, callsOk, agedOk, stationOk, holderAt, pageOk}
 use Rattle.server_state.specs.Facts.{all-3, most-at, no-holder, parts, zero-eight}
-
--- tests that pass at the same time
-same : (a b : Bool) → (a ≡ true → b ≡ true) → (b ≡ true → a ≡ true) → a ≡ b
-same true b f g = sym (f refl)
-same false true f g = g refl
-same false false f g = refl
 
 -- a number whose bytes are 0
 bytes-zero : (n : ℕ) (s : List ℕ) (at : ℕ) → ((k : ℕ) → k < n → getD s (at + k) 0 ≡ 0) → numAt n s at ≡ 0

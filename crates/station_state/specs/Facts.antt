@@ -1,14 +1,16 @@
 -- What number 1 tells of a state that passes.
 use Prim.Native.Nat.{ℕ, _≤_}
-use mathlib.Core.Path.{_≡_, refl}
+use mathlib.Core.Path.{_≡_, refl, sym}
 use mathlib.Core.List.{List}
 use mathlib.Core.Logic.{_≢_}
 use mathlib.Core.Bool.{Bool, true, false, not, _&&_, _||_, cond}
 use lib.ListN.{length}
 use lib.Dec.{eqb, leb}
-use borrow.Author.Tests.{eqb-true, eqb-false, leb-true, eq-eqb, ne-eqb, not-true, not-false}
-use Rattle.lists.specs.Tests.{and-l, and-r}
+use borrow.Author.Tests.{eqb-true, eqb-false, leb-true, le-leb, eq-eqb, ne-eqb, not-true, not-false}
+use native.Mathlib.Omega.{arith}
+use Rattle.lists.specs.Tests.{and-l, and-r, and-both}
 use Rattle.station_state.specs.Layout.{keptFrom, readSetFrom, writtenSetFrom, locksFrom, stateLength, keptOf, number, whole, station, kind, opened, wait, address, member, noneIn}
+use Rattle.station_state.specs.Sets.{none-numbers}
 use Rattle.station_state.specs.Valid.{fieldsOk, ownKept, closedOk, firstOk, worksOk, locklessOk, holdsOk, valid}
 
 -- no transaction is open
@@ -100,11 +102,39 @@ neither : (a : Bool) → a && false ≡ false
 neither true = refl
 neither false = refl
 
--- no transaction is open
-pub closed-works : (s : List ℕ) → opened s ≡ 0 → worksOk s ≡ closedOk s
+-- tests that pass at the same time
+pub same : (a b : Bool) → (a ≡ true → b ≡ true) → (b ≡ true → a ≡ true) → a ≡ b
+same true b f g = sym (f refl)
+same false true f g = g refl
+same false false f g = refl
+
+closed-works : (s : List ℕ) → opened s ≡ 0 → worksOk s ≡ closedOk s
 unfolding worksOk
 closed-works s e = rw (eq-eqb (opened s) 0 e)
 
-pub closed-holds : (s : List ℕ) → opened s ≡ 0 → holdsOk s ≡ locklessOk s
+closed-holds : (s : List ℕ) → opened s ≡ 0 → holdsOk s ≡ locklessOk s
 unfolding holdsOk
 closed-holds s e = rw (eq-eqb (opened s) 0 e, neither (eqb (kind s) 0))
+
+-- nothing is out, so that the wait is in range, and nothing kept, its own neither
+closed-rest : (s : List ℕ) → station s ≤ 7 → opened s ≡ 0 → leb (kind s) 1 && closedOk s && locklessOk s ≡ fieldsOk s && not (ownKept s) && worksOk s && holdsOk s
+unfolding fieldsOk ownKept
+closed-rest s l e =
+    let counted = eqb (opened s) 0 || not (eqb (number s) 0) in
+    let fields = leb (kind s) 1 && leb (opened s) 1 && leb (wait s) 3 && counted in
+    let others = not (not (eqb (keptOf s (station s)) 0)) in
+    rw (closed-works s e, closed-holds s e)
+    (same (leb (kind s) 1 && closedOk s && locklessOk s) (fields && others && closedOk s && locklessOk s)
+    (λ h.
+    let u = all-3 (leb (kind s) 1) (closedOk s) (locklessOk s) h in
+    let out : wait s ≡ 0 = closed-of s (u .1) .nothing-out in
+    let kept : keptOf s (station s) ≡ 0 = none-numbers s keptFrom (lockless-of s (u .2) .nothing-kept) (station s) (omega (arith, l)) in
+    rw (u .0, u .1, u .2, e, out, kept) refl)
+    (λ h.
+    let v = all-4 fields others (closedOk s) (locklessOk s) h in
+    and-both (and-both (all-4 (leb (kind s) 1) (leb (opened s) 1) (leb (wait s) 3) counted (v .0) .0) (v .2)) (v .3)))
+
+-- no transaction is open
+pub valid-closed : (s : List ℕ) {c l : Bool} → length s ≡ stateLength → station s ≤ 7 → opened s ≡ 0 → c ≡ closedOk s → l ≡ locklessOk s → leb (kind s) 1 && c && l ≡ valid s
+unfolding valid
+valid-closed s z t e ec el = rw (ec, el, eq-eqb (length s) stateLength z, le-leb (station s) 7 t) (closed-rest s t e)

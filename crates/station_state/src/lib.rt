@@ -191,11 +191,11 @@ pub fn valid(s: &[u8]) -> bool
     if s[STATION] > 7 {
         return false;
     }
+    if s[OPEN] == 0 {
+        return (s[KIND] <= 1) & closed_ok(s) & lockless_ok(s);
+    }
     if !(fields_ok(s) & !own_kept(s)) {
         return false;
-    }
-    if s[OPEN] == 0 {
-        return closed_ok(s) & lockless_ok(s);
     }
     works_ok(s) & holds_ok(s)
 }

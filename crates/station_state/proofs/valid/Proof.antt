@@ -4,7 +4,7 @@ use mathlib.Core.Bool.{not, _&&_}
 use borrow.Author.Tests.{eq-eqb, ne-eqb, le-leb, lt-leb, not-true, not-false}
 use borrow.Author.Needs.{needs}
 use Rattle.station_state.specs.Valid.{valid as Valid·valid}
-use Rattle.station_state.specs.Facts.{closed-works, closed-holds}
+use Rattle.station_state.specs.Facts.{valid-closed}
 use Rattle.station_state.proofs.valid.Statement.{statement}
 use Rattle.station_state.proofs.valid.Tie as tie
 
@@ -19,18 +19,11 @@ returns-2 : tie.Need-returns-2
 unfolding Valid·valid
 returns-2 c = simp (eq-eqb _ _ (c .before .before .if1 .left), lt-leb _ _ (c .if2 .taken))
 
-fields-ok-requires : tie.Need-fields-ok-requires
-fields-ok-requires c κs = search needs
+shared-slice-read-if3 : tie.Need-shared-slice-read-if3
+shared-slice-read-if3 c = search needs
 
-own-kept-requires : tie.Need-own-kept-requires
-own-kept-requires c κs = search needs
-
-returns-3 : tie.Need-returns-3
-unfolding Valid·valid
-returns-3 c = simp (eq-eqb _ _ (c .before .before .before .before .before .if1 .left), le-leb _ _ (c .before .before .before .if2 .left), sym (c .before .before .fields-ok .ensures), sym (c .before .own-kept .ensures), not-true (c .before .before .fields-ok .result && not (c .before .own-kept .result)) (c .if3 .taken))
-
-shared-slice-read-if4 : tie.Need-shared-slice-read-if4
-shared-slice-read-if4 c = search needs
+shared-slice-read-result : tie.Need-shared-slice-read-result
+shared-slice-read-result c = search needs
 
 closed-ok-requires : tie.Need-closed-ok-requires
 closed-ok-requires c κs = search needs
@@ -38,9 +31,18 @@ closed-ok-requires c κs = search needs
 lockless-ok-requires : tie.Need-lockless-ok-requires
 lockless-ok-requires c κs = search needs
 
+returns-3 : tie.Need-returns-3
+returns-3 c = valid-closed (c .before .before .before .before .before .before .before .before .before .args .s .now) (c .before .before .before .before .before .before .before .if1 .left) (c .before .before .before .before .before .if2 .left) (c .before .before .before .if3 .taken) (c .before .closed-ok .ensures) (c .lockless-ok .ensures)
+
+fields-ok-requires : tie.Need-fields-ok-requires
+fields-ok-requires c κs = search needs
+
+own-kept-requires : tie.Need-own-kept-requires
+own-kept-requires c κs = search needs
+
 returns-4 : tie.Need-returns-4
 unfolding Valid·valid
-returns-4 c = simp (eq-eqb _ _ (c .before .before .before .before .before .before .before .before .before .if1 .left), le-leb _ _ (c .before .before .before .before .before .before .before .if2 .left), sym (c .before .before .before .before .before .before .fields-ok .ensures), sym (c .before .before .before .before .before .own-kept .ensures), not-false (c .before .before .before .before .before .before .fields-ok .result && not (c .before .before .before .before .before .own-kept .result)) (c .before .before .before .before .if3 .left), closed-works (c .before .before .before .before .before .before .before .before .before .before .before .args .s .now) (c .before .before .if4 .taken), closed-holds (c .before .before .before .before .before .before .before .before .before .before .before .args .s .now) (c .before .before .if4 .taken), sym (c .before .closed-ok .ensures), sym (c .lockless-ok .ensures))
+returns-4 c = simp (eq-eqb _ _ (c .before .before .before .before .before .before .before .if1 .left), le-leb _ _ (c .before .before .before .before .before .if2 .left), sym (c .before .before .fields-ok .ensures), sym (c .before .own-kept .ensures), not-true (c .before .before .fields-ok .result && not (c .before .own-kept .result)) (c .if4 .taken))
 
 works-ok-requires : tie.Need-works-ok-requires
 works-ok-requires c κs = search needs
@@ -50,7 +52,7 @@ holds-ok-requires c κs = search needs
 
 returns-5 : tie.Need-returns-5
 unfolding Valid·valid
-returns-5 c = simp (eq-eqb _ _ (c .before .before .before .before .before .before .before .before .before .if1 .left), le-leb _ _ (c .before .before .before .before .before .before .before .if2 .left), sym (c .before .before .before .before .before .before .fields-ok .ensures), sym (c .before .before .before .before .before .own-kept .ensures), not-false (c .before .before .before .before .before .before .fields-ok .result && not (c .before .before .before .before .before .own-kept .result)) (c .before .before .before .before .if3 .left), sym (c .before .works-ok .ensures), sym (c .holds-ok .ensures))
+returns-5 c = simp (eq-eqb _ _ (c .before .before .before .before .before .before .before .before .before .if1 .left), le-leb _ _ (c .before .before .before .before .before .before .before .if2 .left), sym (c .before .before .before .before .fields-ok .ensures), sym (c .before .before .before .own-kept .ensures), not-false (c .before .before .before .before .fields-ok .result && not (c .before .before .before .own-kept .result)) (c .before .before .if4 .left), sym (c .before .works-ok .ensures), sym (c .holds-ok .ensures))
 
 pub valid-spec : {M : Type 1} → statement M
 valid-spec =
@@ -59,12 +61,13 @@ valid-spec =
     returns
     shared-slice-read-if2
     returns-2
-    fields-ok-requires
-    own-kept-requires
-    returns-3
-    shared-slice-read-if4
+    shared-slice-read-if3
+    shared-slice-read-result
     closed-ok-requires
     lockless-ok-requires
+    returns-3
+    fields-ok-requires
+    own-kept-requires
     returns-4
     works-ok-requires
     holds-ok-requires
