@@ -1,0 +1,3 @@
+-- A turn over lent lines.
+pub mod Host
+pub mod Laws
