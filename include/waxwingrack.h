@@ -22,8 +22,8 @@
  * Rules for every pointer:
  *  - it points to as many elements as the length beside it says; with length 0 it may be NULL;
  *  - bytes need no alignment, the others the alignment of their type;
- *  - what is written (out, fields, entry, values, last, playback, state, messages, commit, told, records, served)
- *    overlaps nothing else of the call;
+ *  - what is written (out, fields, entry, values, last, playback, state, messages, commit, told, records, served,
+ *    lines, line) overlaps nothing else of the call;
  *  - what is only read is not changed, and nothing is kept after the call.
  *
  * Every function answers one of the numbers below. Any answer but WAX_OK leaves every lent byte
@@ -55,6 +55,8 @@ extern "C" {
 #define WAX_SHORT    UINT32_C(12)  /* the bytes end inside a record */
 #define WAX_SEQUENCE UINT32_C(13)  /* the commit number is not one more than the last */
 #define WAX_REPLAY   UINT32_C(14)  /* a read differs from the value left by earlier records */
+#define WAX_SHARE    UINT32_C(19)  /* a share of the server's turns is not 1 to 4 */
+#define WAX_IDLE     UINT32_C(20)  /* no line waits for a turn */
 #define WAX_END      UINT32_C(255) /* no record, or no entry, there */
 
 /* Limits and sizes. */
@@ -340,6 +342,45 @@ uint32_t wax_server_fresh(const uint8_t *kinds, size_t kinds_length, uint8_t *st
 uint32_t wax_server_step(const uint8_t *message, size_t message_length, uint8_t *state, size_t state_length,
                          uint8_t *messages, size_t messages_length, uint8_t *records, size_t records_length,
                          uint64_t *served, size_t served_length);
+
+/*
+ * SHARES OF THE SERVER'S TURNS
+ *
+ * Which station's message the server takes next is for its host to say. A host that would serve the fastest first can ask here
+ * instead: each of eight lines has a share of 1 to 4, and in a round is given at most as many turns. The next turn goes to the
+ * lowest line that waits and has share left; where there is none, a new round begins first, all counts 0. So a line whose mark
+ * stays set is given a turn within WAX_MOST_TURNS turns, whatever the others do.
+ */
+#define WAX_LINES      8
+#define WAX_MOST_SHARE 4
+#define WAX_MOST_TURNS 57
+
+/* A line as the host keeps it; set all of it before the first call, given to 0. */
+typedef struct wax_turn_line {
+    uint8_t share;   /* 1 to WAX_MOST_SHARE */
+    uint8_t given;   /* turns in this round; a turn changes these counts alone */
+    uint8_t waiting; /* 1 while a message waits, else 0: the host sets and clears it, between turns */
+} wax_turn_line;
+
+/*
+ * The next turn. line may not be NULL.
+ *
+ *   WAX_BUFFER  count is not WAX_LINES, or in some line given is above share or waiting above 1
+ *   WAX_SHARE   a share is not 1 to WAX_MOST_SHARE
+ *   WAX_IDLE    no line waits
+ *   WAX_OK      else: *line is the line that is given the turn, and counts are changed
+ *
+ * in this order; *line too stays as it is where the turn is refused.
+ *
+ *   wax_turn_line lines[WAX_LINES] = { { 1, 0, 0 }, { 1, 0, 0 }, { 1, 0, 0 }, { 1, 0, 0 },
+ *                                      { 1, 0, 0 }, { 1, 0, 0 }, { 2, 0, 0 }, { 4, 0, 0 } };
+ *   size_t line;
+ *   for (size_t i = 0; i < WAX_LINES; i++)
+ *       lines[i].waiting = has_message(i);
+ *   if (wax_turn_next(lines, WAX_LINES, &line) == WAX_OK)
+ *       serve(line);
+ */
+uint32_t wax_turn_next(wax_turn_line *lines, size_t count, size_t *line);
 
 #ifdef __cplusplus
 }

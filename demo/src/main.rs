@@ -11,6 +11,7 @@ mod settings;
 mod shift;
 mod staff;
 mod stretch;
+mod turns;
 
 use progress::Progress;
 use report::{Played, Report};
@@ -21,6 +22,7 @@ use std::io::{self, Write};
 use std::path::Path;
 use std::process::ExitCode;
 use stretch::Stretch;
+use turns::Turns;
 
 fn main() -> ExitCode {
     match run(&Settings::read()) {
@@ -40,6 +42,7 @@ fn run(settings: &Settings) -> Result<bool, String> {
     let chart_file = chart.map(|chart| create(&chart.path)).transpose()?;
     let mut shift = Shift::new(settings.seed, settings.frames, create(&settings.archive)?);
     shift.pace = settings.pace;
+    shift.turns = settings.shares.map(Turns::new);
     shift.stretch = chart.map(|chart| Stretch::new(chart.from, chart.calls));
     work(&mut shift, settings)?;
     let played = played(&settings.archive, &settings.playback)?;

@@ -37,6 +37,7 @@ impl Report {
         for station in 0..STATIONS {
             report.station(station, shift, played.printed.commits[station]);
         }
+        report.turns(shift);
         report.line("");
         report.line("counter                      address    counted     server    archive");
         for (address, name) in COUNTERS {
@@ -95,6 +96,22 @@ impl Report {
         self.line(&format!(
             "{station:<7}  {owner:<12}  {kind:<10}  {frames:>10} {aborts:>10} {commits:>10} {played:>10}  {verdict}"
         ));
+    }
+
+    /// Whose messages the server took, where turns are shared.
+    fn turns<W: Write>(&mut self, shift: &Shift<W>) {
+        let Some(turns) = &shift.turns else {
+            return;
+        };
+        self.line("");
+        self.line("line     owner           share      turns  longest wait, in turns");
+        for (line, share) in turns.shares().iter().enumerate() {
+            let (owner, given, longest) =
+                (staff::name(line), turns.given[line], turns.longest[line]);
+            self.line(&format!(
+                "{line:<7}  {owner:<12}  {share:>7} {given:>10} {longest:>13}"
+            ));
+        }
     }
 
     fn counter<W: Write>(

@@ -2,6 +2,7 @@
 
 use crate::shift::PACE;
 use crate::stretch::CALLS;
+use crate::turns::{shares_of, Shares};
 use second::options::Options;
 use std::process;
 
@@ -12,10 +13,11 @@ const USAGE: &str = include_str!("../usage.txt").trim_ascii_end();
 const FRAMES: u64 = 200_000;
 
 /// Options with a value.
-const VALUES: [&str; 8] = [
+const VALUES: [&str; 9] = [
     "--frames",
     "--seed",
     "--pace",
+    "--shares",
     "--archive",
     "--playback",
     "--chart",
@@ -27,6 +29,7 @@ pub struct Settings {
     pub frames: u64,
     pub seed: u64,
     pub pace: usize,
+    pub shares: Option<Shares>,
     pub archive: String,
     pub playback: String,
     pub chart: Option<Chart>,
@@ -51,11 +54,17 @@ impl Settings {
             frames: at_least_one(&options, "--frames", FRAMES),
             seed: options.seed("--seed", 1),
             pace: at_least_one(&options, "--pace", PACE as u64) as usize,
+            shares: shares(&options),
             archive: text("--archive", "target/demo/shift.archive"),
             playback: text("--playback", "target/bin/playback"),
             chart: chart(&options),
         }
     }
+}
+
+fn shares(options: &Options) -> Option<Shares> {
+    let text = options.text("--shares")?;
+    Some(shares_of(text).unwrap_or_else(|| options.unclear("--shares", "wants eight shares of 1 to 4")))
 }
 
 fn chart(options: &Options) -> Option<Chart> {

@@ -6,6 +6,7 @@ use crate::line::{Done, Fault, Line};
 use crate::owner::{Came, Owner};
 use crate::staff::{self, Staff, KINDS, PANEL};
 use crate::stretch::Stretch;
+use crate::turns::Turns;
 use second::line::call::Call;
 use second::line::sets::STATIONS;
 use second::line::{Answer, Cause};
@@ -23,6 +24,8 @@ pub struct Shift<W> {
     pub belt: Belt,
     /// Turns to a frame.
     pub pace: usize,
+    /// Whose message the server takes, by shares; else by chance.
+    pub turns: Option<Turns>,
     pub calls: u64,
     pub told: [Told; STATIONS],
     /// Copies given back.
@@ -58,6 +61,7 @@ impl<W: Write> Shift<W> {
             staff: Staff::default(),
             belt: Belt::new(random.number(), frames),
             pace: PACE,
+            turns: None,
             calls: 0,
             told: [Told::default(); STATIONS],
             purged: 0,
@@ -82,7 +86,7 @@ impl<W: Write> Shift<W> {
         }
         let call = match self.random.pick(&moves) {
             Move::Owner(station) => self.owners_call(station),
-            Move::Server(station) => Call::Server(station as u8),
+            Move::Server(station) => Call::Server(self.served(station)? as u8),
             Move::Station(station) => Call::Station(station as u8),
         };
         self.make(&call)?;
@@ -103,6 +107,15 @@ impl<W: Write> Shift<W> {
             moves.extend(able.iter().filter(|(can, _)| *can).map(|(_, one)| *one));
         }
         moves
+    }
+
+    /// The line from which the server takes a message: the one that chance picked, or the one whose turn it is.
+    fn served(&mut self, picked: usize) -> Result<usize, String> {
+        let under_way = std::array::from_fn(|station| self.line.under_way(station).0);
+        match &mut self.turns {
+            Some(turns) => turns.next(under_way),
+            None => Ok(picked),
+        }
     }
 
     fn owners_call(&mut self, station: usize) -> Call {

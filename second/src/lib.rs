@@ -20,6 +20,7 @@ pub mod samples;
 pub mod show;
 pub mod tally;
 pub mod text;
+pub mod turns;
 
 /// Why a call is turned back, by document 01's number.
 #[derive(Clone, Copy, Debug, PartialEq, Eq)]

@@ -3,6 +3,7 @@
 pub mod ends;
 pub mod server;
 pub mod stations;
+pub mod turns;
 
 use crate::archive::{Playback, ADDRESSES};
 use crate::record::Header;

@@ -6,6 +6,7 @@ mod measure;
 mod program;
 mod server;
 mod stations;
+mod turns;
 mod works;
 
 use measure::{nanoseconds, proved_over, rates, ratios, Job, Spread, Times};
@@ -17,16 +18,19 @@ use second::random::Random;
 use server::STEPS;
 use stations::CALLS;
 use std::process;
+use turns::SETS;
 use works::Work;
 
 const USAGE: &str =
     "bench [--megabytes N] [--rounds N] [--seed N] [--gate] [--playback PROGRAM --file FILE]
        bench --stations [--rounds N] [--gate]
        bench --server [--rounds N] [--seed N] [--gate]
+       bench --turns [--rounds N] [--seed N] [--gate]
   --gate      exit 1 if the proved library takes more than 1.3 times as long
   --playback  time the program too, on FILE, which is written anew and then removed
   --stations  time the calls of a station, not the archive
-  --server    time the server's step";
+  --server    time the server's step
+  --turns     time the turn-giver";
 const MEGABYTE: usize = 1_000_000;
 const PLAYBACK_MEGABYTES: usize = 200;
 /// Where the linker puts a loop is worth up to 30 %: only more than that is a fault.
@@ -42,7 +46,7 @@ fn main() {
     let options = Options::read(
         USAGE,
         &["--megabytes", "--rounds", "--seed", "--playback", "--file"],
-        &["--gate", "--stations", "--server"],
+        &["--gate", "--stations", "--server", "--turns"],
     )
     .without_words();
     let bench = Bench {
@@ -50,11 +54,12 @@ fn main() {
         rounds: options.number("--rounds", 15).max(1) as usize,
         seed: options.seed("--seed", 1),
     };
-    let rows = match (options.has("--stations"), options.has("--server")) {
-        (true, false) => bench.stations(),
-        (false, true) => bench.server(),
-        (false, false) => bench.library(),
-        (true, true) => options.misused(),
+    let rows = match ["--stations", "--server", "--turns"].map(|name| options.has(name)) {
+        [true, false, false] => bench.stations(),
+        [false, true, false] => bench.server(),
+        [false, false, true] => bench.turns(),
+        [false, false, false] => bench.library(),
+        _ => options.misused(),
     };
     if let Some(program) = options.text("--playback") {
         let file = options.text("--file").unwrap_or_else(|| options.misused());
@@ -164,6 +169,20 @@ impl Bench {
         }
         self.mixed();
         rows
+    }
+
+    fn turns(&self) -> Vec<Timed> {
+        let turns = TURNS * self.rounds;
+        println!(
+            "Medians of {turns} turns of {SETS} calls in one process, the three taking turns, in nanoseconds a call, seed {}.\n\
+             Ratios are of times in the same round, below 1 where proved is faster; in brackets the middle half of them.\n\
+             Each call has eight lines of its own, copied anew in the timed part; copy is that alone. None is inlined.\n",
+            self.seed
+        );
+        print_head("turn");
+        let benches = turns::Bench::all(self.seed);
+        let time = |bench: &turns::Bench| row(bench.name, SETS, bench.time(turns));
+        benches.iter().map(time).collect()
     }
 
     /// A line of eight stations: its steps in the order in which they came, in ten parts.
