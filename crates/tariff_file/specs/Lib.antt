@@ -1,0 +1,3 @@
+-- A line of a tariff file.
+pub mod Line
+pub mod Turns

@@ -1,0 +1,3 @@
+-- Numbers of two words.
+pub mod Wide
+pub mod Laws
