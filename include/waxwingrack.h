@@ -22,8 +22,8 @@
  * Rules for every pointer:
  *  - it points to as many elements as the length beside it says; with length 0 it may be NULL;
  *  - bytes need no alignment, the others the alignment of their type;
- *  - what is written (out, fields, entry, values, last, playback, state, messages, commit, told, records, served,
- *    lines, line) overlaps nothing else of the call;
+ *  - what is written (out, fields, entry, values, last, playback, frames, fee, state, messages, commit, told, records,
+ *    served, lines, line) overlaps nothing else of the call;
  *  - what is only read is not changed, and nothing is kept after the call.
  *
  * Every function answers one of the numbers below. Any answer but WAX_OK leaves every lent byte
@@ -55,6 +55,8 @@ extern "C" {
 #define WAX_SHORT    UINT32_C(12)  /* the bytes end inside a record */
 #define WAX_SEQUENCE UINT32_C(13)  /* the commit number is not one more than the last */
 #define WAX_REPLAY   UINT32_C(14)  /* a read differs from the value left by earlier records */
+#define WAX_TARIFF   UINT32_C(17)  /* a tariff's table breaks its rules */
+#define WAX_BEYOND   UINT32_C(18)  /* a value or a fee above 2^63 - 1 */
 #define WAX_SHARE    UINT32_C(19)  /* a share of the server's turns is not 1 to 4 */
 #define WAX_IDLE     UINT32_C(20)  /* no line waits for a turn */
 #define WAX_END      UINT32_C(255) /* no record, or no entry, there */
@@ -192,6 +194,41 @@ typedef struct wax_playback {
  *   uint32_t answer = wax_playback_record(&playback, record, length);
  */
 uint32_t wax_playback_record(wax_playback *playback, const uint8_t *record, size_t length);
+
+/*
+ * THE COUNTING LICENCE
+ *
+ * A tariff is a table of 1 to WAX_MOST_STEPS steps of WAX_STEP_LENGTH bytes, numbers little-endian:
+ *
+ *   bytes 0-7    upper frame count; upper counts rise strictly, and the last is 2^63 - 1
+ *         8-11   price per 1,000 frames, in hundredths of a cent
+ *
+ * The first step starts at frame 1, each later one behind the upper count before it; a first upper count of 0 is an empty step.
+ */
+#define WAX_STEP_LENGTH   12
+#define WAX_MOST_STEPS    16
+#define WAX_LAST_FRAME    UINT64_C(9223372036854775807)
+
+/*
+ * One address's chargeable frames over the commits first to last of a whole archive, and their fee in cents: the sum, over its
+ * writes in these commits, of new value minus the value before; each frame at the price of its step, the sum rounded once to cents,
+ * halves away from zero. A negative sum is charged as the negative of its opposite. Neither frames nor fee may be NULL.
+ *
+ *   WAX_TARIFF    the table breaks its rules; checked first
+ *   WAX_SHORT, WAX_RECORD, WAX_SEQUENCE, WAX_REPLAY
+ *                 the archive's own number, as wax_archive_replay from a fresh line; all of the archive is looked at
+ *   WAX_SEQUENCE  also: first is 0 or above last, or the archive has no commit with number last
+ *   WAX_BEYOND    a value at either end of such a change, or the fee either way, is above 2^63 - 1
+ *   WAX_OK        else: frames and fee are set
+ *
+ * One pass over the archive, in 2 KB of stack.
+ *
+ *   const uint8_t tariff[WAX_STEP_LENGTH] = { 255, 255, 255, 255, 255, 255, 255, 127, 160, 134, 1 };  (a cent a frame)
+ *   int64_t frames, fee;
+ *   if (wax_licence_fee(archive, length, tariff, sizeof tariff, 1, 120, 8, &frames, &fee) == WAX_OK) { ... }
+ */
+uint32_t wax_licence_fee(const uint8_t *archive, size_t length, const uint8_t *tariff, size_t tariff_length,
+                         uint32_t first, uint32_t last, uint8_t address, int64_t *frames, int64_t *fee);
 
 /*
  * STATIONS

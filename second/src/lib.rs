@@ -9,6 +9,7 @@ pub mod chart;
 #[cfg(feature = "proved")]
 pub mod ffi;
 pub mod generate;
+pub mod licence;
 pub mod line;
 pub mod numbers;
 pub mod options;

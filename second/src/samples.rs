@@ -11,7 +11,9 @@ const LONGER: usize = 200;
 const SEED: u64 = 12;
 
 /// The samples' names.
-pub const NAMES: [&str; 6] = ["c12", "cut", "damaged", "layout", "longer", "sequence"];
+pub const NAMES: [&str; 7] = [
+    "c12", "cut", "damaged", "layout", "licence", "longer", "sequence",
+];
 
 /// The archive of a sample, by its name.
 pub fn named(name: &str) -> Option<Vec<u8>> {
@@ -20,6 +22,7 @@ pub fn named(name: &str) -> Option<Vec<u8>> {
         "cut" => return Some(cut()),
         "damaged" => vec![c12(), read_of_8(), wrong_read()],
         "layout" => vec![c12(), no_such_station()],
+        "licence" => licence(),
         "longer" => longer(),
         "sequence" => vec![c12(), read_of_8(), later()],
         _ => return None,
@@ -61,6 +64,23 @@ fn wrong_read() -> Record {
         station: 0,
         kind: 0,
     }
+}
+
+/// Counters that count, and a correction by one.
+fn licence() -> Vec<Record> {
+    let commit = |commit, writes: &[(u8, u64)]| Record {
+        reads: vec![],
+        writes: writes.to_vec(),
+        commit,
+        transaction: commit,
+        station: 0,
+        kind: 0,
+    };
+    vec![
+        commit(1, &[(8, 1500)]),
+        commit(2, &[(8, 4000), (9, 7)]),
+        commit(3, &[(8, 3999)]),
+    ]
 }
 
 /// C12's archive without its last five bytes.

@@ -71,3 +71,11 @@ fn the_totals_of_one() {
     let totals = people::said(&["--totals"], &file("longer.archive")).expect("a play");
     assert_eq!(file("longer.totals"), totals.output);
 }
+
+#[test]
+fn the_fees_are_as_written() {
+    let file = |name: &str| fs::read(folder().join(name)).expect("a sample");
+    let said = people::fees::fees(&file("steps.tariff"), (1, 3), &file("licence.archive"));
+    assert_eq!(said.output, file("licence.fees"));
+    assert!(said.errors.is_empty());
+}

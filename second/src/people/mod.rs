@@ -2,6 +2,7 @@
 
 mod asked;
 mod fault;
+pub mod fees;
 mod flips;
 mod play;
 

@@ -1,7 +1,8 @@
-//! Check, replay and writer over one archive: the second implementation, the proved library, a plain copy.
+//! Check, replay, licence and writer over one archive: the second implementation, the proved library, a plain copy.
 
 use crate::measure::{time, Times};
 use second::archive::Playback;
+use second::licence::{self, Step};
 use second::record::{self, Header, View};
 use second::{ffi, numbers};
 use std::cell::RefCell;
@@ -43,6 +44,21 @@ impl Bench {
         );
         assert_eq!(second.0, numbers::OK, "replay: accepted");
         assert!(second == proved, "replay: results differ");
+        times
+    }
+
+    /// Frames and fee of address 8 over the whole archive, in one pass on both sides.
+    pub fn licence(&self) -> Times {
+        let table = licence::table(
+            &[(1_000_000, 250), (licence::MOST, 200)].map(|(upper, price)| Step { upper, price }),
+        );
+        let stretch = (1, views(&self.archive).len() as u32);
+        let (mut second, mut proved) = (Err(0), Err(0));
+        let times = self.time(
+            &mut || second = licence_second(black_box(&self.archive), &table, stretch),
+            &mut || proved = licence_proved(black_box(&self.archive), &table, stretch),
+        );
+        assert_eq!(second, proved, "licence: results differ");
         times
     }
 
@@ -117,6 +133,20 @@ fn replay(archive: &[u8], replay: impl Fn(&[u8], &mut Playback) -> u32) -> (u32,
     let mut playback = Playback::FRESH;
     let answer = replay(archive, &mut playback);
     (answer, playback)
+}
+
+#[inline(never)]
+fn licence_second(archive: &[u8], table: &[u8], stretch: (u32, u32)) -> Result<(i64, i64), u32> {
+    licence::bill_of_one(archive, table, stretch, 8)
+}
+
+#[inline(never)]
+fn licence_proved(archive: &[u8], table: &[u8], stretch: (u32, u32)) -> Result<(i64, i64), u32> {
+    let (mut frames, mut fee) = (0, 0);
+    match ffi::licence::fee(archive, table, stretch, 8, &mut frames, &mut fee) {
+        numbers::OK => Ok((frames, fee)),
+        number => Err(number),
+    }
 }
 
 trait Writer: Fn(&Header, &[u8], &[u8], &mut [u8]) -> u32 {}

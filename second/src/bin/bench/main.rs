@@ -99,13 +99,14 @@ impl Bench {
         rows.into_iter().map(Row::timed).collect()
     }
 
-    fn rows(&self, records: &'static str, size: Size) -> [Row; 3] {
+    fn rows(&self, records: &'static str, size: Size) -> [Row; 4] {
         let archive = self.archive(size, self.length);
         let megabytes = archive.len() as f64 / MEGABYTE as f64;
         let bench = library::Bench::new(archive, self.rounds);
         [
             ("check", bench.check()),
             ("replay", bench.replay()),
+            ("licence", bench.licence()),
             ("writer", bench.write()),
         ]
         .map(|(work, times)| Row {
@@ -124,7 +125,7 @@ impl Bench {
         println!(
             "Medians of {} rounds in one process, the three taking turns, seed {}.\n\
              Ratios are of times in the same round, below 1 where proved is faster; in brackets the middle half of them.\n\
-             Check and writer: one call for each record on both sides, none inlined. Replay: one call.\n\
+             Check and writer: one call for each record on both sides, none inlined. Replay and licence: one call.\n\
              Before each timed run the archive was copied once into the output buffer, so no page is met for the first time.\n",
             self.rounds, self.seed
         );

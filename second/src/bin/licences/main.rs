@@ -1,0 +1,173 @@
+//! Compares the counting licence of the proved library, and the fees program, with the second implementation.
+
+mod cases;
+mod programs;
+
+use cases::Case;
+use second::ffi;
+use second::licence;
+use second::options::Options;
+use second::random::Random;
+use second::show::hex;
+use second::tally::Tally;
+use std::fmt;
+use std::process;
+use std::time::{Duration, Instant};
+
+const USAGE: &str = "licences [--seed N|random] [--cases N] [--seconds N] [--fees PROGRAM]
+  --cases    so many calls of the library
+  --seconds  instead for so long
+  --fees     compare the program's text too";
+/// From so many cases on everything must have been reached.
+const ENOUGH: u64 = 100_000;
+/// What the two lent numbers hold before a call.
+const NOISE: (i64, i64) = (0x5A5A_5A5A_5A5A_5A5A, -0x2B2B_2B2B_2B2B_2B2C);
+
+fn main() {
+    let options =
+        Options::read(USAGE, &["--seed", "--cases", "--seconds", "--fees"], &[]).without_words();
+    let seed = options.seed("--seed", 20_270_101);
+    println!("seed {seed}");
+    let mut judge = Judge::new(seed);
+    let random = &mut Random::new(seed);
+    let limit = options
+        .text("--seconds")
+        .map(|_| Duration::from_secs(options.number("--seconds", 0)));
+    let cases = options.number("--cases", 1_000_000);
+    let start = Instant::now();
+    while limit.map_or(judge.count < cases, |limit| start.elapsed() < limit) {
+        for (case, what) in cases::round(random) {
+            judge.call(&case, what);
+        }
+    }
+    judge.print();
+    if let Some(program) = options.text("--fees") {
+        if let Err(error) = programs::compare(program, random) {
+            eprintln!("licences: {program}: {error}");
+            process::exit(1)
+        }
+    }
+}
+
+/// What was answered, and what else was reached.
+#[derive(Clone, Debug, PartialEq, Eq, PartialOrd, Ord)]
+enum Reached {
+    Number(u32),
+    Negative,
+    Half,
+    HighestFee,
+    LowestFee,
+    HighestSum,
+    LowestSum,
+    Steps16,
+}
+
+impl fmt::Display for Reached {
+    fn fmt(&self, f: &mut fmt::Formatter<'_>) -> fmt::Result {
+        match self {
+            Reached::Number(number) => write!(f, "number {number}"),
+            other => write!(f, "{other:?}"),
+        }
+    }
+}
+
+struct Judge {
+    seed: u64,
+    count: u64,
+    tally: Tally<Reached>,
+}
+
+impl Judge {
+    fn new(seed: u64) -> Judge {
+        Judge {
+            seed,
+            count: 0,
+            tally: Tally::default(),
+        }
+    }
+
+    fn call(&mut self, case: &Case, what: &'static str) {
+        let second = licence::bill(&case.archive, &case.table, case.stretch, case.address);
+        let one = licence::bill_of_one(&case.archive, &case.table, case.stretch, case.address);
+        assert_eq!(second, one, "the second implementation's two ways");
+        let (mut frames, mut fee) = NOISE;
+        let number = ffi::licence::fee(
+            &case.archive,
+            &case.table,
+            case.stretch,
+            case.address,
+            &mut frames,
+            &mut fee,
+        );
+        let proved = (number, frames, fee);
+        let expected = match second {
+            Ok((frames, fee)) => (0, frames, fee),
+            Err(number) => (number, NOISE.0, NOISE.1),
+        };
+        self.count += 1;
+        if proved != expected {
+            self.differ(case, what, expected, proved);
+        }
+        self.reach(case, expected);
+    }
+
+    fn differ(
+        &self,
+        case: &Case,
+        what: &str,
+        second: (u32, i64, i64),
+        proved: (u32, i64, i64),
+    ) -> ! {
+        eprintln!("licences: seed {}, case {}, {what}", self.seed, self.count);
+        eprintln!("commits {:?}, address {}", case.stretch, case.address);
+        eprintln!(
+            "table: {}\narchive: {}",
+            hex(&case.table),
+            hex(&case.archive)
+        );
+        eprintln!("second {second:?}\nproved {proved:?}");
+        process::exit(1)
+    }
+
+    fn reach(&mut self, case: &Case, (number, frames, fee): (u32, i64, i64)) {
+        self.tally.count(Reached::Number(number));
+        if number != 0 {
+            return;
+        }
+        let mut reach = |reached, is| {
+            if is {
+                self.tally.count(reached);
+            }
+        };
+        reach(Reached::Negative, fee < 0);
+        reach(Reached::HighestFee, fee == i64::MAX);
+        reach(Reached::LowestFee, fee == -i64::MAX);
+        reach(Reached::HighestSum, frames == i64::MAX);
+        reach(Reached::LowestSum, frames == -i64::MAX);
+        reach(Reached::Steps16, case.table.len() == 192);
+        let steps = licence::tariff(&case.table).expect("accepted");
+        let half = |n| licence::cost(&steps, n) % 100_000 == 50_000;
+        reach(Reached::Half, half(u128::from(frames.unsigned_abs())));
+    }
+
+    fn print(&self) {
+        use Reached::*;
+        println!(
+            "{} calls, no difference; reached:\n{}",
+            self.count, self.tally
+        );
+        let all = [0, 5, 12, 13, 14, 17, 18].map(Number);
+        let others = [
+            Negative, Half, HighestFee, LowestFee, HighestSum, LowestSum, Steps16,
+        ];
+        let missing: Vec<Reached> = all
+            .into_iter()
+            .chain(others)
+            .filter(|one| !self.tally.has(one))
+            .collect();
+        if self.count >= ENOUGH && !missing.is_empty() {
+            eprintln!("licences: not reached: {missing:?}");
+            process::exit(1)
+        }
+    }
+}
