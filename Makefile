@@ -1,6 +1,6 @@
 # The C package: library, header, pkg-config file, documents and examples; and the playback command. `make help` says what there is; GNU make.
 
-VERSION = 1.1.0
+VERSION = 1.2.0
 
 PREFIX = /usr/local
 INCLUDEDIR = $(PREFIX)/include
@@ -19,7 +19,7 @@ HEADER = include/waxwingrack.h
 PLAYBACK = target/bin/playback
 EXAMPLES := $(sort $(wildcard examples/*.c))
 # what C-INTERFACE.md, STATE.md and PROTOCOL.md link to is here too
-DOCUMENTS = $(addprefix docs/,C-INTERFACE.md STATE.md PROTOCOL.md DECISIONS.md PROVED.md CHANGES.md)
+DOCUMENTS = $(addprefix docs/,C-INTERFACE.md STATE.md PROTOCOL.md DECISIONS.md PROVED.md CHANGES.md LICENCE.md)
 PLAY_DOCUMENT = docs/PLAYBACK.md
 CHARTS := $(sort $(wildcard docs/protocol/*.svg))
 

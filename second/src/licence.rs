@@ -13,6 +13,11 @@ pub const MOST_STEPS: usize = 16;
 /// The last step's upper count, and the highest value and fee.
 pub const MOST: u64 = i64::MAX as u64;
 
+/// First and last commit.
+pub type Stretch = (u32, u32);
+/// Frames and fee, or the number.
+pub type Billed = Result<(i64, i64), u32>;
+
 #[derive(Clone, Copy, Debug, PartialEq, Eq)]
 pub struct Step {
     pub upper: u64,
@@ -83,7 +88,7 @@ impl Sum {
     }
 
     /// Frames and fee, or 18.
-    pub fn bill(&self, steps: &[Step]) -> Result<(i64, i64), u32> {
+    pub fn bill(&self, steps: &[Step]) -> Billed {
         if self.beyond {
             return Err(BEYOND);
         }
@@ -101,7 +106,7 @@ pub type Refused = (Refusal, u32);
 /// Plays the whole archive and shows each record of the stretch with the values before it; the last commit.
 fn walk(
     archive: &[u8],
-    stretch: (u32, u32),
+    stretch: Stretch,
     mut each: impl FnMut(&View, &[u64; ADDRESSES]),
 ) -> Result<u32, Refused> {
     let mut playback = Playback::FRESH;
@@ -120,12 +125,12 @@ fn walk(
     Ok(playback.last)
 }
 
-fn in_archive(stretch: (u32, u32), last: u32) -> bool {
+fn in_archive(stretch: Stretch, last: u32) -> bool {
     1 <= stretch.0 && stretch.0 <= stretch.1 && stretch.1 <= last
 }
 
 /// Sums of all addresses; the last commit of the archive. 13 is left to the caller.
-pub fn sums(archive: &[u8], stretch: (u32, u32)) -> Result<([Sum; ADDRESSES], u32), Refused> {
+pub fn sums(archive: &[u8], stretch: Stretch) -> Result<([Sum; ADDRESSES], u32), Refused> {
     let mut sums = [Sum::default(); ADDRESSES];
     let last = walk(archive, stretch, |view, before| {
         for (address, value) in view.writes() {
@@ -136,12 +141,7 @@ pub fn sums(archive: &[u8], stretch: (u32, u32)) -> Result<([Sum; ADDRESSES], u3
 }
 
 /// One call: frames and fee of an address, or the number.
-pub fn bill(
-    archive: &[u8],
-    table: &[u8],
-    stretch: (u32, u32),
-    address: u8,
-) -> Result<(i64, i64), u32> {
+pub fn bill(archive: &[u8], table: &[u8], stretch: Stretch, address: u8) -> Billed {
     let steps = tariff(table).ok_or(TARIFF)?;
     let (sums, last) = sums(archive, stretch).map_err(|(refusal, _)| refusal.number())?;
     if !in_archive(stretch, last) {
@@ -151,12 +151,7 @@ pub fn bill(
 }
 
 /// The same in one pass over the archive, for the benchmark: safe Rust as one would write it for one address.
-pub fn bill_of_one(
-    archive: &[u8],
-    table: &[u8],
-    stretch: (u32, u32),
-    address: u8,
-) -> Result<(i64, i64), u32> {
+pub fn bill_one(archive: &[u8], table: &[u8], stretch: Stretch, address: u8) -> Billed {
     let steps = tariff(table).ok_or(TARIFF)?;
     let mut playback = Playback::FRESH;
     let mut sum = Sum::default();

@@ -5,6 +5,7 @@
 // itself ends inside it.
 ghost use Prim.Native.Nat.{_≤_};
 ghost use lib.ListN.{length};
+ghost use Rattle.tariff.specs.Table.{longestTable};
 use archive::Answer;
 use archive::Fields;
 use archive::Found;
@@ -416,7 +417,7 @@ fn beyond(going: bool, address: u64, total: Total) -> Total {
 
 // The line of an address with these values at the stretch's ends, and the total behind it.
 fn bill(table: &[u8], address: u64, mark: u8, new: u64, old: u64, total: Total) -> Total
-    requires { ⌜ length (now table) ≤ 192 ⌝ }
+    requires { ⌜ length (now table) ≤ longestTable ⌝ }
 {
     if mark == 2 {
         return beyond(true, address, total);
@@ -463,7 +464,7 @@ fn say_total(total: Total) {
 
 // Heading, a line for each address written in the stretch, and the total.
 fn print_bills(table: &[u8], before: &[u64; 256], after: &[u64; 256], marks: &[u8; 256])
-    requires { ⌜ length (now table) ≤ 192 ⌝ }
+    requires { ⌜ length (now table) ≤ longestTable ⌝ }
 {
     say(true, b"address frames cents\n");
     let mut total = Total {
@@ -493,7 +494,7 @@ fn ended(
     marks: &[u8; 256],
     s: State,
 )
-    requires { ⌜ length (now table) ≤ 192 ⌝ }
+    requires { ⌜ length (now table) ≤ longestTable ⌝ }
 {
     clear(s.terminal);
     if left.len() != 0 {
@@ -519,7 +520,7 @@ fn turn(
     marks: &mut [u8; 256],
     s: State,
 ) -> State
-    requires { ⌜ length (now table) ≤ 192 ⌝ }
+    requires { ⌜ length (now table) ≤ longestTable ⌝ }
 {
     let len = least(s.len, input.len());
     match read_more(input, len) {
@@ -550,7 +551,7 @@ fn turn(
 
 // A proved loop has to end, and nothing says that standard input does: it counts down from a number that no run uses up.
 fn run(input: &mut [u8], table: &[u8], stretch: Stretch)
-    requires { ⌜ length (now table) ≤ 192 ⌝ }
+    requires { ⌜ length (now table) ≤ longestTable ⌝ }
 {
     let mut values = [0u64; 256];
     let mut before = [0u64; 256];
@@ -585,13 +586,13 @@ fn run(input: &mut [u8], table: &[u8], stretch: Stretch)
 
 // The buffer comes as an array: its length is then known by its type, and nothing has to be computed of its bytes.
 fn start(input: &mut [u8; 1310720], table: &[u8], stretch: Stretch)
-    requires { ⌜ length (now table) ≤ 192 ⌝ }
+    requires { ⌜ length (now table) ≤ longestTable ⌝ }
 {
     run(input, table, stretch);
 }
 
 fn bill_archive(table: &[u8], stretch: Stretch)
-    requires { ⌜ length (now table) ≤ 192 ⌝ }
+    requires { ⌜ length (now table) ≤ longestTable ⌝ }
 {
     let mut input = [0u8; 1310720];
     start(&mut input, table, stretch);
@@ -667,8 +668,8 @@ fn take_step(table: &mut [u8], r: Reading, e: usize, upper: u64, price: u32) -> 
     if table.len() < tariff::LONGEST {
         return unread();
     }
-    le::put_u64(table, 12 * i, upper);
-    le::put_u32(table, 12 * i + 8, price);
+    le::put_u64(table, tariff::STEP * i, upper);
+    le::put_u32(table, tariff::STEP * i + tariff::PRICE, price);
     Reading {
         at: e,
         steps: i + 1,
@@ -732,7 +733,7 @@ fn whole_tariff(r: Reading) -> usize {
     if 16 < r.steps {
         return 0;
     }
-    12 * r.steps
+    tariff::STEP * r.steps
 }
 
 // The tariff is the first bytes of a table.

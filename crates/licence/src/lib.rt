@@ -2,6 +2,7 @@
 ghost use mathlib.Core.Path.{_≡_};
 ghost use Prim.Native.Nat.{_≤_};
 ghost use lib.ListN.{length};
+ghost use Rattle.layout.specs.Record.{headerLength};
 ghost use Rattle.record.specs.Check.{lengthOf};
 ghost use Rattle.totals.specs.Writers.{writes};
 ghost use Rattle.signed.specs.Change.{Sums};
@@ -19,16 +20,16 @@ pub enum Frames {
 
 // Whether the record at the start of `part` writes this address. No test leaves the loop early.
 fn writes_to(part: &[u8], address: u8) -> bool
-    requires { ⌜ (16 ≤ length (now part)) × (lengthOf (now part) ≤ length (now part)) ⌝ }
+    requires { ⌜ (headerLength ≤ length (now part)) × (lengthOf (now part) ≤ length (now part)) ⌝ }
     ensures { λ r. ⌜ r ≡ writes (now (part .entry)) address ⌝ }
 {
-    let n = le::index(le::get_u16(part, 0));
-    let m = le::index(le::get_u16(part, 2));
+    let n = le::index(le::get_u16(part, record::READS));
+    let m = le::index(le::get_u16(part, record::WRITES));
     let mut found = false;
     let mut c = 0;
     while c < m {
         let i = n + c;
-        found |= part[16 + i] == address;
+        found |= part[record::HEADER + i] == address;
         c += 1;
     }
     found
@@ -46,7 +47,7 @@ fn noted(
     new: u64,
     old: u64,
 ) -> Change
-    requires { ⌜ (16 ≤ length (now part)) × (lengthOf (now part) ≤ length (now part)) × (commit ≤ last → Sums sum old) ⌝ }
+    requires { ⌜ (headerLength ≤ length (now part)) × (lengthOf (now part) ≤ length (now part)) × (commit ≤ last → Sums sum old) ⌝ }
     ensures { λ r. ⌜ r ≡ notedOf sum (now (part .entry)) commit first last address new old ⌝ }
 {
     if commit < first {

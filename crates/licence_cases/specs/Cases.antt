@@ -7,7 +7,7 @@ use lib.IntN.{ℤ, pos, negsuc}
 use Rattle.lists.specs.Tests.{allTo}
 use Rattle.le.specs.Le.{u16At, u32At, u64At}
 use Rattle.le.specs.Width.{bytes}
-use Rattle.layout.specs.Record.{header}
+use Rattle.layout.specs.Record.{valueLength, header}
 use Rattle.record.specs.Check.{headOk, headAt, riseAt, rises, addressesRise, checkOf}
 use Rattle.archive.specs.Read.{fieldsOf, firstOf, readOf}
 use Rattle.replay.specs.Replay.{readAgrees, readsAgree, storedTo, stored, replayOf}
@@ -44,7 +44,7 @@ AllHold (c ∷ cs) = Holds c × AllHold cs
 
 -- commit c writes this value to an address
 abbrev write : ℕ → ℕ → ℕ → List ℕ
-write c a v = header 0 1 c c 0 0 ++ (a ∷ bytes 8 v)
+write c a v = header 0 1 c c 0 0 ++ (a ∷ bytes valueLength v)
 
 abbrev one : ℕ → List ℕ
 one v = write 1 8 v

@@ -12,7 +12,7 @@ use lib.Dec.{eqb, ltb, leb}
 use borrow.Author.Tests.{le-leb, lt-leb, lt-ltb, le-ltb, ltb-true, ltb-false, eq-eqb, ne-eqb}
 use Rattle.lists.specs.Tests.{allTo, allTo-at, allTo-of, and-both}
 use Rattle.signed.specs.Change.{most}
-use Rattle.tariff.specs.Table.{stepsIn, upperAt, priceAt, riseAt, rises, lawful, coveredOf, doneTo, chargeTo}
+use Rattle.tariff.specs.Table.{stepLength, longestTable, stepsIn, upperAt, priceAt, riseAt, rises, lawful, coveredOf, doneTo, chargeTo}
 use Rattle.tariff.specs.Facts.{Lawful, lawful-tells}
 use Rattle.licence_terms.specs.Tariff.{Step, Rise, Ends, Tariff, priceOf, costOf}
 
@@ -60,7 +60,7 @@ no-end t i h = h
 
 -- what a table that keeps the rules is
 pub record Table (t : List ℕ) : Type 0 where
-  pub whole : length t ≡ 12 * length (stepsOf t)
+  pub whole : length t ≡ stepLength * length (stepsOf t)
   pub tariff : Tariff (stepsOf t)
 
 next-rises : (t : List ℕ) (k j : ℕ) → rises t k ≡ true → suc j < k → upperAt t j < upperAt t (suc j)
@@ -90,12 +90,12 @@ table-lawful t b =
     let k = stepsIn t in
     let n : length (stepsOf t) ≡ k = length-steps k t 0 in
     let few : k ≤ 16 = rw n at (b .tariff .few) in
-    let size : length t ≡ 12 * k = rw n at (b .whole) in
+    let size : length t ≡ stepLength * k = rw n at (b .whole) in
     let some : k ≡ 0 → ⊥ = λ z. no-end t 0 (rw z at (b .tariff .ends)) in
     let one : k ≡ suc (k - 1) = omega (arith, some) in
     let last : upperAt t (k - 1) ≡ most = ap (upperAt t) (omega arith) ∙ ends-at (k - 1) t 0 (rw one at (b .tariff .ends)) in
     let rise : allTo (riseAt t) (k - 1) ≡ true = allTo-of (riseAt t) (k - 1) (λ j l. rw add-one (lt-ltb _ _ (rise-at k t 0 (b .tariff .rise) j (omega arith) (omega arith)))) in
-    rw (ne-eqb (length t) 0 (λ z. some (omega arith)), le-ltb 192 (length t) (omega arith), eq-eqb (length t % 12) 0 (omega arith), rise, eq-eqb _ _ last)
+    rw (ne-eqb (length t) 0 (λ z. some (omega arith)), le-ltb longestTable (length t) (omega arith), eq-eqb (length t % stepLength) 0 (omega arith), rise, eq-eqb _ _ last)
 
 -- uppers below the i-th
 module _ (t : List ℕ) (k : ℕ) (rise : rises t k ≡ true) where

@@ -14,21 +14,21 @@ use Rattle.wide.specs.Wide.{words}
 use Rattle.signed.specs.Change.{most}
 use Rattle.tariff.specs.declared.Cents.{Cents}
 use Rattle.tariff.specs.declared.Cents.the-variants as cents
-use Rattle.tariff.specs.Table.{stepsIn, upperAt, priceAt, rises, lawful, coveredOf, doneTo, chargeTo, nearest, centsOf}
+use Rattle.tariff.specs.Table.{stepLength, longestTable, stepsIn, upperAt, priceAt, rises, lawful, coveredOf, doneTo, chargeTo, nearest, centsOf}
 
 -- what a table that keeps the rules tells
 pub record Lawful (t : List ℕ) : Type 0 where
   pub some : 0 < length t
-  pub few : length t ≤ 192
-  pub whole : length t % 12 ≡ 0
+  pub few : length t ≤ longestTable
+  pub whole : length t % stepLength ≡ 0
   pub rise : rises t (stepsIn t) ≡ true
   pub last : upperAt t (stepsIn t - 1) ≡ most
 
 pub lawful-tells : (t : List ℕ) → lawful t ≡ true → Lawful t
 unfolding lawful
-lawful-tells t h = by-tests (eqb (length t) 0) (ltb 192 (length t)) (eqb (length t % 12) 0) refl refl refl h
+lawful-tells t h = by-tests (eqb (length t) 0) (ltb longestTable (length t)) (eqb (length t % stepLength) 0) refl refl refl h
   where
-    by-tests : (a b c : Bool) → eqb (length t) 0 ≡ a → ltb 192 (length t) ≡ b → eqb (length t % 12) 0 ≡ c
+    by-tests : (a b c : Bool) → eqb (length t) 0 ≡ a → ltb longestTable (length t) ≡ b → eqb (length t % stepLength) 0 ≡ c
         → cond a false (cond b false (cond c (rises t (stepsIn t) && eqb (upperAt t (stepsIn t - 1)) most) false)) ≡ true → Lawful t
     by-tests true b c ea eb ec e = let z : _≡_ {A = ℕ} 0 1 = cc in absurd (omega arith)
     by-tests false true c ea eb ec e = let z : _≡_ {A = ℕ} 0 1 = cc in absurd (omega arith)

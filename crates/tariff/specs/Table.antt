@@ -1,4 +1,4 @@
--- A tariff's table: steps of 12 bytes, each an upper frame count of 8 bytes and a price of 4 (docs/LICENCE.md).
+-- A tariff's table (docs/LICENCE.md): steps one behind the other, and what frames cost by them.
 use Prim.Native.Nat.{ℕ, zero, suc, _+_, _*_, _-_, _/_, _%_}
 use mathlib.Core.List.{List}
 use mathlib.Core.Bool.{Bool, false, _&&_, cond}
@@ -13,15 +13,26 @@ use Rattle.tariff.specs.declared.Cents.the-variants as cents
 use Rattle.tariff.specs.declared.Fee.{Fee}
 use Rattle.tariff.specs.declared.Fee.the-variants as fee
 
+-- a step is an upper frame count, of 8 bytes, and a price, of 4
+abbrev pub priceFrom : ℕ
+priceFrom = 8
+
+abbrev pub stepLength : ℕ
+stepLength = priceFrom + 4
+
+-- "up to 16 steps"
+abbrev pub longestTable : ℕ
+longestTable = 16 * stepLength
+
 abbrev pub stepsIn : List ℕ → ℕ
-stepsIn t = length t / 12
+stepsIn t = length t / stepLength
 
 -- the upper frame count and the price of step i
 unfoldable pub upperAt : List ℕ → ℕ → ℕ
-upperAt t i = u64At t (12 * i)
+upperAt t i = u64At t (stepLength * i)
 
 unfoldable pub priceAt : List ℕ → ℕ → ℕ
-priceAt t i = u32At t (12 * i + 8)
+priceAt t i = u32At t (stepLength * i + priceFrom)
 
 -- "upper counts rise strictly"
 unfoldable pub riseAt : List ℕ → ℕ → Bool
@@ -34,7 +45,7 @@ rises t k = allTo (riseAt t) (k - 1)
 unfoldable pub lawful : List ℕ → Bool
 lawful t =
     cond (eqb (length t) 0) false
-    (cond (ltb 192 (length t)) false (cond (eqb (length t % 12) 0) (rises t (stepsIn t) && eqb (upperAt t (stepsIn t - 1)) most) false))
+    (cond (ltb longestTable (length t)) false (cond (eqb (length t % stepLength) 0) (rises t (stepsIn t) && eqb (upperAt t (stepsIn t - 1)) most) false))
 
 -- how many of n frames are at or below an upper count
 unfoldable pub coveredOf : ℕ → ℕ → ℕ

@@ -3,32 +3,34 @@ ghost use mathlib.Core.Path.{_≡_};
 ghost use Prim.Native.Nat.{_+_, _*_, _-_, _/_, _≤_};
 ghost use lib.ListN.{length};
 ghost use Rattle.wide.specs.Wide.{words};
-ghost use Rattle.tariff.specs.Table.{stepsIn, upperAt, priceAt, riseAt, rises, lawful, coveredOf, chargeTo, centsOf, feeOf};
+ghost use Rattle.tariff.specs.Table.{stepLength, longestTable, stepsIn, upperAt, priceAt, riseAt, rises, lawful, coveredOf, chargeTo, centsOf, feeOf};
 use wide::Wide;
 
-// Bytes of a step: its upper frame count, 8, and its price, 4.
-pub const STEP: usize = 12;
+// A step is its upper frame count, of 8 bytes, and its price, of 4: where the price stands in it, and its bytes.
+pub const PRICE: usize = 8;
+
+pub const STEP: usize = PRICE + 4;
 
 // Bytes of the longest table, of 16 steps.
-pub const LONGEST: usize = 192;
+pub const LONGEST: usize = 16 * STEP;
 
 fn upper(table: &[u8], i: usize) -> u64
-    requires { ⌜ 12 * i + 12 ≤ length (now table) ⌝ }
+    requires { ⌜ stepLength * i + stepLength ≤ length (now table) ⌝ }
     ensures { λ r. ⌜ r ≡ upperAt (now (table .entry)) i ⌝ }
 {
-    le::get_u64(table, 12 * i)
+    le::get_u64(table, STEP * i)
 }
 
 fn price(table: &[u8], i: usize) -> u32
-    requires { ⌜ 12 * i + 12 ≤ length (now table) ⌝ }
+    requires { ⌜ stepLength * i + stepLength ≤ length (now table) ⌝ }
     ensures { λ r. ⌜ r ≡ priceAt (now (table .entry)) i ⌝ }
 {
-    le::get_u32(table, 12 * i + 8)
+    le::get_u32(table, STEP * i + PRICE)
 }
 
 // Whether the upper count of a step is below the next one's.
 fn rise_at(table: &[u8], i: usize) -> bool
-    requires { ⌜ 12 * i + 24 ≤ length (now table) ⌝ }
+    requires { ⌜ stepLength * i + 2 * stepLength ≤ length (now table) ⌝ }
     ensures { λ r. ⌜ r ≡ riseAt (now (table .entry)) i ⌝ }
 {
     upper(table, i) < upper(table, i + 1)
@@ -36,7 +38,7 @@ fn rise_at(table: &[u8], i: usize) -> bool
 
 // Whether the upper counts of k steps rise.
 fn rise(table: &[u8], k: usize) -> bool
-    requires { ⌜ 12 * k ≤ length (now table) ⌝ }
+    requires { ⌜ stepLength * k ≤ length (now table) ⌝ }
     ensures { λ r. ⌜ r ≡ rises (now (table .entry)) k ⌝ }
 {
     let mut ok = true;
@@ -87,7 +89,7 @@ fn above(a: u64, b: u64) -> u64
 
 // What n frames cost, in hundred-thousandths of a cent, step by step.
 fn charge(table: &[u8], n: u64) -> Wide
-    requires { ⌜ length (now table) ≤ 192 ⌝ }
+    requires { ⌜ length (now table) ≤ longestTable ⌝ }
     ensures { λ r. ⌜ words (r .hi) (r .lo) ≡ chargeTo (now (table .entry)) n (stepsIn (now (table .entry))) ⌝ }
 {
     let k = table.len() / STEP;
@@ -133,7 +135,7 @@ pub enum Fee {
 
 // The fee for so many frames. A negative number is charged as the negative of its opposite.
 pub fn fee_for(table: &[u8], frames: i64) -> Fee
-    requires { ⌜ length (now table) ≤ 192 ⌝ }
+    requires { ⌜ length (now table) ≤ longestTable ⌝ }
     ensures { λ r. ⌜ r ≡ feeOf (now (table .entry)) frames ⌝ }
 {
     let n = signed::magnitude(frames);

@@ -137,7 +137,7 @@ fn replay(archive: &[u8], replay: impl Fn(&[u8], &mut Playback) -> u32) -> (u32,
 
 #[inline(never)]
 fn licence_second(archive: &[u8], table: &[u8], stretch: (u32, u32)) -> Result<(i64, i64), u32> {
-    licence::bill_of_one(archive, table, stretch, 8)
+    licence::bill_one(archive, table, stretch, 8)
 }
 
 #[inline(never)]

@@ -88,7 +88,7 @@ impl Judge {
 
     fn call(&mut self, case: &Case, what: &'static str) {
         let second = licence::bill(&case.archive, &case.table, case.stretch, case.address);
-        let one = licence::bill_of_one(&case.archive, &case.table, case.stretch, case.address);
+        let one = licence::bill_one(&case.archive, &case.table, case.stretch, case.address);
         assert_eq!(second, one, "the second implementation's two ways");
         let (mut frames, mut fee) = NOISE;
         let number = ffi::licence::fee(
@@ -144,7 +144,10 @@ impl Judge {
         reach(Reached::LowestFee, fee == -i64::MAX);
         reach(Reached::HighestSum, frames == i64::MAX);
         reach(Reached::LowestSum, frames == -i64::MAX);
-        reach(Reached::Steps16, case.table.len() == 192);
+        reach(
+            Reached::Steps16,
+            case.table.len() == licence::STEP * licence::MOST_STEPS,
+        );
         let steps = licence::tariff(&case.table).expect("accepted");
         let half = |n| licence::cost(&steps, n) % 100_000 == 50_000;
         reach(Reached::Half, half(u128::from(frames.unsigned_abs())));
