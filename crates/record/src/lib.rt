@@ -60,7 +60,7 @@ fn pairs(n: usize) -> usize
 }
 
 // Whether the n addresses from a rise strictly. No test leaves the loop early, so that it compiles to vector code.
-fn rises(s: &[u8], a: usize, n: usize) -> bool
+pub fn rises(s: &[u8], a: usize, n: usize) -> bool
     requires { ⌜ a + n ≤ length (now s) ⌝ }
     ensures { λ r. ⌜ r ≡ Check·rises (now (s .entry)) a n ⌝ }
 {
@@ -93,7 +93,7 @@ pub fn claimed_length(bytes: &[u8]) -> usize
 }
 
 // Whether a header's numbers are in range and its two last bytes are 0.
-fn head_at(s: &[u8]) -> bool
+pub fn head_at(s: &[u8]) -> bool
     requires { ⌜ headerLength ≤ length (now s) ⌝ }
     ensures { λ r. ⌜ r ≡ headAt (now (s .entry)) ⌝ }
 {

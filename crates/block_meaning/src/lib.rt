@@ -1,0 +1,1 @@
+// Blocks by column mean document 02: theorems alone, in specs/.
