@@ -59,6 +59,7 @@ extern "C" {
 #define WAX_BEYOND   UINT32_C(18)  /* a value or a fee above 2^63 - 1 */
 #define WAX_SHARE    UINT32_C(19)  /* a share of the server's turns is not 1 to 4 */
 #define WAX_IDLE     UINT32_C(20)  /* no line waits for a turn */
+#define WAX_BLOCK    UINT32_C(21)  /* a block of not 1 to 64 records, a place beyond them, or counts that disagree */
 #define WAX_END      UINT32_C(255) /* no record, or no entry, there */
 
 /* Limits and sizes. */
@@ -418,6 +419,66 @@ typedef struct wax_turn_line {
  *       serve(line);
  */
 uint32_t wax_turn_next(wax_turn_line *lines, size_t count, size_t *line);
+
+/*
+ * BLOCKS
+ *
+ * A block holds 1 to 64 records laid out by column, so that like stands beside like and a compressor finds it:
+ *
+ *   bytes 0-1   record count c
+ *         2-3   total entry count t: reads and writes of all records
+ *         then  c headers of 16 bytes
+ *         then  t addresses
+ *         then  8 planes of t bytes: the lowest bytes of all values, then the next ones, ... the highest
+ *
+ * It is 4 bytes longer than its records. Commit numbers and values are not looked at: blocks hold any well-formed records.
+ */
+#define WAX_BLOCK_RECORDS 64
+#define WAX_BLOCK_COUNTS  4      /* bytes of a block beside its records' bytes */
+#define WAX_LONGEST_BLOCK 295940 /* WAX_BLOCK_COUNTS + WAX_BLOCK_RECORDS * WAX_LONGEST_RECORD */
+
+/* Length of the record whose bytes start here, by its own sizes: for what wax_block_record gives. */
+#define WAX_RECORD_LENGTH_OF(record) \
+    WAX_RECORD_LENGTH((record)[0] | (size_t)(record)[1] << 8, (record)[2] | (size_t)(record)[3] << 8)
+
+/*
+ * Writes these records, one behind the other, as a block at the start of out: length + WAX_BLOCK_COUNTS bytes.
+ *
+ *   WAX_BUFFER  out_length is below length + WAX_BLOCK_COUNTS
+ *   WAX_BLOCK   there is no record, or a 65th
+ *   WAX_SHORT   the bytes end inside a record
+ *   WAX_RECORD  a record that wax_record_check would refuse
+ *
+ * The first record that is refused gives the number; a 65th is not looked into.
+ *
+ *   static uint8_t block[WAX_LONGEST_BLOCK];
+ *   wax_block_write(records, length, block, sizeof block);
+ */
+uint32_t wax_block_write(const uint8_t *records, size_t length, uint8_t *out, size_t out_length);
+
+/*
+ * Reads a block: its records, one behind the other, at the start of out: length - WAX_BLOCK_COUNTS bytes.
+ *
+ *   WAX_BUFFER  out_length is below length - WAX_BLOCK_COUNTS
+ *   WAX_BLOCK   not 1 to 64 records, or counts that disagree with each other or with length (any length below 4 too)
+ *   WAX_RECORD  a record that wax_record_check would refuse
+ *
+ * What was written is read back, and what was read is written back, byte for byte.
+ */
+uint32_t wax_block_read(const uint8_t *block, size_t length, uint8_t *out, size_t out_length);
+
+/*
+ * Looks up the record at a place of a block, from 0, without reading the others' values: WAX_RECORD_LENGTH_OF(out) bytes at the
+ * start of out. It answers as wax_block_read would, so a fault in any record of the block is WAX_RECORD.
+ *
+ *   WAX_BUFFER  out_length is below WAX_LONGEST_RECORD, however short the record
+ *   WAX_BLOCK   as wax_block_read; also a place that the block does not have
+ *   WAX_RECORD  as wax_block_read
+ *
+ *   uint8_t record[WAX_LONGEST_RECORD];
+ *   if (wax_block_record(block, length, 0, record, sizeof record) == WAX_OK) { ... }
+ */
+uint32_t wax_block_record(const uint8_t *block, size_t length, uint32_t place, uint8_t *out, size_t out_length);
 
 #ifdef __cplusplus
 }

@@ -4,6 +4,7 @@
 //! lines, `bench` times both; `line_runs` tries the line on random crossings.
 
 pub mod archive;
+pub mod block;
 pub mod buffers;
 pub mod chart;
 #[cfg(feature = "proved")]
@@ -32,6 +33,7 @@ pub enum Refusal {
     Short = 12,
     Sequence = 13,
     Replay = 14,
+    Block = 21,
 }
 
 impl Refusal {

@@ -68,6 +68,13 @@ impl Header {
             & (self.kind <= 1)
     }
 
+    /// Whether these fields, their bytes and the record's addresses keep the rules of a record.
+    #[inline]
+    pub(crate) fn is_sound(&self, head: &[u8; HEADER], addresses: &[u8]) -> bool {
+        let spare = header::Field::Spare.byte_of(head, 0) | header::Field::Spare.byte_of(head, 1);
+        self.in_range() & (spare == 0) & both_rise(addresses, self.reads as usize)
+    }
+
     /// Reads and writes together: two 32-bit counts cannot wrap here.
     #[inline]
     pub fn entries(&self) -> u64 {
@@ -98,8 +105,7 @@ impl<'a> View<'a> {
         let entries = header.entries() as usize;
         let body = rest.get(..ENTRY * entries).ok_or(Refusal::Short)?;
         let (addresses, values) = body.split_at(entries);
-        let spare = header::Field::Spare.byte_of(head, 0) | header::Field::Spare.byte_of(head, 1);
-        if header.in_range() & (spare == 0) & both_rise(addresses, header.reads as usize) {
+        if header.is_sound(head, addresses) {
             Ok(View {
                 header,
                 addresses,

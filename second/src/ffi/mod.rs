@@ -1,5 +1,6 @@
 //! The proved library's C interface, and safe wrappers over it. Must say the same as `include/waxwingrack.h`.
 
+pub mod blocks;
 pub mod ends;
 pub mod licence;
 pub mod server;

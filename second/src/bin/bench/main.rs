@@ -1,5 +1,6 @@
 //! Times the proved library against the second implementation and a plain copy; prints a table for docs/PERFORMANCE.md.
 
+mod blocks;
 mod desk;
 mod library;
 mod measure;
@@ -9,7 +10,9 @@ mod stations;
 mod turns;
 mod works;
 
+use blocks::PLACE;
 use measure::{nanoseconds, proved_over, rates, ratios, Job, Spread, Times};
+use second::block::RECORDS;
 use second::generate::{self, Size};
 use second::line::server::state::LENGTH as SERVER_LENGTH;
 use second::line::station::state::LENGTH;
@@ -26,11 +29,13 @@ const USAGE: &str =
        bench --stations [--rounds N] [--gate]
        bench --server [--rounds N] [--seed N] [--gate]
        bench --turns [--rounds N] [--seed N] [--gate]
+       bench --blocks [--megabytes N] [--rounds N] [--seed N] [--gate]
   --gate      exit 1 if the proved library takes more than 1.3 times as long
   --playback  time the program too, on FILE, which is written anew and then removed
   --stations  time the calls of a station, not the archive
   --server    time the server's step
-  --turns     time the turn-giver";
+  --turns     time the turn-giver
+  --blocks    time blocks laid out by column";
 const MEGABYTE: usize = 1_000_000;
 const PLAYBACK_MEGABYTES: usize = 200;
 /// Where the linker puts a loop is worth up to 30 %: only more than that is a fault.
@@ -46,7 +51,7 @@ fn main() {
     let options = Options::read(
         USAGE,
         &["--megabytes", "--rounds", "--seed", "--playback", "--file"],
-        &["--gate", "--stations", "--server", "--turns"],
+        &["--gate", "--stations", "--server", "--turns", "--blocks"],
     )
     .without_words();
     let bench = Bench {
@@ -54,11 +59,13 @@ fn main() {
         rounds: options.number("--rounds", 15).max(1) as usize,
         seed: options.seed("--seed", 1),
     };
-    let rows = match ["--stations", "--server", "--turns"].map(|name| options.has(name)) {
-        [true, false, false] => bench.stations(),
-        [false, true, false] => bench.server(),
-        [false, false, true] => bench.turns(),
-        [false, false, false] => bench.library(),
+    let asked = ["--stations", "--server", "--turns", "--blocks"].map(|name| options.has(name));
+    let rows = match asked {
+        [true, false, false, false] => bench.stations(),
+        [false, true, false, false] => bench.server(),
+        [false, false, true, false] => bench.turns(),
+        [false, false, false, true] => bench.blocks(),
+        [false, false, false, false] => bench.library(),
         _ => options.misused(),
     };
     if let Some(program) = options.text("--playback") {
@@ -99,6 +106,44 @@ impl Bench {
         rows.into_iter().map(Row::timed).collect()
     }
 
+    fn blocks(&self) -> Vec<Timed> {
+        println!(
+            "Medians of {} rounds in one process, the three taking turns, seed {}.\n\
+             Ratios are of times in the same round, below 1 where proved is faster; in brackets the middle half of them.\n\
+             One call for each block of {RECORDS} records on both sides, none inlined, from one buffer to another; copy is that of\n\
+             the bytes handed in. A look-up checks all of its block and gives the record at place {PLACE}.\n",
+            self.rounds, self.seed
+        );
+        print_rates_head();
+        let sizes = [
+            ("small, 1 to 3 each", Size::Small),
+            ("mixed", Size::Mixed),
+            ("large, 256 each", Size::Large),
+        ];
+        let rows = sizes.map(|(records, size)| self.block_rows(records, size));
+        rows.into_iter().flatten().map(Row::timed).collect()
+    }
+
+    fn block_rows(&self, records: &'static str, size: Size) -> [Row; 3] {
+        let bench = blocks::Bench::new(self.seed, size, self.length, self.rounds);
+        let megabytes = bench.length() as f64 / MEGABYTE as f64;
+        [
+            ("write", bench.write()),
+            ("read", bench.read()),
+            ("look up", bench.record()),
+        ]
+        .map(|(work, times)| {
+            let row = Row {
+                work,
+                records,
+                megabytes,
+                times,
+            };
+            row.print();
+            row
+        })
+    }
+
     fn rows(&self, records: &'static str, size: Size) -> [Row; 4] {
         let archive = self.archive(size, self.length);
         let megabytes = archive.len() as f64 / MEGABYTE as f64;
@@ -129,8 +174,7 @@ impl Bench {
              Before each timed run the archive was copied once into the output buffer, so no page is met for the first time.\n",
             self.rounds, self.seed
         );
-        println!("| work | records | MB | second MB/s | proved MB/s | copy MB/s | proved / second | proved / copy |");
-        println!("|---|---|---|---|---|---|---|---|");
+        print_rates_head();
         for row in rows {
             row.print();
         }
@@ -246,6 +290,11 @@ impl Timed {
     fn too_slow(&self) -> bool {
         proved_over(&self.times, Job::Second).median > GATE
     }
+}
+
+fn print_rates_head() {
+    println!("| work | records | MB | second MB/s | proved MB/s | copy MB/s | proved / second | proved / copy |");
+    println!("|---|---|---|---|---|---|---|---|");
 }
 
 fn print_head(what: &str) {
