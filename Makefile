@@ -1,6 +1,7 @@
-# The C package: library, header, pkg-config file, documents and examples; and the playback command. `make help` says what there is; GNU make.
+# The C package: library, header, pkg-config file, documents and examples; and the commands for archives. `make help` says what there is;
+# GNU make.
 
-VERSION = 1.2.0
+VERSION = 1.3.0
 
 PREFIX = /usr/local
 INCLUDEDIR = $(PREFIX)/include
@@ -17,9 +18,10 @@ INSTALL = install
 LIBRARY = target/lib/libwaxwingrack.a
 HEADER = include/waxwingrack.h
 PLAYBACK = target/bin/playback
+BLOCK = target/bin/waxwingrack-block
 EXAMPLES := $(sort $(wildcard examples/*.c))
 # what C-INTERFACE.md, STATE.md and PROTOCOL.md link to is here too
-DOCUMENTS = $(addprefix docs/,C-INTERFACE.md STATE.md PROTOCOL.md DECISIONS.md PROVED.md CHANGES.md LICENCE.md)
+DOCUMENTS = $(addprefix docs/,C-INTERFACE.md STATE.md PROTOCOL.md DECISIONS.md PROVED.md CHANGES.md LICENCE.md BLOCKS.md)
 PLAY_DOCUMENT = docs/PLAYBACK.md
 CHARTS := $(sort $(wildcard docs/protocol/*.svg))
 
@@ -28,20 +30,27 @@ SOURCES := $(shell find crates -type f ! -name '*.edit')
 
 # beneath DOCDIR the documents keep the places that they have beneath docs/
 INSTALLED = $(INCLUDEDIR)/waxwingrack.h $(LIBDIR)/libwaxwingrack.a $(LIBDIR)/pkgconfig/waxwingrack.pc \
-            $(DOCUMENTS:docs/%=$(DOCDIR)/%) $(CHARTS:docs/%=$(DOCDIR)/%) $(EXAMPLES:%=$(DOCDIR)/%) $(INSTALLED_PLAY)
+            $(DOCUMENTS:docs/%=$(DOCDIR)/%) $(CHARTS:docs/%=$(DOCDIR)/%) $(EXAMPLES:%=$(DOCDIR)/%) $(INSTALLED_PLAY) \
+            $(BINDIR)/waxwingrack-block $(MANDIR)/man1/waxwingrack-block.1
 INSTALLED_PLAY = $(BINDIR)/waxwingrack-play $(LIBEXECDIR)/playback $(MANDIR)/man1/waxwingrack-play.1 $(PLAY_DOCUMENT:docs/%=$(DOCDIR)/%)
 below_prefix = $(patsubst $(PREFIX)/%,$${prefix}/%,$(1))
 
 .PHONY: all examples install install-play uninstall absolute built built-play help
 .DELETE_ON_ERROR:
 
-all: $(LIBRARY) $(PLAYBACK)
+all: $(LIBRARY) $(PLAYBACK) $(BLOCK)
 
 $(LIBRARY): $(SOURCES)
 	tools/library
 
 $(PLAYBACK): $(SOURCES) play/waxwingrack-play.in
 	tools/player
+
+build_block = $(CC) $(CFLAGS) -DVERSION='"$(VERSION)"' -Iinclude play/block.c $(LIBRARY) -o $(BLOCK)
+
+$(BLOCK): play/block.c Makefile $(HEADER) $(LIBRARY)
+	mkdir -p $(@D)
+	$(build_block)
 
 examples: $(EXAMPLES:%.c=target/%)
 
@@ -61,6 +70,12 @@ install: absolute built install-play
 	$(INSTALL) -m 644 $(DOCUMENTS) '$(DESTDIR)$(DOCDIR)'
 	$(INSTALL) -m 644 $(CHARTS) '$(DESTDIR)$(DOCDIR)/protocol'
 	$(INSTALL) -m 644 $(EXAMPLES) '$(DESTDIR)$(DOCDIR)/examples'
+	$(INSTALL) -m 755 $(BLOCK) '$(DESTDIR)$(BINDIR)'
+	$(call manual,waxwingrack-block)
+
+# a command's manual page
+manual = sed -e 's|@VERSION@|$(VERSION)|' -e 's|@DOCDIR@|$(DOCDIR)|' play/$(1).1.in >'$(DESTDIR)$(MANDIR)/man1/$(1).1' \
+	    && chmod 644 '$(DESTDIR)$(MANDIR)/man1/$(1).1'
 
 # the playback command alone, for a machine that reads archives: it needs neither toolchain nor compiler
 install-play: absolute built-play
@@ -68,9 +83,7 @@ install-play: absolute built-play
 	$(INSTALL) -m 755 $(PLAYBACK) '$(DESTDIR)$(LIBEXECDIR)'
 	sed 's|@PROGRAM@|$(LIBEXECDIR)/playback|' play/waxwingrack-play.in >'$(DESTDIR)$(BINDIR)/waxwingrack-play'
 	chmod 755 '$(DESTDIR)$(BINDIR)/waxwingrack-play'
-	sed -e 's|@VERSION@|$(VERSION)|' -e 's|@DOCDIR@|$(DOCDIR)|' play/waxwingrack-play.1.in \
-	    >'$(DESTDIR)$(MANDIR)/man1/waxwingrack-play.1'
-	chmod 644 '$(DESTDIR)$(MANDIR)/man1/waxwingrack-play.1'
+	$(call manual,waxwingrack-play)
 	$(INSTALL) -m 644 $(PLAY_DOCUMENT) '$(DESTDIR)$(DOCDIR)'
 
 # directories that others use too stay
@@ -93,6 +106,8 @@ built:
 	@[ -e $(LIBRARY) ] || $(MAKE) --no-print-directory $(LIBRARY)
 	@$(MAKE) --no-print-directory --question $(LIBRARY) || \
 	    echo "make: $(LIBRARY) is older than crates/ and is installed as it is; 'make' builds it anew" >&2
+	@mkdir -p $(dir $(BLOCK))
+	@[ $(BLOCK) -nt $(LIBRARY) ] && [ $(BLOCK) -nt play/block.c ] || $(build_block)
 
 built-play:
 	@[ -e $(PLAYBACK) ] || $(MAKE) --no-print-directory $(PLAYBACK)
@@ -100,7 +115,7 @@ built-play:
 	    echo "make: $(PLAYBACK) is older than crates/ and is installed as it is; 'make' builds it anew" >&2
 
 help:
-	@echo 'make                 proves and builds $(LIBRARY) and $(PLAYBACK), if not there or older than crates/'
+	@echo 'make                 proves and builds $(LIBRARY), $(PLAYBACK) and $(BLOCK), if not there or older than crates/'
 	@echo 'make examples        builds the C examples into target/examples'
 	@echo 'make install         installs version $(VERSION) below PREFIX ($(PREFIX)); no proof if the library is there'
 	@echo 'make install-play    installs the playback command and its manual page alone'
