@@ -20,7 +20,7 @@ use Rattle.replay.specs.Replay.{readsAgree, stored, replayed, onAnswer, replayO
 use Rattle.replay.specs.Fuel.{moves}
 use Rattle.report.specs.Text.{lineOf, endLine, refusedLine, linesFor, linesFrom}
 use Rattle.report.specs.Turns.{lines-enough}
-use Rattle.player_meaning.specs.Prefix.{placed}
+use Rattle.replay_parts.specs.Prefix.{placed}
 
 abbrev pub linesOn : List ℕ → ℕ → ℕ → List ℕ → List ℕ
 linesOn z at last v = linesFrom (suc (length z) - at) z at last v

@@ -30,7 +30,7 @@ use Rattle.player.specs.declared.Job.{Job}
 use Rattle.player.specs.Play.{Noted, noted, textPut, noteOf, Ran, ran, noRoom, runFrom}
 use Rattle.player.specs.Close.{never, wantsMore}
 use Rattle.player.specs.Steps.{turn, turn-record, turn-full}
-use Rattle.player_meaning.specs.Prefix.{Whole, placed, replay-same, short-answer}
+use Rattle.replay_parts.specs.Prefix.{Whole, placed, replay-same, short-answer}
 use Rattle.player_meaning.specs.Lines.{linesOn, ended-answer, on-record, on-refused, on-end}
 
 -- the job of a play without arguments

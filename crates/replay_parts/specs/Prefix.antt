@@ -141,6 +141,15 @@ replay-same s y at last v h w =
     ∙ played-same (drop at s) y w at last v
     ∙ sym (placed s at last v h)
 
+-- the bytes that a record claims make it whole
+pub whole-start : (t y : List ℕ) → 16 ≤ length t → lengthOf (t ++ y) ≤ length t → Whole t
+whole-start t y h all = record { header-there = h; all-there = rw (u16-same t y 0 (omega arith), u16-same t y 2 (omega arith)) at all }
+
+pub same-start : (t y z : List ℕ) (last : ℕ) (v : List ℕ) → Whole t → replayOf (t ++ y) 0 last v ≡ replayOf (t ++ z) 0 last v
+same-start t y z last v w =
+    let h = w .header-there in
+    replay-same t y 0 last v (omega arith) w ∙ sym (replay-same t z 0 last v (omega arith) w)
+
 -- a record that is not whole
 pub short-12 : (t : List ℕ) → (Whole t → ⊥) → checkOf t ≡ 12
 unfolding checkOf

@@ -1,0 +1,3 @@
+-- Plays of parts of an archive.
+pub mod Prefix
+pub mod Rest
