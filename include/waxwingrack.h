@@ -22,7 +22,7 @@
  * Rules for every pointer:
  *  - it points to as many elements as the length beside it says; with length 0 it may be NULL;
  *  - bytes need no alignment, the others the alignment of their type;
- *  - what is written (out, fields, entry, values, last, playback, frames, fee, state, messages, commit, told, records,
+ *  - what is written (out, fields, entry, values, last, playback, order, frames, fee, state, messages, commit, told, records,
  *    served, lines, line) overlaps nothing else of the call;
  *  - what is only read is not changed, and nothing is kept after the call.
  *
@@ -195,6 +195,28 @@ typedef struct wax_playback {
  *   uint32_t answer = wax_playback_record(&playback, record, length);
  */
 uint32_t wax_playback_record(wax_playback *playback, const uint8_t *record, size_t length);
+
+/*
+ * WHICH ARCHIVE IS THE LONGER TRUTH
+ *
+ * Compares two whole archives of one line, record by record; every byte counts. Neither order nor commit may be NULL.
+ *
+ *   WAX_SHORT, WAX_RECORD, WAX_SEQUENCE, WAX_REPLAY
+ *                 the number of the first archive that is refused, as wax_archive_replay from a fresh line; the first is checked first
+ *   WAX_OK        both are accepted: order is set, and commit to the first commit number where they differ if it is WAX_PARTS, else 0
+ *
+ * What both have in common is played once, in 4 KB of stack.
+ *
+ *   uint32_t order, commit;
+ *   if (wax_archive_compare(first, first_length, second, second_length, &order, &commit) == WAX_OK && order == WAX_PARTS) { ... }
+ */
+#define WAX_SAME          0  /* the same bytes; two empty archives too */
+#define WAX_FIRST_EARLY   1  /* the first is an early part of the second */
+#define WAX_SECOND_EARLY  2  /* the second is an early part of the first */
+#define WAX_PARTS         3  /* they part */
+
+uint32_t wax_archive_compare(const uint8_t *first, size_t first_length, const uint8_t *second, size_t second_length,
+                             uint32_t *order, uint32_t *commit);
 
 /*
  * THE COUNTING LICENCE

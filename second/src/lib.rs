@@ -14,6 +14,7 @@ pub mod licence;
 pub mod line;
 pub mod numbers;
 pub mod options;
+pub mod order;
 pub mod people;
 pub mod program;
 pub mod random;

@@ -2,7 +2,7 @@
 
 use std::collections::HashMap;
 use std::process;
-use std::time::{SystemTime, UNIX_EPOCH};
+use std::time::{Duration, Instant, SystemTime, UNIX_EPOCH};
 
 pub struct Options {
     usage: &'static str,
@@ -90,4 +90,31 @@ fn clock() -> u64 {
     SystemTime::now()
         .duration_since(UNIX_EPOCH)
         .map_or(0, |time| time.as_nanos() as u64)
+}
+
+/// How long a program goes on.
+pub struct Limit {
+    cases: u64,
+    end: Option<Instant>,
+}
+
+impl Options {
+    /// So many cases (`--cases`), or instead so long (`--seconds`).
+    pub fn limit(&self, cases: u64) -> Limit {
+        let seconds = self.text("--seconds").map(|_| self.number("--seconds", 0));
+        Limit {
+            cases: self.number("--cases", cases),
+            end: seconds.map(|seconds| Instant::now() + Duration::from_secs(seconds)),
+        }
+    }
+}
+
+impl Limit {
+    /// Whether there is more to do behind so many cases.
+    pub fn goes_on(&self, count: u64) -> bool {
+        match self.end {
+            Some(end) => Instant::now() < end,
+            None => count < self.cases,
+        }
+    }
 }

@@ -3,6 +3,7 @@
 pub mod blocks;
 pub mod ends;
 pub mod licence;
+pub mod order;
 pub mod server;
 pub mod stations;
 pub mod turns;

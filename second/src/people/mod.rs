@@ -4,6 +4,7 @@ mod asked;
 mod fault;
 pub mod fees;
 mod flips;
+pub mod order;
 mod play;
 
 pub use asked::{Asked, Listing};

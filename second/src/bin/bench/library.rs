@@ -1,4 +1,4 @@
-//! Check, replay, licence and writer over one archive: the second implementation, the proved library, a plain copy.
+//! Check, replay, licence, compare and writer over one archive: the second implementation, the proved library, a plain copy.
 
 use crate::measure::{time, Times};
 use second::archive::Playback;
@@ -62,6 +62,22 @@ impl Bench {
         times
     }
 
+    /// The archive and a copy of it: the library's own replays of both, and its comparison.
+    pub fn compare(&self) -> Times {
+        let other = self.archive.clone();
+        let (mut plays, mut compared) = ([numbers::END; 2], (numbers::END, 9, 9));
+        let times = self.time(
+            &mut || {
+                plays = [black_box(&self.archive), black_box(&other)]
+                    .map(|archive| replay(archive, ffi::archive_replay).0)
+            },
+            &mut || compared = compare(black_box(&self.archive), black_box(&other)),
+        );
+        assert_eq!(plays, [numbers::OK; 2], "compare: accepted");
+        assert_eq!(compared, (numbers::OK, 0, 0), "compare: the same");
+        times
+    }
+
     pub fn write(&self) -> Times {
         let views = views(&self.archive);
         self.assert_writes(&views, write_second);
@@ -90,6 +106,14 @@ impl Bench {
         let settle = || plain_copy(&self.archive, &mut self.out.borrow_mut());
         time(self.rounds, &settle, [second, proved, &mut copy])
     }
+}
+
+/// Number, order and commit.
+#[inline(never)]
+fn compare(first: &[u8], second: &[u8]) -> (u32, u32, u32) {
+    let (mut order, mut commit) = (9, 9);
+    let number = ffi::order::compare(first, second, &mut order, &mut commit);
+    (number, order, commit)
 }
 
 /// The records of an accepted archive.

@@ -144,7 +144,7 @@ impl Bench {
         })
     }
 
-    fn rows(&self, records: &'static str, size: Size) -> [Row; 4] {
+    fn rows(&self, records: &'static str, size: Size) -> [Row; 5] {
         let archive = self.archive(size, self.length);
         let megabytes = archive.len() as f64 / MEGABYTE as f64;
         let bench = library::Bench::new(archive, self.rounds);
@@ -152,6 +152,7 @@ impl Bench {
             ("check", bench.check()),
             ("replay", bench.replay()),
             ("licence", bench.licence()),
+            ("compare", bench.compare()),
             ("writer", bench.write()),
         ]
         .map(|(work, times)| Row {
@@ -171,6 +172,7 @@ impl Bench {
             "Medians of {} rounds in one process, the three taking turns, seed {}.\n\
              Ratios are of times in the same round, below 1 where proved is faster; in brackets the middle half of them.\n\
              Check and writer: one call for each record on both sides, none inlined. Replay and licence: one call.\n\
+             Compare: one call for the archive and a copy of it; in place of the second implementation stand the library's replays of both.\n\
              Before each timed run the archive was copied once into the output buffer, so no page is met for the first time.\n",
             self.rounds, self.seed
         );

@@ -12,7 +12,6 @@ use second::show::hex;
 use second::tally::Tally;
 use std::fmt;
 use std::process;
-use std::time::{Duration, Instant};
 
 const USAGE: &str = "licences [--seed N|random] [--cases N] [--seconds N] [--fees PROGRAM]
   --cases    so many calls of the library
@@ -30,12 +29,8 @@ fn main() {
     println!("seed {seed}");
     let mut judge = Judge::new(seed);
     let random = &mut Random::new(seed);
-    let limit = options
-        .text("--seconds")
-        .map(|_| Duration::from_secs(options.number("--seconds", 0)));
-    let cases = options.number("--cases", 1_000_000);
-    let start = Instant::now();
-    while limit.map_or(judge.count < cases, |limit| start.elapsed() < limit) {
+    let limit = options.limit(1_000_000);
+    while limit.goes_on(judge.count) {
         for (case, what) in cases::round(random) {
             judge.call(&case, what);
         }
