@@ -36,6 +36,17 @@ pub fn piped(path: &str, arguments: &[&str], archive: &[u8], piece: usize) -> io
     })
 }
 
+/// That each of these lists of arguments is answered by these words on standard error alone.
+pub fn not_understood(path: &str, wrong: &[&[&str]], words: &str) -> io::Result<()> {
+    for arguments in wrong {
+        let said = piped(path, arguments, b"", 1)?;
+        if !said.output.is_empty() || said.errors != words.as_bytes() {
+            return Err(io::Error::other(format!("{arguments:?}: {said:?}")));
+        }
+    }
+    Ok(())
+}
+
 /// What it says to a file, from where this handle stands on; the handle then stands where the program stopped reading.
 pub fn read(path: &str, arguments: &[&str], file: &File) -> io::Result<Said> {
     said(spawn(path, arguments, file.try_clone()?.into())?)

@@ -9,7 +9,7 @@ use second::licence;
 use second::options::Options;
 use second::random::Random;
 use second::show::hex;
-use second::tally::Tally;
+use second::tally::Run;
 use std::fmt;
 use std::process;
 
@@ -26,22 +26,17 @@ fn main() {
     let options =
         Options::read(USAGE, &["--seed", "--cases", "--seconds", "--fees"], &[]).without_words();
     let seed = options.seed("--seed", 20_270_101);
-    println!("seed {seed}");
-    let mut judge = Judge::new(seed);
+    let mut judge = Judge(Run::new("licences", seed));
     let random = &mut Random::new(seed);
     let limit = options.limit(1_000_000);
-    while limit.goes_on(judge.count) {
+    while limit.goes_on(judge.0.count) {
         for (case, what) in cases::round(random) {
             judge.call(&case, what);
         }
     }
-    judge.print();
-    if let Some(program) = options.text("--fees") {
-        if let Err(error) = programs::compare(program, random) {
-            eprintln!("licences: {program}: {error}");
-            process::exit(1)
-        }
-    }
+    judge.0.print(ENOUGH, wanted());
+    let compare = |program: &str| programs::compare(program, random);
+    judge.0.program(options.text("--fees"), compare);
 }
 
 /// What was answered, and what else was reached.
@@ -66,21 +61,9 @@ impl fmt::Display for Reached {
     }
 }
 
-struct Judge {
-    seed: u64,
-    count: u64,
-    tally: Tally<Reached>,
-}
+struct Judge(Run<Reached>);
 
 impl Judge {
-    fn new(seed: u64) -> Judge {
-        Judge {
-            seed,
-            count: 0,
-            tally: Tally::default(),
-        }
-    }
-
     fn call(&mut self, case: &Case, what: &'static str) {
         let second = licence::bill(&case.archive, &case.table, case.stretch, case.address);
         let one = licence::bill_one(&case.archive, &case.table, case.stretch, case.address);
@@ -99,7 +82,7 @@ impl Judge {
             Ok((frames, fee)) => (0, frames, fee),
             Err(number) => (number, NOISE.0, NOISE.1),
         };
-        self.count += 1;
+        self.0.count += 1;
         if proved != expected {
             self.differ(case, what, expected, proved);
         }
@@ -113,7 +96,10 @@ impl Judge {
         second: (u32, i64, i64),
         proved: (u32, i64, i64),
     ) -> ! {
-        eprintln!("licences: seed {}, case {}, {what}", self.seed, self.count);
+        eprintln!(
+            "licences: seed {}, case {}, {what}",
+            self.0.seed, self.0.count
+        );
         eprintln!("commits {:?}, address {}", case.stretch, case.address);
         eprintln!(
             "table: {}\narchive: {}",
@@ -125,13 +111,13 @@ impl Judge {
     }
 
     fn reach(&mut self, case: &Case, (number, frames, fee): (u32, i64, i64)) {
-        self.tally.count(Reached::Number(number));
+        self.0.tally.count(Reached::Number(number));
         if number != 0 {
             return;
         }
         let mut reach = |reached, is| {
             if is {
-                self.tally.count(reached);
+                self.0.tally.count(reached);
             }
         };
         reach(Reached::Negative, fee < 0);
@@ -147,25 +133,13 @@ impl Judge {
         let half = |n| licence::cost(&steps, n) % 100_000 == 50_000;
         reach(Reached::Half, half(u128::from(frames.unsigned_abs())));
     }
+}
 
-    fn print(&self) {
-        use Reached::*;
-        println!(
-            "{} calls, no difference; reached:\n{}",
-            self.count, self.tally
-        );
-        let all = [0, 5, 12, 13, 14, 17, 18].map(Number);
-        let others = [
-            Negative, Half, HighestFee, LowestFee, HighestSum, LowestSum, Steps16,
-        ];
-        let missing: Vec<Reached> = all
-            .into_iter()
-            .chain(others)
-            .filter(|one| !self.tally.has(one))
-            .collect();
-        if self.count >= ENOUGH && !missing.is_empty() {
-            eprintln!("licences: not reached: {missing:?}");
-            process::exit(1)
-        }
-    }
+fn wanted() -> impl Iterator<Item = Reached> {
+    use Reached::*;
+    let others = [
+        Negative, Half, HighestFee, LowestFee, HighestSum, LowestSum, Steps16,
+    ];
+    let numbers = [0, 5, 12, 13, 14, 17, 18].map(Number);
+    numbers.into_iter().chain(others)
 }

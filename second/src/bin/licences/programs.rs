@@ -4,7 +4,7 @@ use crate::cases;
 use second::generate::{self, Size};
 use second::licence::{Step, MOST};
 use second::people::fees;
-use second::program::{piped, Said, PIECES};
+use second::program::{not_understood, piped, Said, PIECES};
 use second::random::Random;
 use std::fs;
 use std::io;
@@ -175,12 +175,7 @@ fn others(program: &str) -> io::Result<()> {
         &["x", "-1", "2"],
         &["x", "1", "2", "3"],
     ];
-    for words in wrong {
-        let said = piped(program, words, b"", 1)?;
-        if !said.output.is_empty() || said.errors != unclear.as_bytes() {
-            return Err(io::Error::other(format!("{words:?}: {said:?}")));
-        }
-    }
+    not_understood(program, &wrong, unclear)?;
     let help = piped(program, &["--help"], b"", 1)?;
     let text = String::from_utf8_lossy(&help.output).into_owned();
     if !["TARIFF", "FIRST", "LAST", "--help", "total"]

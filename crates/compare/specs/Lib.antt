@@ -1,0 +1,4 @@
+-- What two archives are to each other.
+pub mod Compare
+pub mod Told
+pub mod Steps

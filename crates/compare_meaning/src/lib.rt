@@ -1,0 +1,1 @@
+// No code: what the comparison of two archives means is in specs/.
