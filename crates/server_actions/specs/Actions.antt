@@ -6,14 +6,13 @@ use mathlib.Core.Bool.{Bool, not, _&&_, cond}
 use lib.ListN.{take, drop, replicate}
 use lib.Dec.{eqb}
 use Rattle.sets.specs.Base.{snoc}
-use Rattle.cells.specs.Loops.{maskTo}
 use Rattle.layout.specs.Record.{bytesOf}
 use Rattle.message.specs.Layout.{setsLength, valuesLength, message, single, stationOf, pageOf, requesterOf, objectOf, transactionOf, pagesOf, setOf}
 use Rattle.message.specs.Layout as Message
 use Rattle.station_state.specs.Layout.{hasBit}
 use Rattle.set_record.specs.Record.{recordFrom}
-use Rattle.server_state.specs.Layout.{pageRow, setRow, pageValuesFrom, readValuesFrom, writtenValuesFrom, versionOf, workNumber, latestOf, lastOf, askedOf, wholeOf, readSetFrom, writtenSetFrom, writtenSet, kindOf, requestOf, lockingB}
-use Rattle.server_tests.specs.Tests.{openCallB, openAskB, shutB, concernedSet, hinderedB, unavailableB, informedB}
+use Rattle.server_state.specs.Layout.{pageRow, setRow, pageValuesFrom, readValuesFrom, writtenValuesFrom, versionOf, workNumber, latestOf, lastOf, askedOf, wholeOf, readSetFrom, writtenSetFrom, kindOf, requestOf, lockingB}
+use Rattle.server_tests.specs.Tests.{openCallB, openAskB, shutB, concernedSet, hinderedB, unavailableB, writtenPagesB, informedB}
 use Rattle.server_changes.specs.Changes.{noticeB, finishB, leaveB, joinReadB, joinWriteB, joinCommitB, unpackB, listB, unlistB, markBusyB, answeredB, loosenB, askedB, calledB, lockPageB, lockObjectB, writeB}
 
 -- a step under way: the state, the messages sent in order, the records archived
@@ -71,13 +70,6 @@ sendPageB kind i a u x = send (onState x (listB i (a / 8) (x .state))) (pageB ki
 -- 22: "its locks and request go"
 unfoldable pub abortB : ℕ → ℕ → Serving → Serving
 abortB i c x = let s = finishB i (leaveB i (x .state)) in send (onState x s) (abortedB i (latestOf s i) c)
-
--- the pages that station i's entry writes
-unfoldable pub writtenPageB : List ℕ → ℕ → ℕ → Bool
-writtenPageB s i p = not (eqb (writtenSet s i p) 0)
-
-unfoldable pub writtenPagesB : List ℕ → ℕ → ℕ
-writtenPagesB s i = maskTo (writtenPageB s i) 32
 
 -- 23 with the pages d to station j, which is then no longer listed for them
 unfoldable pub informB : ℕ → ℕ → Serving → ℕ → Serving

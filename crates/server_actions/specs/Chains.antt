@@ -10,12 +10,15 @@ use Rattle.set_record.specs.Record.{recordFrom, Filled, filled, recordFilled}
 use Rattle.message.specs.Layout.{messageLength}
 use Rattle.layout.specs.Record.{longestRecord}
 use Rattle.server_state.specs.Layout.{latestOf, lastOf, workNumber, kindOf, readSetFrom, readValuesFrom, writtenSetFrom, writtenValuesFrom}
-use Rattle.server_tests.specs.Tests.{informedB}
+use Rattle.station_state.specs.Layout.{hasBit}
+use Rattle.server_tests.specs.Tests.{writtenPagesB}
+use Rattle.server_sets.specs.Sets.{informedSet}
 use Rattle.server_changes.specs.Changes.{finishB, leaveB, listB, unlistB, writeB}
-use Rattle.server_actions.specs.Actions.{serving, pageB, abortedB, committedB, invalidateB, recordB, sendPageB, abortB, writtenPagesB, informB, informTo, installB}
+use Rattle.server_actions.specs.Actions.{serving, pageB, abortedB, committedB, invalidateB, recordB, sendPageB, abortB, informTo, installB}
 use Rattle.server_actions.specs.declared.Counts.{Counts}
 use Rattle.server_actions.specs.Posting.{from, counts, Posted, posted, post, post-none, post-one, post-both, posted-then, Room, room-first, room-next, acts-turns}
 use Rattle.server_actions.specs.Parts.{turns-informs, installedB, acts-installed, install-is}
+use Rattle.server_actions.specs.Informs.{informOneB, informSetTo, informs-are}
 
 -- a record
 pub archive-chain : (q : List ℕ) (c : Counts) (i : ℕ) (s : List ℕ) {n t kind k : ℕ} {q₁ : List ℕ} → n ≡ lastOf s → t ≡ workNumber s i → kind ≡ kindOf s i
@@ -59,18 +62,25 @@ module _ (o q : List ℕ) (c : Counts) where
 
   -- 23
 
-  pub inform-fits : (i d j : ℕ) (s : List ℕ) → informedB s i d j ≡ true → Room o q c (informB i d (from s) j) → c .messages * messageLength + messageLength ≤ length o
-  unfolding informB
-  inform-fits i d j s e r = one-fits (unlistB j d s) (invalidateB j d) [] [] (rw e at r)
+  pub inform-fits : (w d j : ℕ) (s : List ℕ) → hasBit w j ≡ true → Room o q c (informOneB w d (from s) j) → c .messages * messageLength + messageLength ≤ length o
+  unfolding informOneB
+  inform-fits w d j s e r = one-fits (unlistB j d s) (invalidateB j d) [] [] (rw e at r)
 
-  pub inform-chain : (i d j : ℕ) (s : List ℕ) {s₁ o₁ : List ℕ} {r : Counts} → informedB s i d j ≡ true → o₁ ≡ sets o (c .messages * messageLength) (invalidateB j d) → s₁ ≡ unlistB j d s
-      → r ≡ counts (c .messages + 1) (c .records) → posted s₁ o₁ q r ≡ post o q c (informB i d (from s) j)
-  unfolding informB
-  inform-chain i d j s e eo es er = rw e (sent-chain (unlistB j d s) (invalidateB j d) eo es er)
+  pub inform-chain : (w d j : ℕ) (s : List ℕ) {s₁ o₁ : List ℕ} {r : Counts} → hasBit w j ≡ true → o₁ ≡ sets o (c .messages * messageLength) (invalidateB j d) → s₁ ≡ unlistB j d s
+      → r ≡ counts (c .messages + 1) (c .records) → posted s₁ o₁ q r ≡ post o q c (informOneB w d (from s) j)
+  unfolding informOneB
+  inform-chain w d j s e eo es er = rw e (sent-chain (unlistB j d s) (invalidateB j d) eo es er)
 
-  pub inform-none : (i d j : ℕ) (s : List ℕ) → informedB s i d j ≡ false → posted s o q c ≡ post o q c (informB i d (from s) j)
-  unfolding informB
-  inform-none i d j s e = rw e (post-none o q c s)
+  pub inform-none : (w d j : ℕ) (s : List ℕ) → hasBit w j ≡ false → posted s o q c ≡ post o q c (informOneB w d (from s) j)
+  unfolding informOneB
+  inform-none w d j s e = rw e (post-none o q c s)
+
+  module _ (i d : ℕ) (s : List ℕ) {w : ℕ} (ew : w ≡ informedSet s i d) where
+    pub informs-room : Room o q c (informTo i d (from s) 8) → Room o q c (informSetTo w d (from s) 8)
+    informs-room r = rw (ew, informs-are i d (from s) 8 (omega arith)) r
+
+    pub informs-post : {p : Posted} → p ≡ post o q c (informSetTo w d (from s) 8) → p ≡ post o q c (informTo i d (from s) 8)
+    informs-post e = e ∙ ap (post o q c) (rw ew (informs-are i d (from s) 8 (omega arith)))
 
   -- A RECORD AND 21
 

@@ -4,5 +4,6 @@ pub mod Pass
 pub mod Step
 pub mod Posting
 pub mod Parts
+pub mod Informs
 pub mod Stores
 pub mod Chains

@@ -15,9 +15,9 @@ use Rattle.layout.specs.Record.{longestRecord}
 use Rattle.station_state.specs.Layout.{hasBit}
 use Rattle.set_record.specs.Record.{valuesAt}
 use Rattle.server_state.specs.Layout.{lastOf, latestOf, workNumber, askedOf, wholeOf, wantOf, requestOf, calledOf, pendOf, lockingB, readSetFrom, writtenSetFrom, readValuesFrom, writtenValuesFrom}
-use Rattle.server_tests.specs.Tests.{openCallB, openAskB, faultB, blockedB, shutB, shutOutB, concernedSet, hinderedB, unavailableB, informedB}
+use Rattle.server_tests.specs.Tests.{openCallB, openAskB, faultB, blockedB, shutB, shutOutB, concernedSet, hinderedB, unavailableB, writtenPagesB, informedB}
 use Rattle.server_changes.specs.Changes.{noticeB, finishB, leaveB, joinReadB, joinWriteB, joinCommitB, unpackB, listB, unlistB, markBusyB, answeredB, loosenB, askedB, calledB, lockPageB, lockObjectB, writeB}
-use Rattle.server_actions.specs.Actions.{Serving, serving, onState, send, pageB, deescalateB, callbackB, committedB, abortedB, invalidateB, recordB, sendPageB, abortB, writtenPagesB, informB, informTo, installB, commitNowB, addressOf, noticedB, onReadB, onWriteB, onCommitB, onAbortB, onPurgeB, onBusyB, onDoneB, onWrittenSetB, acceptB}
+use Rattle.server_actions.specs.Actions.{Serving, serving, onState, send, pageB, deescalateB, callbackB, committedB, abortedB, invalidateB, recordB, sendPageB, abortB, informB, informTo, installB, commitNowB, addressOf, noticedB, onReadB, onWriteB, onCommitB, onAbortB, onPurgeB, onBusyB, onDoneB, onWrittenSetB, acceptB}
 use Rattle.server_actions.specs.Pass.{askB, askTo, serveReadB, callOneB, callTo, callB, callOnceB, grantPageB, grantObjectB, grantB, afterCallsB, proceedB, gatesB, visitB, passB}
 use Rattle.server_actions.specs.Posting.{Acts, acts-not, acts-state, acts-send, acts-archive, acts-cond, acts-with, acts-then, Turns, acts-turns}
 

@@ -1,16 +1,16 @@
 // The server's actions. What is sent goes behind the messages in o, what is archived behind the records in q, and the answer says how
 // much stands there then. There is room for all of it: the step's bounds (crate line) are those of every valid state.
 ghost use mathlib.Core.Path.{_≡_};
-ghost use mathlib.Core.Bool.{cond};
-ghost use Prim.Native.Nat.{_+_, _*_, _^_, _≤_, _<_};
+ghost use Prim.Native.Nat.{_+_, _*_, _≤_, _<_};
 ghost use lib.ListN.{length, take, drop};
 ghost use lib.Seq.{sets};
 ghost use Rattle.message.specs.Layout.{messageLength};
 ghost use Rattle.layout.specs.Record.{longestRecord};
 ghost use Rattle.server_state.specs.Layout.{serverLength, lastOf};
-ghost use Rattle.server_actions.specs.Actions.{pageB, callbackB, recordB, sendPageB, abortB, writtenPageB, writtenPagesB, informB, informTo, installB};
+ghost use Rattle.server_actions.specs.Actions.{pageB, callbackB, recordB, sendPageB, abortB, informTo, installB};
 ghost use Rattle.server_actions.specs.Posting.{from as Posting·from, counts, posted, post, Room};
 ghost use Rattle.server_actions.specs.Parts.{installedB};
+ghost use Rattle.server_actions.specs.Informs.{informOneB};
 use message::LENGTH as MESSAGE;
 use server_state::KIND;
 use server_state::LAST;
@@ -108,43 +108,12 @@ pub fn abort(s: &mut [u8], o: &mut [u8], q: &mut [u8], c: Counts, i: usize, caus
     one_more(c)
 }
 
-fn page_if(yes: bool, p: usize) -> u32
-    requires { ⌜ p < 32 ⌝ }
-    ensures { λ r. ⌜ r ≡ cond yes (2 ^ p) 0 ⌝ }
+// 23 with the pages d to station j, if it is in w; it is then listed for none of them.
+fn inform(s: &mut [u8], o: &mut [u8], q: &mut [u8], c: Counts, w: u8, d: u32, j: usize) -> Counts
+    requires { ⌜ (length (now s) ≡ serverLength) × (j < 8) × Room (now o) (now q) c (informOneB w d (Posting·from (now s)) j) ⌝ }
+    ensures { λ r. ⌜ posted (now (s .exit)) (now (o .exit)) (now (q .exit)) r ≡ post (now (o .entry)) (now (q .entry)) c (informOneB w d (Posting·from (now (s .entry))) j) ⌝ }
 {
-    if yes {
-        return station_state::bit32(p);
-    }
-    0
-}
-
-fn written_page(s: &[u8], i: usize, p: usize) -> bool
-    requires { ⌜ (length (now s) ≡ serverLength) × (i < 8) × (p < 32) ⌝ }
-    ensures { λ r. ⌜ r ≡ writtenPageB (now (s .entry)) i p ⌝ }
-{
-    s[WRITTEN_SET + i * SET_ROW + p] != 0
-}
-
-// The pages that i's entry writes.
-fn written_pages(s: &[u8], i: usize) -> u32
-    requires { ⌜ (length (now s) ≡ serverLength) × (i < 8) ⌝ }
-    ensures { λ r. ⌜ r ≡ writtenPagesB (now (s .entry)) i ⌝ }
-{
-    let mut d: u32 = 0;
-    let mut p = 0;
-    while p < 32 {
-        d |= page_if(written_page(s, i, p), p);
-        p += 1;
-    }
-    d
-}
-
-// Station j, if it validates and is listed for one of the pages d, gets 23 and is listed for none of them.
-fn inform(s: &mut [u8], o: &mut [u8], q: &mut [u8], c: Counts, i: usize, d: u32, j: usize) -> Counts
-    requires { ⌜ (length (now s) ≡ serverLength) × (i < 8) × (j < 8) × Room (now o) (now q) c (informB i d (Posting·from (now s)) j) ⌝ }
-    ensures { λ r. ⌜ posted (now (s .exit)) (now (o .exit)) (now (q .exit)) r ≡ post (now (o .entry)) (now (q .entry)) c (informB i d (Posting·from (now (s .entry))) j) ⌝ }
-{
-    if server_tests::informed(s, i, d, j) {
+    if station_state::has_bit8(w, j) {
         message::put_message(o, c.messages * MESSAGE, 23, j as u8, 0, 0, 0, d, 0);
         server_changes::unlist(s, j, d);
         return one_more(c);
@@ -152,15 +121,16 @@ fn inform(s: &mut [u8], o: &mut [u8], q: &mut [u8], c: Counts, i: usize, d: u32,
     c
 }
 
-// Stations rising.
+// Other validating stations listed for one of the pages d get 23, stations rising.
 fn inform_all(s: &mut [u8], o: &mut [u8], q: &mut [u8], c: Counts, i: usize, d: u32) -> Counts
     requires { ⌜ (length (now s) ≡ serverLength) × (i < 8) × Room (now o) (now q) c (informTo i d (Posting·from (now s)) 8) ⌝ }
     ensures { λ r. ⌜ posted (now (s .exit)) (now (o .exit)) (now (q .exit)) r ≡ post (now (o .entry)) (now (q .entry)) c (informTo i d (Posting·from (now (s .entry))) 8) ⌝ }
 {
+    let w = server_sets::informed_set(s, i, d);
     let mut b = c;
     let mut j = 0;
     while j < 8 {
-        let e = inform(s, o, q, b, i, d, j);
+        let e = inform(s, o, q, b, w, d, j);
         b = e;
         j += 1;
     }
@@ -214,7 +184,7 @@ pub fn install(s: &mut [u8], o: &mut [u8], q: &mut [u8], c: Counts, i: usize) ->
     requires { ⌜ (length (now s) ≡ serverLength) × (i < 8) × (lastOf (now s) < 4294967295) × Room (now o) (now q) c (installB i (Posting·from (now s))) ⌝ }
     ensures { λ r. ⌜ posted (now (s .exit)) (now (o .exit)) (now (q .exit)) r ≡ post (now (o .entry)) (now (q .entry)) c (installB i (Posting·from (now (s .entry)))) ⌝ }
 {
-    let d = written_pages(s, i);
+    let d = server_sets::written_pages(s, i);
     let b = put_installed(s, o, q, c, i);
     inform_all(s, o, q, b, i, d)
 }

@@ -8,3 +8,5 @@ pub mod Waiting
 pub mod Frees
 pub mod Writes
 pub mod Commit
+pub mod Sets
+pub mod CycleCases

@@ -1,11 +1,7 @@
 -- The waiting list's order, cycles of edges, and the victim.
-use Prim.Native.Nat.{ℕ, zero, suc, _+_}
+use Prim.Native.Nat.{ℕ, zero, suc}
 use mathlib.Core.List.{List}
-use mathlib.Core.Path.{_≡_}
-use native.Mathlib.Omega.{arith}
-use borrow.Author.Tests.{lt-ltb, le-ltb}
-use Rattle.sets.specs.Laws.{byB, ltb-yes, ltb-no}
-use mathlib.Core.Bool.{Bool, true, false, not, _&&_, _||_, cond}
+use mathlib.Core.Bool.{Bool, not, _&&_, _||_, cond}
 use lib.ListN.{getD, set, replicate}
 use lib.Bits.{bitOr}
 use lib.Dec.{eqb, ltb}
@@ -16,12 +12,6 @@ use Rattle.server_tests.specs.Tests.{edgeSet}
 -- "the list is passed in order": the waiter below n that arrived first, not before b; 8 for none
 unfoldable pub comesFirst : List ℕ → ℕ → ℕ → ℕ → Bool
 comesFirst s b r n = waitsB s n && not (ltb (arrivalOf s n) b) && (eqb r 8 || ltb (arrivalOf s n) (arrivalOf s r))
-
--- .. that is, arrived behind a, or at any time
-pub behind-is : (any : Bool) (a x : ℕ) → not (ltb x (cond any 0 (a + 1))) ≡ (any || ltb a x)
-behind-is true a x = rw (le-ltb x 0 (omega arith))
-behind-is false a x =
-    byB (ltb a x) (λ e. rw (e, le-ltb x (a + 1) (omega (arith, ltb-yes a x e)))) (λ e. rw (e, lt-ltb x (a + 1) (omega (arith, ltb-no a x e))))
 
 unfoldable pub firstTo : List ℕ → ℕ → ℕ → ℕ
 firstTo s b zero = 8

@@ -1,6 +1,6 @@
 -- The calls of a pass and of a round, one after the other, leave what their definitions give; and there is room for each.
 use Prim.Native.Nat.{ℕ, _+_}
-use mathlib.Core.Path.{_≡_, sym, ap, _∙_}
+use mathlib.Core.Path.{_≡_, sym, ap, subst, _∙_}
 use mathlib.Core.Logic.{_≢_}
 use mathlib.Core.Bool.{true, false, not}
 use mathlib.Core.List.{List}
@@ -8,18 +8,25 @@ use native.Mathlib.Omega.{arith}
 use lib.ListN.{length}
 use lib.Dec.{eqb}
 use borrow.Author.Tests.{eq-eqb, ne-eqb}
-use Rattle.sets.specs.Laws.{byB, byEq, eqb-yes, eqb-no}
+use Rattle.sets.specs.Laws.{byB, byEq, eqb-yes, eqb-no, not-no}
 use Rattle.server_actions.specs.declared.Counts.{Counts}
 use Rattle.server_order.specs.Order.{victimB}
 use Rattle.server_actions.specs.Actions.{Serving, abortB}
 use Rattle.server_actions.specs.Pass.{orderB, passB, movedB}
 use Rattle.server_actions.specs.Posting.{from, Posted, posted, post, posted-then, Room, room-first, room-next}
-use Rattle.server_pass.specs.Seats.{passTo, seated, pass-places}
+use Rattle.server_order.specs.Known.{Known}
+use Rattle.server_pass.specs.Sane.{state-of}
+use Rattle.server_queue.specs.Carry.{seated}
+use Rattle.server_pass.specs.Seats.{passTo, pass-places}
+use Rattle.server_pass.specs.Edges.{Noted}
 use Rattle.server_pass.specs.Rounds.{passedB, brokenB, roundB, acts-passed, acts-broken}
 
 -- a pass over the places of the waiting list
 pub passed-is : (s l : List ℕ) → length l ≡ 8 → seated l ≡ orderB s 8 0 → passTo l (from s) 8 ≡ passedB (from s)
 passed-is s l n e = ap (passTo l (from s)) (sym n) ∙ pass-places l (from s) ∙ ap (λ (j : List ℕ). passB j (from s)) e
+
+pub noted-passed : (s l e : List ℕ) → length l ≡ 8 → seated l ≡ orderB s 8 0 → Noted s (passTo l (from s) 8) e → Noted s (passedB (from s)) e
+noted-passed s l e n h k = subst (λ (y : Serving). Noted s y e) (passed-is s l n h) k
 
 -- the counts tell whether anything was sent
 counted : (a b n : ℕ) → a ≡ b + n → eqb a b ≡ eqb 0 n
@@ -45,6 +52,13 @@ module _ (o q : List ℕ) (c : Counts) (s : List ℕ) where
 
     rests : b .messages ≡ c .messages → movedB (from s) (passedB (from s)) ≡ false
     rests n = sym (moved-count o q c s (passedB (from s)) e) ∙ ap not (eq-eqb (b .messages) (c .messages) n)
+
+    -- where nothing was sent the edges met are those of the state left
+    pub round-known : {d : List ℕ} → b .messages ≡ c .messages → Noted s (passedB (from s)) d → Known s₁ d
+    round-known {d} n k =
+        let none = sym (eqb-yes 0 (length ((passedB (from s)) .sent)) (not-no (eqb 0 (length ((passedB (from s)) .sent))) (rests n))) in
+        let at = k none in
+        rw (state-of o q c (passedB (from s)) e ∙ at .0) (at .1)
 
     pub round-sends : b .messages ≢ c .messages → posted s₁ o₁ q₁ b ≡ post o q c (roundB (from s))
     unfolding roundB

@@ -1,19 +1,19 @@
 -- Questions answered by the bytes of a page at once.
 use Prim.Native.Nat.{ℕ, _+_, _*_, _<_}
 use mathlib.Core.Path.{_≡_, refl, sym, _∙_}
-use mathlib.Core.Bool.{true, false, not, _&&_, cond, or-false}
+use mathlib.Core.Bool.{true, false, cond, or-false}
 use mathlib.Core.List.{List}
 use native.Mathlib.Omega.{arith}
 use lib.Dec.{eqb}
 use borrow.Author.Tests.{ne-eqb}
-use Rattle.sets.specs.Laws.{byB, and-l, and-r}
+use Rattle.sets.specs.Laws.{byB}
 use Rattle.le.specs.Le.{u64At}
 use Rattle.cells.specs.Bits.{tb, tb-zero}
 use Rattle.cells.specs.Loops.{anyTo, any-to}
 use Rattle.station_state.specs.Layout.{hasBit}
 use Rattle.server_state.specs.Facts.{zero-eight}
-use Rattle.server_state.specs.Layout.{lockFrom, lockOf, wholeOf, writtenSet, lockingB}
-use Rattle.server_tests.specs.Tests.{lockAtB, lockOnB, dropsLockedB, concernsAt, concernedB, waitsToWriteB}
+use Rattle.server_state.specs.Layout.{lockFrom, lockOf, wholeOf, writtenSet}
+use Rattle.server_tests.specs.Tests.{lockAtB, lockOnB, dropsLockedB, waitsToWriteB}
 use Rattle.server_tests.specs.Blockers.{joinTo, join-is, bit-is, any-none}
 
 -- a page without locks on objects
@@ -38,15 +38,6 @@ others-wait s i p o =
   where
     one : (j : ℕ) → waitsToWriteB s i p o j ≡ tb (writtenBy s i p j) o
     one j = byB (eqb j i) (λ e. rw (e, tb-zero o)) (λ e. rw e (bit-is (writtenSet s j p) o))
-
--- only another locking station is called back
-pub concerned-yes : (s : List ℕ) (i j : ℕ) → (not (eqb j i) && lockingB s j) ≡ true → concernedB s i j ≡ anyTo (concernsAt s i j) 32
-unfolding concernedB
-concerned-yes s i j e = rw (and-l (not (eqb j i)) (lockingB s j) e, and-r (not (eqb j i)) (lockingB s j) e)
-
-pub concerned-no : (s : List ℕ) (i j : ℕ) → (not (eqb j i) && lockingB s j) ≡ false → concernedB s i j ≡ false
-unfolding concernedB
-concerned-no s i j e = byB (not (eqb j i)) (λ y. let z : lockingB s j ≡ false = rw y at e in rw (y, z)) (λ n. rw n)
 
 -- a page that is not dropped
 pub drops-yes : (s : List ℕ) (i d p : ℕ) → hasBit d p ≡ true → dropsLockedB s i d p ≡ lockOnB s i p

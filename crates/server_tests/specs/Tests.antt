@@ -148,6 +148,13 @@ unavailableAt s i a o =
 unfoldable pub unavailableB : List ℕ → ℕ → ℕ → ℕ
 unavailableB s i a = maskTo (unavailableAt s i a) 8
 
+-- the pages that station i's entry writes
+unfoldable pub writtenPageB : List ℕ → ℕ → ℕ → Bool
+writtenPageB s i p = not (eqb (writtenSet s i p) 0)
+
+unfoldable pub writtenPagesB : List ℕ → ℕ → ℕ
+writtenPagesB s i = maskTo (writtenPageB s i) 32
+
 -- "other validating stations listed for one" of the pages d
 unfoldable pub informedB : List ℕ → ℕ → ℕ → ℕ → Bool
 informedB s i d j = not (eqb j i) && not (lockingB s j) && not (eqb (bitAnd (listedOf s j) d) 0)

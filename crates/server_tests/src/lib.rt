@@ -1,4 +1,4 @@
-// What the server asks of its state: number 6, the gates of the pass, the waits-for edges.
+// What the server asks of its state: number 6, the gates of the pass, who blocks a waiter.
 ghost use mathlib.Core.Path.{_≡_};
 ghost use mathlib.Core.Bool.{cond};
 ghost use Prim.Native.Nat.{_+_, _/_, _^_, _≤_, _<_};
@@ -9,18 +9,15 @@ ghost use Rattle.message.specs.Commit.{recordAt, addressesAt, entriesOf};
 ghost use Rattle.record.specs.Check.{readCountFrom};
 ghost use Rattle.server_state.specs.Layout.{serverLength, wantedOn};
 ghost use Rattle.server_tests.specs.Kinds.{ForServer};
-ghost use Rattle.server_tests.specs.Tests.{lockAtB, lockOnB, badNumberB, unlockedAt, unlockedB, dropsLockedB, dropsOwnB, unexpectedB, openCallB, openAskB, staleAt, staleB, lockedAtB, lockedOnB, lockedB, faultB, earlierB, blockedB, shutB, shutOutB, concernsAt, concernedB, concernedSet, hindersB, hinderedB, unavailableAt, unavailableB, informedB, edgeSet};
-ghost use Rattle.cells.specs.Loops.{anyTo};
+ghost use Rattle.server_tests.specs.Tests.{lockAtB, lockOnB, badNumberB, unlockedAt, unlockedB, dropsLockedB, dropsOwnB, unexpectedB, openCallB, openAskB, staleAt, staleB, lockedAtB, lockedOnB, lockedB, faultB, earlierB, shutB, shutOutB, unavailableAt, unavailableB};
 ghost use Rattle.server_tests.specs.Shorter.{writtenBy};
 ghost use Rattle.server_tests.specs.Blockers.{joinTo, meetOn, meetSet, aheadB, aheadSet, holderAt, holdersOn, holderSet, blockersB};
 use server_state::AGE_WIDTH;
 use server_state::ARRIVAL;
 use server_state::ASKED;
-use server_state::BUSY;
 use server_state::KIND;
 use server_state::LAST;
 use server_state::LATEST;
-use server_state::LISTED;
 use server_state::LOCK;
 use server_state::PEND;
 use server_state::READ_SET;
@@ -32,7 +29,6 @@ use server_state::WANT;
 use server_state::WHOLE;
 use server_state::WRITTEN_SET;
 use station_state::NUMBER_WIDTH;
-use station_state::PAGE_SET_WIDTH;
 use station_state::SET_ROW;
 
 // A byte as a number that compares with a station and finds a place.
@@ -44,7 +40,7 @@ fn byte(s: &[u8], k: usize) -> usize
 }
 
 // The bit of station or object k, if so.
-fn bit_if(yes: bool, k: usize) -> u8
+pub fn bit_if(yes: bool, k: usize) -> u8
     requires { ⌜ k < 8 ⌝ }
     ensures { λ r. ⌜ r ≡ cond yes (2 ^ k) 0 ⌝ }
 {
@@ -370,19 +366,11 @@ fn holder_set(s: &[u8], i: usize) -> u8
 }
 
 // The stations that block i: by a lock, or as earlier waiters.
-fn blockers(s: &[u8], i: usize) -> u8
+pub fn blockers(s: &[u8], i: usize) -> u8
     requires { ⌜ (length (now s) ≡ serverLength) × (i < 8) ⌝ }
     ensures { λ r. ⌜ r ≡ blockersB (now (s .entry)) i ⌝ }
 {
     holder_set(s, i) | ahead_set(s, i)
-}
-
-// Whether another's lock or an earlier waiter stands before i.
-pub fn blocked(s: &[u8], i: usize) -> bool
-    requires { ⌜ (length (now s) ≡ serverLength) × (i < 8) ⌝ }
-    ensures { λ r. ⌜ r ≡ blockedB (now (s .entry)) i ⌝ }
-{
-    blockers(s, i) != 0
 }
 
 // Whether i wants something of page p and another has it whole.
@@ -403,77 +391,6 @@ pub fn shut_out(s: &[u8], i: usize) -> bool
     while p < 32 {
         r |= shut(s, i, p);
         p += 1;
-    }
-    r
-}
-
-fn concerns_at(s: &[u8], i: usize, j: usize, p: usize) -> bool
-    requires { ⌜ (length (now s) ≡ serverLength) × (i < 8) × (j < 8) × (p < 32) ⌝ }
-    ensures { λ r. ⌜ r ≡ concernsAt (now (s .entry)) i j p ⌝ }
-{
-    station_state::has_bit32(le::get_u32(s, LISTED + j * PAGE_SET_WIDTH), p)
-        & (s[WRITTEN_SET + i * SET_ROW + p] != 0)
-}
-
-// Whether j is another locking station, listed for a page that i is to write.
-fn concerns(s: &[u8], i: usize, j: usize) -> bool
-    requires { ⌜ (length (now s) ≡ serverLength) × (i < 8) × (j < 8) ⌝ }
-    ensures { λ r. ⌜ r ≡ anyTo (concernsAt (now (s .entry)) i j) 32 ⌝ }
-{
-    let mut r = false;
-    let mut p = 0;
-    while p < 32 {
-        r |= concerns_at(s, i, j, p);
-        p += 1;
-    }
-    r
-}
-
-fn concerned(s: &[u8], i: usize, j: usize) -> bool
-    requires { ⌜ (length (now s) ≡ serverLength) × (i < 8) × (j < 8) ⌝ }
-    ensures { λ r. ⌜ r ≡ concernedB (now (s .entry)) i j ⌝ }
-{
-    if (j != i) & (s[KIND + j] == 0) {
-        return concerns(s, i, j);
-    }
-    false
-}
-
-// The stations that i's 20s go to.
-pub fn concerned_set(s: &[u8], i: usize) -> u8
-    requires { ⌜ (length (now s) ≡ serverLength) × (i < 8) ⌝ }
-    ensures { λ r. ⌜ r ≡ concernedSet (now (s .entry)) i ⌝ }
-{
-    let mut d: u8 = 0;
-    let mut j = 0;
-    while j < 8 {
-        d |= bit_if(concerned(s, i, j), j);
-        j += 1;
-    }
-    d
-}
-
-fn hinders(s: &[u8], i: usize, p: usize, j: usize) -> bool
-    requires { ⌜ (length (now s) ≡ serverLength) × (i < 8) × (p < 32) × (j < 8) ⌝ }
-    ensures { λ r. ⌜ r ≡ hindersB (now (s .entry)) i p j ⌝ }
-{
-    let listed = station_state::has_bit32(le::get_u32(s, LISTED + j * PAGE_SET_WIDTH), p);
-    (j != i)
-        & (((s[KIND + j] == 0) & listed)
-            | lock_on(s, j, p)
-            | (s[WRITTEN_SET + j * SET_ROW + p] != 0))
-}
-
-// Whether i cannot have page p whole.
-pub fn hindered(s: &[u8], i: usize, p: usize) -> bool
-    requires { ⌜ (length (now s) ≡ serverLength) × (i < 8) × (p < 32) ⌝ }
-    ensures { λ r. ⌜ r ≡ hinderedB (now (s .entry)) i p ⌝ }
-{
-    let mut r = false;
-    let mut j = 0;
-    while j < 8 {
-        r |= hinders(s, i, p, j);
-        j += 1;
     }
     r
 }
@@ -524,23 +441,4 @@ pub fn unavailable(s: &[u8], i: usize, a: usize) -> u8
         o += 1;
     }
     d
-}
-
-// Whether 23 goes to j when i has written the pages d.
-pub fn informed(s: &[u8], i: usize, d: u32, j: usize) -> bool
-    requires { ⌜ (length (now s) ≡ serverLength) × (i < 8) × (j < 8) ⌝ }
-    ensures { λ r. ⌜ r ≡ informedB (now (s .entry)) i d j ⌝ }
-{
-    (j != i) & (s[KIND + j] != 0) & (le::get_u32(s, LISTED + j * PAGE_SET_WIDTH) & d != 0)
-}
-
-// The stations that i waits for. A station that does not wait costs one test.
-pub fn edge_set(s: &[u8], i: usize) -> u8
-    requires { ⌜ (length (now s) ≡ serverLength) × (i < 8) ⌝ }
-    ensures { λ r. ⌜ r ≡ edgeSet (now (s .entry)) i ⌝ }
-{
-    if s[WANT + i] == 0 {
-        return 0;
-    }
-    s[BUSY + i] | blockers(s, i)
 }

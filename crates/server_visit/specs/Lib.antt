@@ -1,2 +1,3 @@
 -- A waiter's turn: what its calls leave is what the definitions of server_actions give.
 pub mod Visits
+pub mod Rest

@@ -8,7 +8,7 @@ use native.Mathlib.Omega.{arith}
 use lib.ListN.{length, set}
 use lib.Seq.{sets, getD-set-other}
 use lib.Dec.{eqb}
-use borrow.Author.Tests.{ne-eqb}
+use borrow.Author.Tests.{eq-eqb, ne-eqb}
 use Rattle.sets.specs.Laws.{byB, byEq, eqb-no, and-l, and-r, not-yes}
 use Rattle.le.specs.Laws.{u32At-is, setU32-is}
 use Rattle.cells.specs.Num.{AllBytes, num-lt, num-frame, put-other}
@@ -16,7 +16,8 @@ use Rattle.message.specs.Layout.{messageLength}
 use Rattle.station_state.specs.Layout.{hasBit}
 use Rattle.station_state.specs.Changes.{pageOn}
 use Rattle.server_state.specs.Layout.{lastFrom, askedFrom, wholeFrom, calledFrom, pendFrom, latestOf, lastOf, askedOf, wholeOf, wantOf, requestOf, calledOf, otherB, wantedOn}
-use Rattle.server_tests.specs.Tests.{faultB, shutB, concernedSet, unavailableB}
+use Rattle.server_tests.specs.Tests.{faultB, blockedB, shutB, concernedSet, unavailableB}
+use Rattle.server_tests.specs.Blockers.{blockersB, blocked-is}
 use Rattle.server_changes.specs.Changes.{leaveB, askedB, calledB, lockPageB, lockObjectB}
 use Rattle.server_actions.specs.declared.Counts.{Counts}
 use Rattle.server_actions.specs.Actions.{Serving, plain, deescalateB, callbackB, sendPageB, abortB}
@@ -58,6 +59,13 @@ fault-last s i b e =
   where
     used : _≡_ {A = ℕ} 4 0 → ⊥
     used z = omega arith
+
+-- the station set of those who block tells whether i is blocked
+pub blocked-by : (s : List ℕ) (i b : ℕ) → b ≡ blockersB s i → AllBytes s → b ≢ 0 → blockedB s i ≡ true
+blocked-by s i b e h n = blocked-is s h i ∙ ap not (ne-eqb (blockersB s i) 0 (λ z. n (e ∙ z)))
+
+pub blocked-not : (s : List ℕ) (i b : ℕ) → b ≡ blockersB s i → AllBytes s → b ≡ 0 → blockedB s i ≡ false
+blocked-not s i b e h z = blocked-is s h i ∙ ap not (eq-eqb (blockersB s i) 0 (sym e ∙ z))
 
 -- 19 goes to a station
 pub ask-held : (i p : ℕ) (s : List ℕ) → (shutB s i p && not (hasBit (askedOf s) p)) ≡ true → 1 ≤ wholeOf s p

@@ -8,6 +8,7 @@ ghost use lib.ListN.{length};
 ghost use Rattle.station_state.specs.Layout.{hasBit};
 ghost use Rattle.server_state.specs.Layout.{serverLength, askedOf, wholeOf, wantOf, requestOf, lastOf};
 ghost use Rattle.server_tests.specs.Tests.{shutB, faultB};
+ghost use Rattle.server_tests.specs.Blockers.{blockersB};
 ghost use Rattle.server_actions.specs.Posting.{from, posted, post, Room};
 ghost use Rattle.server_actions.specs.Pass.{askB, askTo, serveReadB, callOneB, callTo, callB, callOnceB, grantPageB, grantObjectB, grantB, afterCallsB, proceedB, gatesB, visitB};
 ghost use Rattle.server_visit.specs.Visits.{Held, visitCommitB};
@@ -16,7 +17,6 @@ use server_actions::Counts;
 use server_state::ASKED;
 use server_state::CALLED;
 use server_state::LATEST;
-use server_state::PEND;
 use server_state::REQUEST;
 use server_state::WANT;
 use server_state::WHOLE;
@@ -119,7 +119,7 @@ fn call(s: &mut [u8], o: &mut [u8], q: &mut [u8], c: Counts, i: usize) -> Counts
     requires { ⌜ (length (now s) ≡ serverLength) × (i < 8) × Room (now o) (now q) c (callB i (from (now s))) ⌝ }
     ensures { λ r. ⌜ posted (now (s .exit)) (now (o .exit)) (now (q .exit)) r ≡ post (now (o .entry)) (now (q .entry)) c (callB i (from (now (s .entry)))) ⌝ }
 {
-    let d = server_tests::concerned_set(s, i);
+    let d = server_sets::concerned_set(s, i);
     let b = call_all(s, o, q, c, i, d);
     server_changes::called(s, i, d);
     b
@@ -162,7 +162,7 @@ fn grant(s: &mut [u8], o: &mut [u8], q: &mut [u8], c: Counts, i: usize) -> Count
     requires { ⌜ (length (now s) ≡ serverLength) × (i < 8) × Room (now o) (now q) c (grantB i (from (now s))) ⌝ }
     ensures { λ r. ⌜ posted (now (s .exit)) (now (o .exit)) (now (q .exit)) r ≡ post (now (o .entry)) (now (q .entry)) c (grantB i (from (now (s .entry)))) ⌝ }
 {
-    if server_tests::hindered(s, i, request(s, i) / 8) {
+    if server_sets::hindered(s, i, request(s, i) / 8) {
         return grant_object(s, o, q, c, i);
     }
     grant_page(s, o, q, c, i)
@@ -173,7 +173,7 @@ fn after_calls(s: &mut [u8], o: &mut [u8], q: &mut [u8], c: Counts, i: usize, w:
     requires { ⌜ (length (now s) ≡ serverLength) × (i < 8) × (w ≢ 2 → lastOf (now s) < 4294967295) × Room (now o) (now q) c (afterCallsB w i (from (now s))) ⌝ }
     ensures { λ r. ⌜ posted (now (s .exit)) (now (o .exit)) (now (q .exit)) r ≡ post (now (o .entry)) (now (q .entry)) c (afterCallsB w i (from (now (s .entry)))) ⌝ }
 {
-    if s[PEND + i] != 0 {
+    if server_sets::owes_set(s, i) != 0 {
         return c;
     }
     if w == 2 {
@@ -194,11 +194,12 @@ fn proceed(s: &mut [u8], o: &mut [u8], q: &mut [u8], c: Counts, i: usize, w: u8)
     after_calls(s, o, q, b, i, w)
 }
 
-fn gates(s: &mut [u8], o: &mut [u8], q: &mut [u8], c: Counts, i: usize, w: u8) -> Counts
-    requires { ⌜ (length (now s) ≡ serverLength) × (i < 8) × Held (now s) × (w ≢ 1 → w ≢ 2 → lastOf (now s) < 4294967295) × Room (now o) (now q) c (gatesB w i (from (now s))) ⌝ }
+// b is who blocks i.
+fn gates(s: &mut [u8], o: &mut [u8], q: &mut [u8], c: Counts, i: usize, w: u8, b: u8) -> Counts
+    requires { ⌜ (length (now s) ≡ serverLength) × (i < 8) × Held (now s) × (b ≡ blockersB (now s) i) × (w ≢ 1 → w ≢ 2 → lastOf (now s) < 4294967295) × Room (now o) (now q) c (gatesB w i (from (now s))) ⌝ }
     ensures { λ r. ⌜ posted (now (s .exit)) (now (o .exit)) (now (q .exit)) r ≡ post (now (o .entry)) (now (q .entry)) c (gatesB w i (from (now (s .entry)))) ⌝ }
 {
-    if server_tests::blocked(s, i) {
+    if b != 0 {
         return c;
     }
     if server_tests::shut_out(s, i) {
@@ -208,20 +209,20 @@ fn gates(s: &mut [u8], o: &mut [u8], q: &mut [u8], c: Counts, i: usize, w: u8) -
 }
 
 // A commit that cannot be installed any more is aborted at once.
-fn visit_commit(s: &mut [u8], o: &mut [u8], q: &mut [u8], c: Counts, i: usize) -> Counts
-    requires { ⌜ (length (now s) ≡ serverLength) × (i < 8) × Held (now s) × Room (now o) (now q) c (visitCommitB i (from (now s))) ⌝ }
+fn visit_commit(s: &mut [u8], o: &mut [u8], q: &mut [u8], c: Counts, i: usize, b: u8) -> Counts
+    requires { ⌜ (length (now s) ≡ serverLength) × (i < 8) × Held (now s) × (b ≡ blockersB (now s) i) × Room (now o) (now q) c (visitCommitB i (from (now s))) ⌝ }
     ensures { λ r. ⌜ posted (now (s .exit)) (now (o .exit)) (now (q .exit)) r ≡ post (now (o .entry)) (now (q .entry)) c (visitCommitB i (from (now (s .entry)))) ⌝ }
 {
     let cause = server_tests::fault(s, i);
     if cause == 0 {
-        return gates(s, o, q, c, i, 3);
+        return gates(s, o, q, c, i, 3, b);
     }
     server_actions::abort(s, o, q, c, i, cause)
 }
 
-// Station i's turn, if it waits.
-pub fn visit(s: &mut [u8], o: &mut [u8], q: &mut [u8], c: Counts, i: usize) -> Counts
-    requires { ⌜ (length (now s) ≡ serverLength) × (i < 8) × Held (now s) × (wantOf (now s) i ≤ 3) × Room (now o) (now q) c (visitB i (from (now s))) ⌝ }
+// Station i's turn, if it waits. b is who blocks it: the pass asks for it once, and keeps it for the edges.
+pub fn visit(s: &mut [u8], o: &mut [u8], q: &mut [u8], c: Counts, i: usize, b: u8) -> Counts
+    requires { ⌜ (length (now s) ≡ serverLength) × (i < 8) × Held (now s) × (wantOf (now s) i ≤ 3) × (b ≡ blockersB (now s) i) × Room (now o) (now q) c (visitB i (from (now s))) ⌝ }
     ensures { λ r. ⌜ posted (now (s .exit)) (now (o .exit)) (now (q .exit)) r ≡ post (now (o .entry)) (now (q .entry)) c (visitB i (from (now (s .entry)))) ⌝ }
 {
     let w = s[WANT + i];
@@ -229,7 +230,7 @@ pub fn visit(s: &mut [u8], o: &mut [u8], q: &mut [u8], c: Counts, i: usize) -> C
         return c;
     }
     if w == 3 {
-        return visit_commit(s, o, q, c, i);
+        return visit_commit(s, o, q, c, i, b);
     }
-    gates(s, o, q, c, i, w)
+    gates(s, o, q, c, i, w, b)
 }

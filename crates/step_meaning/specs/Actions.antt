@@ -23,9 +23,9 @@ use Rattle.line.specs.Server as Model
 use Rattle.station_state.specs.Layout.{numberWidth, valueWidth, hasBit, member}
 use Rattle.set_record.specs.Record.{valuesAt}
 use Rattle.server_state.specs.Layout.{readValueCell, writtenValueCell, workCell, readSetCell, writtenSetCell, table, workFrom, readValuesFrom, writtenValuesFrom, workNumber, lastOf, readSetFrom, writtenSetFrom, writtenSet}
-use Rattle.server_tests.specs.Tests.{informedB}
+use Rattle.server_tests.specs.Tests.{writtenPageB, writtenPagesB, informedB}
 use Rattle.server_changes.specs.Changes.{finishB, leaveB, writeB}
-use Rattle.server_actions.specs.Actions.{Serving, recordB, sendPageB, abortB, writtenPageB, writtenPagesB, informB, informTo, installB}
+use Rattle.server_actions.specs.Actions.{Serving, recordB, sendPageB, abortB, informB, informTo, installB}
 use Rattle.station_meaning.specs.Meant.{within, valueIf}
 use Rattle.station_meaning.specs.Tests.{has-if}
 use Rattle.server_meaning.specs.Meant.{Is, start, workOf}

@@ -5,8 +5,8 @@ use borrow.Author.Needs.{needs}
 use Rattle.server_actions.proofs.inform.Statement.{statement}
 use Rattle.server_actions.proofs.inform.Tie as tie
 
-informed-requires : tie.Need-informed-requires
-informed-requires c κs = search needs
+has-bit8-requires : tie.Need-has-bit8-requires
+has-bit8-requires c κs = search needs
 
 mul-put-message : tie.Need-mul-put-message
 mul-put-message c = search needs
@@ -15,7 +15,7 @@ cast-put-message : tie.Need-cast-put-message
 cast-put-message c = search needs
 
 put-message-requires : tie.Need-put-message-requires
-put-message-requires c κs = let h = inform-fits _ _ _ _ _ _ _ (sym (c .before .before .before .informed .ensures) ∙ c .before .before .if1 .taken) (c .before .before .before .before .before .before .before .before .pre .3) in search needs
+put-message-requires c κs = let h = inform-fits _ _ _ _ _ _ _ (sym (c .before .before .before .has-bit8 .ensures) ∙ c .before .before .if1 .taken) (c .before .before .before .before .before .before .before .pre .2) in search needs
 
 unlist-requires : tie.Need-unlist-requires
 unlist-requires c κs = search needs
@@ -30,19 +30,16 @@ same-length-2 : tie.Need-same-length-2
 same-length-2 c = search needs
 
 returns : tie.Need-returns
-returns c = inform-chain _ _ _ _ _ _ _ (sym (c .before .before .before .before .before .before .before .before .before .before .before .informed .ensures) ∙ c .before .before .before .before .before .before .before .before .before .before .if1 .taken) (c .before .before .before .before .before .before .before .put-message .ensures) (c .before .before .before .unlist .ensures) (c .one-more .ensures)
-
-same-length-3 : tie.Need-same-length-3
-same-length-3 c = search needs
+returns c = inform-chain _ _ _ _ _ _ _ (sym (c .before .before .before .before .before .before .before .before .before .before .before .has-bit8 .ensures) ∙ c .before .before .before .before .before .before .before .before .before .before .if1 .taken) (c .before .before .before .before .before .before .before .put-message .ensures) (c .before .before .before .unlist .ensures) (c .one-more .ensures)
 
 returns-2 : tie.Need-returns-2
-returns-2 c = inform-none _ _ _ _ _ _ _ (sym (c .before .informed .ensures) ∙ c .if1 .left)
+returns-2 c = inform-none _ _ _ _ _ _ _ (sym (c .before .has-bit8 .ensures) ∙ c .if1 .left)
 
 pub inform-spec : {M : Type 1} → statement M
 inform-spec =
     tie.close
     (tie.spec
-    informed-requires
+    has-bit8-requires
     mul-put-message
     cast-put-message
     put-message-requires
@@ -51,5 +48,4 @@ inform-spec =
     same-length
     same-length-2
     returns
-    same-length-3
     returns-2)

@@ -10,17 +10,17 @@ use Rattle.server_order.proofs.edges.Statement.{statement}
 use Rattle.server_order.proofs.edges.Tie as tie
 
 abbrev Inv-loop : tie.InvT-loop
-Inv-loop s e₀ i₀ e i = (i ≤ 8) × (length e ≡ 8) × (e ≡ edgesTo s i)
+Inv-loop s d e₀ i₀ e i = (i ≤ 8) × (length e ≡ 8) × (e ≡ edgesTo s i)
 
 abbrev μ-loop : tie.MeasureT-loop
-μ-loop s e₀ i₀ e i = 8 - i
+μ-loop s d e₀ i₀ e i = 8 - i
 
 loop-holds : tie.Need-loop-holds Inv-loop μ-loop
 unfolding edgesTo
 loop-holds c = search needs
 
-edge-set-requires : tie.Need-edge-set-requires Inv-loop μ-loop
-edge-set-requires c κs = search needs
+edge-of-requires : tie.Need-edge-of-requires Inv-loop μ-loop
+edge-of-requires c κs = search needs
 
 array-write-e : tie.Need-array-write-e Inv-loop μ-loop
 array-write-e c = search needs
@@ -45,7 +45,7 @@ edges-spec =
     Inv-loop
     μ-loop
     loop-holds
-    edge-set-requires
+    edge-of-requires
     array-write-e
     add-i
     loop-less

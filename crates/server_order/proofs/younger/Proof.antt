@@ -1,19 +1,16 @@
 -- `server_order::younger` meets its contract.
 use Rattle.server_order.specs.Order.{youngerB}
-use borrow.Author.Tests.{eq-eqb, ne-eqb}
+use Rattle.server_order.specs.Cycles.{cycle-is}
+use native.Mathlib.Omega.{arith}
 use borrow.Author.Needs.{needs}
 use Rattle.server_order.proofs.younger.Statement.{statement}
 use Rattle.server_order.proofs.younger.Tie as tie
 
-add-if1 : tie.Need-add-if1
-add-if1 c = search needs
+add-result : tie.Need-add-result
+add-result c = search needs
 
-shared-slice-read-if1 : tie.Need-shared-slice-read-if1
-shared-slice-read-if1 c = search needs
-
-returns : tie.Need-returns
-unfolding youngerB
-returns c = simp (eq-eqb _ _ (c .if1 .taken))
+shared-slice-read-result : tie.Need-shared-slice-read-result
+shared-slice-read-result c = search needs
 
 on-cycle-requires : tie.Need-on-cycle-requires
 on-cycle-requires c κs = search needs
@@ -36,17 +33,16 @@ add-get-u64-2 c = search needs
 get-u64-requires-2 : tie.Need-get-u64-requires-2
 get-u64-requires-2 c κs = search needs
 
-returns-2 : tie.Need-returns-2
+returns : tie.Need-returns
 unfolding youngerB
-returns-2 c = simp (ne-eqb _ _ (c .before .before .before .if1 .left)) (cc)
+returns c = simp (cycle-is (c .before .before .before .before .before .args .s .now) (c .before .before .before .before .before .args .n) (omega arith), ← c .before .before .before .before .before .pre .1) (cc)
 
 pub younger-spec : {M : Type 1} → statement M
 younger-spec =
     tie.close
     (tie.spec
-    add-if1
-    shared-slice-read-if1
-    returns
+    add-result
+    shared-slice-read-result
     on-cycle-requires
     mul-get-u64
     add-get-u64
@@ -54,4 +50,4 @@ younger-spec =
     mul-get-u64-2
     add-get-u64-2
     get-u64-requires-2
-    returns-2)
+    returns)

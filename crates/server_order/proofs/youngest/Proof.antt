@@ -4,15 +4,15 @@ use mathlib.Core.Path.{_≡_, ap, _∙_}
 use native.Mathlib.Numerals.{add-one}
 use native.Mathlib.Omega.{arith}
 use borrow.Author.Needs.{needs}
-use Rattle.server_order.specs.Order.{youngestTo}
+use Rattle.server_order.specs.Order.{edgesTo, youngestTo}
 use Rattle.server_order.proofs.youngest.Statement.{statement}
 use Rattle.server_order.proofs.youngest.Tie as tie
 
 abbrev Inv-loop : tie.InvT-loop
-Inv-loop s e r₀ n₀ r n = (n ≤ 8) × (r ≤ 8) × (r ≡ youngestTo s e n)
+Inv-loop s w r₀ n₀ r n = (n ≤ 8) × (r ≤ 8) × (r ≡ youngestTo s (edgesTo s 8) n)
 
 abbrev μ-loop : tie.MeasureT-loop
-μ-loop s e r₀ n₀ r n = 8 - n
+μ-loop s w r₀ n₀ r n = 8 - n
 
 loop-holds : tie.Need-loop-holds Inv-loop μ-loop
 unfolding youngestTo

@@ -10,7 +10,7 @@ use Rattle.server_pass.proofs.break_cycle.Statement.{statement}
 use Rattle.server_pass.proofs.break_cycle.Tie as tie
 
 victim-requires : tie.Need-victim-requires
-victim-requires c κs = search needs
+victim-requires c κs = (search needs, c .before .before .before .before .before .pre .1)
 
 same-length : tie.Need-same-length
 same-length c = search needs
@@ -20,7 +20,7 @@ unfolding brokenB
 returns c = yes-post _ _ _ _ _ _ (eq-eqb _ _ (sym (c .before .victim .ensures .0) ∙ c .if1 .taken)) (post-none _ _ _ _)
 
 abort-requires : tie.Need-abort-requires
-abort-requires c κs = (search needs, search needs, victim-room _ _ _ _ (c .before .before .before .before .victim .ensures .0) (c .before .before .before .if1 .left) (c .before .before .before .before .before .before .before .before .before .pre .1))
+abort-requires c κs = (search needs, search needs, victim-room _ _ _ _ (c .before .before .before .before .victim .ensures .0) (c .before .before .before .if1 .left) (c .before .before .before .before .before .before .before .before .before .before .pre .2))
 
 same-length-2 : tie.Need-same-length-2
 same-length-2 c = search needs

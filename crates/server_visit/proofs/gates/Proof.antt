@@ -1,28 +1,26 @@
 -- `server_visit::gates` meets its contract.
 use mathlib.Core.Path.{sym, _∙_}
+use native.Mathlib.Omega.{arith}
 use Rattle.server_actions.specs.Pass.{gatesB}
 use Rattle.server_actions.specs.Posting.{post-none}
-use Rattle.server_visit.specs.Visits.{yes-room, no-room, yes-post, no-post}
+use Rattle.server_visit.specs.Visits.{blocked-by, blocked-not, yes-room, no-room, yes-post, no-post}
 use borrow.Author.Needs.{needs}
 use Rattle.server_visit.proofs.gates.Statement.{statement}
 use Rattle.server_visit.proofs.gates.Tie as tie
 
-blocked-requires : tie.Need-blocked-requires
-blocked-requires c κs = search needs
-
-same-length : tie.Need-same-length
-same-length c = search needs
-
 returns : tie.Need-returns
 unfolding gatesB
-returns c = yes-post _ _ _ _ _ _ (sym (c .before .blocked .ensures) ∙ c .if1 .taken) (post-none _ _ _ _)
+returns c = yes-post _ _ _ _ _ _ (blocked-by _ _ _ (c .before .before .before .before .pre .3) (λ j. omega (arith, c .before .before .before .slice-known .given j)) (c .if1 .taken)) (post-none _ _ _ _)
 
 shut-out-requires : tie.Need-shut-out-requires
 shut-out-requires c κs = search needs
 
 ask-all-requires : tie.Need-ask-all-requires
 unfolding gatesB
-ask-all-requires c κs = (search needs, search needs, c .before .before .before .before .before .before .before .before .before .before .before .before .pre .2, yes-room _ _ _ _ _ _ (sym (c .before .before .before .before .shut-out .ensures) ∙ c .before .before .before .if2 .taken) (no-room _ _ _ _ _ _ (sym (c .before .before .before .before .before .before .before .blocked .ensures) ∙ c .before .before .before .before .before .before .if1 .left) (c .before .before .before .before .before .before .before .before .before .before .before .before .pre .4)))
+ask-all-requires c κs = (search needs, search needs, c .before .before .before .before .before .before .before .before .before .before .pre .2, yes-room _ _ _ _ _ _ (sym (c .before .before .before .before .shut-out .ensures) ∙ c .before .before .before .if2 .taken) (no-room _ _ _ _ _ _ (blocked-not _ _ _ (c .before .before .before .before .before .before .before .before .before .before .pre .3) (λ j. omega (arith, c .before .before .before .before .before .before .before .before .before .slice-known .given j)) (c .before .before .before .before .before .before .if1 .left)) (c .before .before .before .before .before .before .before .before .before .before .pre .5)))
+
+same-length : tie.Need-same-length
+same-length c = search needs
 
 same-length-2 : tie.Need-same-length-2
 same-length-2 c = search needs
@@ -30,16 +28,16 @@ same-length-2 c = search needs
 same-length-3 : tie.Need-same-length-3
 same-length-3 c = search needs
 
-same-length-4 : tie.Need-same-length-4
-same-length-4 c = search needs
-
 returns-2 : tie.Need-returns-2
 unfolding gatesB
-returns-2 c = no-post _ _ _ _ _ _ (sym (c .before .before .before .before .before .before .before .before .before .before .before .before .before .before .blocked .ensures) ∙ c .before .before .before .before .before .before .before .before .before .before .before .before .before .if1 .left) (yes-post _ _ _ _ _ _ (sym (c .before .before .before .before .before .before .before .before .before .before .before .shut-out .ensures) ∙ c .before .before .before .before .before .before .before .before .before .before .if2 .taken) (c .before .before .before .before .before .before .ask-all .ensures))
+returns-2 c = no-post _ _ _ _ _ _ (blocked-not _ _ _ (c .before .before .before .before .before .before .before .before .before .before .before .before .before .before .before .before .before .pre .3) (λ j. omega (arith, c .before .before .before .before .before .before .before .before .before .before .before .before .before .before .before .before .slice-known .given j)) (c .before .before .before .before .before .before .before .before .before .before .before .before .before .if1 .left)) (yes-post _ _ _ _ _ _ (sym (c .before .before .before .before .before .before .before .before .before .before .before .shut-out .ensures) ∙ c .before .before .before .before .before .before .before .before .before .before .if2 .taken) (c .before .before .before .before .before .before .ask-all .ensures))
 
 proceed-requires : tie.Need-proceed-requires
 unfolding gatesB
-proceed-requires c κs = (search needs, search needs, c .before .before .before .before .before .before .before .before .before .before .before .before .pre .3, no-room _ _ _ _ _ _ (sym (c .before .before .before .before .shut-out .ensures) ∙ c .before .before .before .if2 .left) (no-room _ _ _ _ _ _ (sym (c .before .before .before .before .before .before .before .blocked .ensures) ∙ c .before .before .before .before .before .before .if1 .left) (c .before .before .before .before .before .before .before .before .before .before .before .before .pre .4)))
+proceed-requires c κs = (search needs, search needs, c .before .before .before .before .before .before .before .before .before .before .pre .4, no-room _ _ _ _ _ _ (sym (c .before .before .before .before .shut-out .ensures) ∙ c .before .before .before .if2 .left) (no-room _ _ _ _ _ _ (blocked-not _ _ _ (c .before .before .before .before .before .before .before .before .before .before .pre .3) (λ j. omega (arith, c .before .before .before .before .before .before .before .before .before .slice-known .given j)) (c .before .before .before .before .before .before .if1 .left)) (c .before .before .before .before .before .before .before .before .before .before .pre .5)))
+
+same-length-4 : tie.Need-same-length-4
+same-length-4 c = search needs
 
 same-length-5 : tie.Need-same-length-5
 same-length-5 c = search needs
@@ -47,28 +45,23 @@ same-length-5 c = search needs
 same-length-6 : tie.Need-same-length-6
 same-length-6 c = search needs
 
-same-length-7 : tie.Need-same-length-7
-same-length-7 c = search needs
-
 returns-3 : tie.Need-returns-3
 unfolding gatesB
-returns-3 c = no-post _ _ _ _ _ _ (sym (c .before .before .before .before .before .before .before .before .before .before .before .before .before .before .blocked .ensures) ∙ c .before .before .before .before .before .before .before .before .before .before .before .before .before .if1 .left) (no-post _ _ _ _ _ _ (sym (c .before .before .before .before .before .before .before .before .before .before .before .shut-out .ensures) ∙ c .before .before .before .before .before .before .before .before .before .before .if2 .left) (c .before .before .before .before .before .before .proceed .ensures))
+returns-3 c = no-post _ _ _ _ _ _ (blocked-not _ _ _ (c .before .before .before .before .before .before .before .before .before .before .before .before .before .before .before .before .before .pre .3) (λ j. omega (arith, c .before .before .before .before .before .before .before .before .before .before .before .before .before .before .before .before .slice-known .given j)) (c .before .before .before .before .before .before .before .before .before .before .before .before .before .if1 .left)) (no-post _ _ _ _ _ _ (sym (c .before .before .before .before .before .before .before .before .before .before .before .shut-out .ensures) ∙ c .before .before .before .before .before .before .before .before .before .before .if2 .left) (c .before .before .before .before .before .before .proceed .ensures))
 
 pub gates-spec : {M : Type 1} → statement M
 gates-spec =
     tie.close
     (tie.spec
-    blocked-requires
-    same-length
     returns
     shut-out-requires
     ask-all-requires
+    same-length
     same-length-2
     same-length-3
-    same-length-4
     returns-2
     proceed-requires
+    same-length-4
     same-length-5
     same-length-6
-    same-length-7
     returns-3)

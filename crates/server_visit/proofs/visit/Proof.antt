@@ -19,7 +19,7 @@ unfolding visitB
 returns c = yes-post _ _ _ _ _ _ (eq-eqb _ _ (c .if1 .taken)) (post-none _ _ _ _)
 
 visit-commit-requires : tie.Need-visit-commit-requires
-visit-commit-requires c κs = (search needs, search needs, c .before .before .before .before .before .before .before .before .before .pre .2, commit-room _ _ _ _ _ (c .before .before .before .if2 .taken) (c .before .before .before .before .before .before .before .before .before .pre .4))
+visit-commit-requires c κs = (search needs, search needs, c .before .before .before .before .before .before .before .before .before .pre .2, c .before .before .before .before .before .before .before .before .before .pre .4, commit-room _ _ _ _ _ (c .before .before .before .if2 .taken) (c .before .before .before .before .before .before .before .before .before .pre .5))
 
 same-length : tie.Need-same-length
 same-length c = search needs
@@ -34,7 +34,7 @@ returns-2 : tie.Need-returns-2
 returns-2 c = commit-post _ _ _ _ _ (c .before .before .before .before .before .before .before .before .before .before .if2 .taken) (c .before .before .before .before .before .before .visit-commit .ensures)
 
 gates-requires : tie.Need-gates-requires
-gates-requires c κs = (search needs, search needs, c .before .before .before .before .before .before .before .before .before .pre .2, λ n m. omega (arith, n, m, c .before .before .before .before .if1 .left, c .before .before .before .if2 .left, c .before .before .before .before .before .before .before .before .before .pre .3), other-room _ _ _ _ _ (c .before .before .before .before .if1 .left) (c .before .before .before .if2 .left) (c .before .before .before .before .before .before .before .before .before .pre .4))
+gates-requires c κs = (search needs, search needs, c .before .before .before .before .before .before .before .before .before .pre .2, c .before .before .before .before .before .before .before .before .before .pre .4, λ n m. omega (arith, n, m, c .before .before .before .before .if1 .left, c .before .before .before .if2 .left, c .before .before .before .before .before .before .before .before .before .pre .3), other-room _ _ _ _ _ (c .before .before .before .before .if1 .left) (c .before .before .before .if2 .left) (c .before .before .before .before .before .before .before .before .before .pre .5))
 
 same-length-4 : tie.Need-same-length-4
 same-length-4 c = search needs

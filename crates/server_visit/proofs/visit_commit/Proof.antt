@@ -12,7 +12,7 @@ fault-requires c κs = search needs
 
 gates-requires : tie.Need-gates-requires
 unfolding visitCommitB
-gates-requires c κs = (search needs, search needs, c .before .before .before .before .before .before .before .before .before .pre .2, λ _ _. fault-last _ _ (λ j. omega (arith, c .before .before .before .before .before .before .before .before .slice-known .given j)) (sym (c .before .before .before .before .fault .ensures) ∙ c .before .before .before .if1 .taken), yes-room _ _ _ _ _ _ (eq-eqb _ _ (sym (c .before .before .before .before .fault .ensures) ∙ c .before .before .before .if1 .taken)) (c .before .before .before .before .before .before .before .before .before .pre .3))
+gates-requires c κs = (search needs, search needs, c .before .before .before .before .before .before .before .before .before .pre .2, c .before .before .before .before .before .before .before .before .before .pre .3, λ _ _. fault-last _ _ (λ j. omega (arith, c .before .before .before .before .before .before .before .before .slice-known .given j)) (sym (c .before .before .before .before .fault .ensures) ∙ c .before .before .before .if1 .taken), yes-room _ _ _ _ _ _ (eq-eqb _ _ (sym (c .before .before .before .before .fault .ensures) ∙ c .before .before .before .if1 .taken)) (c .before .before .before .before .before .before .before .before .before .pre .4))
 
 same-length : tie.Need-same-length
 same-length c = search needs
@@ -29,7 +29,7 @@ returns c = yes-post _ _ _ _ _ _ (eq-eqb _ _ (sym (c .before .before .before .be
 
 abort-requires : tie.Need-abort-requires
 unfolding visitCommitB
-abort-requires c κs = (search needs, search needs, rw (c .before .before .before .before .fault .ensures) (no-room _ _ _ _ _ _ (ne-eqb _ _ (λ e. c .before .before .before .if1 .left (c .before .before .before .before .fault .ensures ∙ e))) (c .before .before .before .before .before .before .before .before .before .pre .3)))
+abort-requires c κs = (search needs, search needs, rw (c .before .before .before .before .fault .ensures) (no-room _ _ _ _ _ _ (ne-eqb _ _ (λ e. c .before .before .before .if1 .left (c .before .before .before .before .fault .ensures ∙ e))) (c .before .before .before .before .before .before .before .before .before .pre .4)))
 
 same-length-4 : tie.Need-same-length-4
 same-length-4 c = search needs

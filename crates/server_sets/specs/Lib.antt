@@ -1,0 +1,2 @@
+-- Sets of stations as bytes.
+pub mod Sets
