@@ -27,13 +27,14 @@ use works::Work;
 const USAGE: &str =
     "bench [--megabytes N] [--rounds N] [--seed N] [--gate] [--playback PROGRAM --file FILE]
        bench --stations [--rounds N] [--gate]
-       bench --server [--rounds N] [--seed N] [--gate]
+       bench --server [--mixed] [--rounds N] [--seed N] [--gate]
        bench --turns [--rounds N] [--seed N] [--gate]
        bench --blocks [--megabytes N] [--rounds N] [--seed N] [--gate]
   --gate      exit 1 if the proved library takes more than 1.3 times as long
   --playback  time the program too, on FILE, which is written anew and then removed
   --stations  time the calls of a station, not the archive
   --server    time the server's step
+  --mixed     .. on the mixed line alone, as a profiler wants it
   --turns     time the turn-giver
   --blocks    time blocks laid out by column";
 const MEGABYTE: usize = 1_000_000;
@@ -51,7 +52,14 @@ fn main() {
     let options = Options::read(
         USAGE,
         &["--megabytes", "--rounds", "--seed", "--playback", "--file"],
-        &["--gate", "--stations", "--server", "--turns", "--blocks"],
+        &[
+            "--gate",
+            "--stations",
+            "--server",
+            "--mixed",
+            "--turns",
+            "--blocks",
+        ],
     )
     .without_words();
     let bench = Bench {
@@ -62,6 +70,7 @@ fn main() {
     let asked = ["--stations", "--server", "--turns", "--blocks"].map(|name| options.has(name));
     let rows = match asked {
         [true, false, false, false] => bench.stations(),
+        [false, true, false, false] if options.has("--mixed") => bench.mixed(),
         [false, true, false, false] => bench.server(),
         [false, false, true, false] => bench.turns(),
         [false, false, false, true] => bench.blocks(),
@@ -233,7 +242,7 @@ impl Bench {
     }
 
     /// A line of eight stations: its steps in the order in which they came, in ten parts.
-    fn mixed(&self) {
+    fn mixed(&self) -> Vec<Timed> {
         let mixed = server::Mixed::new(self.seed, MIXED);
         println!(
             "\nThe {MIXED} steps of a line of eight stations with {} commits, one behind the other on one core, seed {}; medians of {} rounds:\n",
@@ -253,6 +262,7 @@ impl Bench {
                 ratios(proved, second)
             );
         }
+        Vec::new()
     }
 
     fn playback(&self, program: &str, file: &str) {
