@@ -1,4 +1,4 @@
--- Edges that were asked for already: a station set for each station, 255 where none is known. A set that is 255 may be asked for again.
+-- Edges that were asked for already: a station set for each station, or `unknown`. A set that is the same number is asked for again.
 use Prim.Native.Nat.{ℕ, zero, suc, _<_}
 use mathlib.Core.Path.{_≡_, refl, _∙_}
 use mathlib.Core.Logic.{_≢_}
@@ -9,16 +9,19 @@ use lib.Seq.{getD-set-same, getD-set-other}
 use Rattle.sets.specs.Laws.{byEq, eqb-yes, eqb-no}
 use Rattle.server_tests.specs.Tests.{edgeSet}
 
+abbrev pub unknown : ℕ
+unknown = 255
+
 pub record Known (s d : List ℕ) : Type 0 where
   pub wide : length d ≡ 8
-  pub right : (i : ℕ) → i < 8 → getD d i 0 ≢ 255 → getD d i 0 ≡ edgeSet s i
+  pub right : (i : ℕ) → i < 8 → getD d i 0 ≢ unknown → getD d i 0 ≡ edgeSet s i
 
-nothing : (n i : ℕ) → i < n → _≡_ {A = ℕ} (getD (replicate n 255) i 0) 255
+nothing : (n i : ℕ) → i < n → getD (replicate n unknown) i 0 ≡ unknown
 nothing zero i l = absurd (omega arith)
 nothing (suc n) zero l = refl
 nothing (suc n) (suc i) l = nothing n i (omega arith)
 
-pub known-none : (s : List ℕ) → Known s (replicate 8 255)
+pub known-none : (s : List ℕ) → Known s (replicate 8 unknown)
 known-none s = record { wide = refl; right = λ i l n. absurd (n (nothing 8 i l)) }
 
 -- one more

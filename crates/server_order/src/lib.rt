@@ -14,6 +14,8 @@ use server_state::AGE;
 use server_state::AGE_WIDTH;
 use server_state::WANT;
 
+// In place of an edge set that was not asked for.
+pub const UNKNOWN: u8 = 255;
 // A bit for each of the eight edge sets in a word, the lowest.
 const ONES: u64 = 72340172838076673;
 // Each station's bit in its own edge set.
@@ -24,7 +26,7 @@ fn edge_of(s: &[u8], d: &[u8], i: usize) -> u8
     requires { ⌜ (length (now s) ≡ serverLength) × Known (now s) (now d) × (i < 8) ⌝ }
     ensures { λ r. ⌜ r ≡ edgeSet (now (s .entry)) i ⌝ }
 {
-    if d[i] == 255 {
+    if d[i] == UNKNOWN {
         return server_sets::edge_set(s, i);
     }
     d[i]
@@ -106,7 +108,7 @@ fn youngest(s: &[u8], w: u64) -> usize
     r
 }
 
-// The youngest waiter on a cycle of edges, 8 for none. d has the edges that are known, 255 for those that are not.
+// The youngest waiter on a cycle of edges, 8 for none. d has the edges that are known.
 pub fn victim(s: &[u8], d: &[u8]) -> usize
     requires { ⌜ (length (now s) ≡ serverLength) × Known (now s) (now d) ⌝ }
     ensures { λ x. ⌜ (x ≡ victimB (now (s .entry))) × (x ≤ 8) ⌝ }

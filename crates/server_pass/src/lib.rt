@@ -74,7 +74,7 @@ fn round(s: &mut [u8], o: &mut [u8], q: &mut [u8], c: Counts) -> Counts
     requires { ⌜ (length (now s) ≡ serverLength) × Sane (now s) × Room (now o) (now q) c (roundB (from (now s))) ⌝ }
     ensures { λ r. ⌜ posted (now (s .exit)) (now (o .exit)) (now (q .exit)) r ≡ post (now (o .entry)) (now (q .entry)) c (roundB (from (now (s .entry)))) ⌝ }
 {
-    let mut e = [255u8; 8];
+    let mut e = [server_order::UNKNOWN; 8];
     let b = pass(s, o, q, c, &mut e);
     if b.messages != c.messages {
         return b;
