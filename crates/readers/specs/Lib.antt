@@ -1,0 +1,3 @@
+-- The two readers of an archive.
+pub mod Readers
+pub mod Facts

@@ -1,0 +1,3 @@
+-- The record of a commit of an archive.
+pub mod Seek
+pub mod Facts
