@@ -1,7 +1,7 @@
 # The C package: library, header, pkg-config file, documents and examples; and the commands for archives. `make help` says what there is;
 # GNU make.
 
-VERSION = 1.4.1
+VERSION = 1.5.0
 
 PREFIX = /usr/local
 INCLUDEDIR = $(PREFIX)/include
@@ -21,7 +21,7 @@ PLAYBACK = target/bin/playback
 BLOCK = target/bin/waxwingrack-block
 EXAMPLES := $(sort $(wildcard examples/*.c))
 # what C-INTERFACE.md, STATE.md and PROTOCOL.md link to is here too
-DOCUMENTS = $(addprefix docs/,C-INTERFACE.md STATE.md PROTOCOL.md DECISIONS.md PROVED.md CHANGES.md LICENCE.md BLOCKS.md COMPARE.md)
+DOCUMENTS = $(addprefix docs/,C-INTERFACE.md STATE.md PROTOCOL.md DECISIONS.md PROVED.md CHANGES.md LICENCE.md BLOCKS.md COMPARE.md COUNTS.md)
 PLAY_DOCUMENT = docs/PLAYBACK.md
 CHARTS := $(sort $(wildcard docs/protocol/*.svg))
 

@@ -254,6 +254,92 @@ uint32_t wax_licence_fee(const uint8_t *archive, size_t length, const uint8_t *t
                          uint32_t first, uint32_t last, uint8_t address, int64_t *frames, int64_t *fee);
 
 /*
+ * ONE ARCHIVE, TWO READERS
+ *
+ * The counts reader shows of a record its commit number, the addresses that it writes and their values, and nothing else: no station,
+ * kind, transaction or read, and no place or length in the archive. The service reader shows all fields. Both give the same numbers
+ * behind the same commits. The counts of a record, numbers little-endian:
+ *
+ *   bytes 0-3    commit number
+ *         4-5    writes m, 0 to 256
+ *         then   m addresses of one byte, strictly rising
+ *         then   m values of 8 bytes, in the same order
+ *
+ * A counts file is the counts of an archive's records one behind the other (docs/COUNTS.md): what may be shown to whoever may not see
+ * the archive.
+ */
+#define WAX_COUNTS_HEADER_LENGTH 6
+#define WAX_LONGEST_COUNTS       2310 /* WAX_COUNTS_LENGTH(256) */
+#define WAX_COUNTS_LENGTH(writes) (WAX_COUNTS_HEADER_LENGTH + (size_t)WAX_ENTRY_LENGTH * (size_t)(writes))
+#define WAX_SERVICE_FIELDS       8    /* numbers that wax_service_at and wax_service_record give */
+#define WAX_COUNTS_FIELDS        3    /* numbers that wax_counts_read gives */
+
+/* Where wax_service_at and wax_service_record put what. */
+#define WAX_SERVICE_AT          0 /* where the record starts; 0 from wax_service_record */
+#define WAX_SERVICE_END         1 /* where it ends */
+#define WAX_SERVICE_READS       2
+#define WAX_SERVICE_WRITES      3
+#define WAX_SERVICE_COMMIT      4
+#define WAX_SERVICE_TRANSACTION 5
+#define WAX_SERVICE_STATION     6
+#define WAX_SERVICE_KIND        7
+
+/* Where wax_counts_read puts what. */
+#define WAX_COUNTS_END    0 /* position behind the counts */
+#define WAX_COUNTS_WRITES 1
+#define WAX_COUNTS_COMMIT 2
+
+/*
+ * The record of one commit of a whole archive, as either reader shows it: counts as bytes, or WAX_SERVICE_FIELDS numbers; the record's
+ * entries are then read by wax_archive_entry(archive, length, at, reads + writes, i, ...). Every record up to it is replayed from a
+ * fresh line, so a call takes as long as all of these; to read an archive through, take the two functions below.
+ *
+ *   WAX_BUFFER    out has less than WAX_LONGEST_COUNTS bytes, or less than WAX_SERVICE_FIELDS numbers; checked first
+ *   WAX_SHORT, WAX_RECORD, WAX_SEQUENCE, WAX_REPLAY
+ *                 this record or one before it is refused, as by wax_archive_replay
+ *   WAX_END       the archive ends before this commit, or commit is 0
+ *   WAX_OK        else: the start of out is set
+ *
+ *   uint8_t counts[WAX_LONGEST_COUNTS];
+ *   if (wax_counts_at(archive, length, 120, counts, sizeof counts) == WAX_OK) { ... }
+ */
+uint32_t wax_counts_at(const uint8_t *archive, size_t length, uint32_t commit, uint8_t *out, size_t out_length);
+uint32_t wax_service_at(const uint8_t *archive, size_t length, uint32_t commit, uint64_t *out, size_t out_length);
+
+/*
+ * Plays the first record of these bytes, as wax_playback_record does, and shows it as either reader does. For a fresh line values and
+ * last are 0; neither may be NULL. Numbers as wax_playback_record, and before them WAX_BUFFER as above.
+ *
+ *   while (at < length && wax_counts_record(archive + at, length - at, values, &last, counts, sizeof counts) == WAX_OK) {
+ *       fwrite(counts, 1, WAX_COUNTS_LENGTH(counts[4] + 256 * counts[5]), file);
+ *       at += WAX_RECORD_LENGTH(archive[at] + 256 * archive[at + 1], archive[at + 2] + 256 * archive[at + 3]);
+ *   }
+ */
+uint32_t wax_counts_record(const uint8_t *bytes, size_t length, uint64_t *values, uint32_t *last, uint8_t *out, size_t out_length);
+uint32_t wax_service_record(const uint8_t *bytes, size_t length, uint64_t *values, uint32_t *last, uint64_t *out, size_t out_length);
+
+/*
+ * The counts at position at of a counts file, whose last commit number before them is last: WAX_COUNTS_FIELDS numbers.
+ *
+ *   WAX_BUFFER    fewer of them fit
+ *   WAX_SHORT     the file ends inside the counts, or at is behind it
+ *   WAX_RECORD    more than 256 writes, or addresses that do not rise strictly
+ *   WAX_SEQUENCE  the commit number is not last + 1
+ *   WAX_END       at is the file's end
+ */
+uint32_t wax_counts_read(const uint8_t *file, size_t length, size_t at, uint32_t last, uint64_t *fields, size_t fields_length);
+
+/*
+ * Write i, from 0, of the counts of so many writes at position at: address and value, as wax_archive_entry gives an entry. Only bounds
+ * are tested: call it for counts that wax_counts_read has accepted.
+ *
+ *   WAX_BUFFER    fewer than WAX_ENTRY_FIELDS fit
+ *   WAX_END       there is no such write
+ */
+uint32_t wax_counts_entry(const uint8_t *file, size_t length, size_t at, uint32_t writes, uint32_t i, uint64_t *entry,
+                          size_t entry_length);
+
+/*
  * STATIONS
  *
  * A station's state is WAX_STATION_LENGTH bytes that the host keeps and lends to every call (docs/STATE.md has their meaning).

@@ -7,6 +7,7 @@ pub mod archive;
 pub mod block;
 pub mod buffers;
 pub mod chart;
+pub mod counts;
 #[cfg(feature = "proved")]
 pub mod ffi;
 pub mod generate;

@@ -43,7 +43,7 @@ pub fn archive_read(archive: &[u8], at: usize, last: u32, fields: &mut [u64]) ->
     }
 }
 
-fn fields_of(at: usize, view: &View) -> [u64; FIELDS] {
+pub fn fields_of(at: usize, view: &View) -> [u64; FIELDS] {
     let header = &view.header;
     [
         (at + view.length()) as u64,

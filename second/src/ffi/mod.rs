@@ -1,6 +1,7 @@
 //! The proved library's C interface, and safe wrappers over it. Must say the same as `include/waxwingrack.h`.
 
 pub mod blocks;
+pub mod counts;
 pub mod ends;
 pub mod licence;
 pub mod order;

@@ -1,9 +1,10 @@
-//! Check, replay, licence, compare and writer over one archive: the second implementation, the proved library, a plain copy.
+//! Check, replay, licence, compare, counts and writer over one archive: the second implementation, the proved library, a plain copy.
 
 use crate::measure::{time, Times};
 use second::archive::Playback;
+use second::counts::HEADER;
 use second::licence::{self, Step};
-use second::record::{self, Header, View};
+use second::record::{self, Header, View, ENTRY};
 use second::{ffi, numbers};
 use std::cell::RefCell;
 use std::hint::black_box;
@@ -75,6 +76,29 @@ impl Bench {
         );
         assert_eq!(plays, [numbers::OK; 2], "compare: accepted");
         assert_eq!(compared, (numbers::OK, 0, 0), "compare: the same");
+        times
+    }
+
+    /// The counts file, a call for each record.
+    pub fn counts(&self) -> Times {
+        let (mut second, mut proved) = (0, 0);
+        let times = self.time(
+            &mut || {
+                second = counts(
+                    black_box(&self.archive),
+                    &mut self.out.borrow_mut(),
+                    counts_second,
+                )
+            },
+            &mut || {
+                proved = counts(
+                    black_box(&self.archive),
+                    &mut self.out.borrow_mut(),
+                    ffi::counts::counts_record,
+                )
+            },
+        );
+        assert!(second == proved && second > 0, "counts: lengths differ");
         times
     }
 
@@ -171,6 +195,32 @@ fn licence_proved(archive: &[u8], table: &[u8], stretch: (u32, u32)) -> Result<(
         numbers::OK => Ok((frames, fee)),
         number => Err(number),
     }
+}
+
+/// Writes the counts of record behind record; how many bytes they are.
+#[inline(never)]
+fn counts(
+    archive: &[u8],
+    out: &mut [u8],
+    show: impl Fn(&[u8], &mut Playback, &mut [u8]) -> u32,
+) -> usize {
+    let mut playback = Playback::FRESH;
+    let (mut rest, mut length) = (archive, 0);
+    while let Some(claimed) = record::claimed_length(rest) {
+        if show(rest, &mut playback, &mut out[length..]) != numbers::OK {
+            break;
+        }
+        let writes = u16::from_le_bytes([out[length + 4], out[length + 5]]);
+        length += HEADER + ENTRY * usize::from(writes);
+        rest = &rest[claimed..];
+    }
+    length
+}
+
+/// Not inlined: one call for each record, as on the other side.
+#[inline(never)]
+fn counts_second(bytes: &[u8], playback: &mut Playback, out: &mut [u8]) -> u32 {
+    second::counts::counts_record(bytes, playback, out)
 }
 
 trait Writer: Fn(&Header, &[u8], &[u8], &mut [u8]) -> u32 {}

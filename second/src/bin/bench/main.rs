@@ -153,7 +153,7 @@ impl Bench {
         })
     }
 
-    fn rows(&self, records: &'static str, size: Size) -> [Row; 5] {
+    fn rows(&self, records: &'static str, size: Size) -> [Row; 6] {
         let archive = self.archive(size, self.length);
         let megabytes = archive.len() as f64 / MEGABYTE as f64;
         let bench = library::Bench::new(archive, self.rounds);
@@ -162,6 +162,7 @@ impl Bench {
             ("replay", bench.replay()),
             ("licence", bench.licence()),
             ("compare", bench.compare()),
+            ("counts", bench.counts()),
             ("writer", bench.write()),
         ]
         .map(|(work, times)| Row {
@@ -180,7 +181,7 @@ impl Bench {
         println!(
             "Medians of {} rounds in one process, the three taking turns, seed {}.\n\
              Ratios are of times in the same round, below 1 where proved is faster; in brackets the middle half of them.\n\
-             Check and writer: one call for each record on both sides, none inlined. Replay and licence: one call.\n\
+             Check, counts and writer: one call for each record on both sides, none inlined. Replay and licence: one call.\n\
              Compare: one call for the archive and a copy of it; in place of the second implementation stand the library's replays of both.\n\
              Before each timed run the archive was copied once into the output buffer, so no page is met for the first time.\n",
             self.rounds, self.seed
