@@ -3,4 +3,5 @@ pub mod View
 pub mod Record
 pub mod Shown
 pub mod Same
+pub mod Stream
 pub mod File

@@ -124,7 +124,7 @@ module _ (s : List ℕ) (at last : ℕ) (v : List ℕ) where
       on-answer Answer.End e = e
       on-answer (Answer.Refused k) e = e
 
-  numbered : Bytes s → at ≤ length s → (n : ℕ) → replayOf s at last v .answer ≡ Answer.Refused n → 0 < n
+  pub numbered : Bytes s → at ≤ length s → (n : ℕ) → replayOf s at last v .answer ≡ Answer.Refused n → 0 < n
   unfolding replayOf
   numbered hs h n q = on-answer (readOf s at last) refl q
     where

@@ -67,36 +67,26 @@ pub fn service_at(archive: &[u8], commit: u32, out: &mut [u64]) -> u32 {
     unsafe { wax_service_at(archive, length, commit, out, out_length) }
 }
 
+/// A call on a record, with the values and the last commit number that the host keeps.
+type OnRecord<T> =
+    unsafe extern "C" fn(*const u8, usize, *mut [u64; ADDRESSES], *mut u32, *mut T, usize) -> u32;
+
 #[inline]
-pub fn counts_record(bytes: &[u8], playback: &mut Playback, out: &mut [u8]) -> u32 {
+fn on_record<T>(call: OnRecord<T>, bytes: &[u8], kept: &mut Playback, out: &mut [T]) -> u32 {
     let (bytes, length) = lent(bytes);
     let (out, out_length) = lent_mut(out);
-    unsafe {
-        wax_counts_record(
-            bytes,
-            length,
-            &mut playback.values,
-            &mut playback.last,
-            out,
-            out_length,
-        )
-    }
+    let (values, last) = (&mut kept.values, &mut kept.last);
+    unsafe { call(bytes, length, values, last, out, out_length) }
+}
+
+#[inline]
+pub fn counts_record(bytes: &[u8], playback: &mut Playback, out: &mut [u8]) -> u32 {
+    on_record(wax_counts_record, bytes, playback, out)
 }
 
 #[inline]
 pub fn service_record(bytes: &[u8], playback: &mut Playback, out: &mut [u64]) -> u32 {
-    let (bytes, length) = lent(bytes);
-    let (out, out_length) = lent_mut(out);
-    unsafe {
-        wax_service_record(
-            bytes,
-            length,
-            &mut playback.values,
-            &mut playback.last,
-            out,
-            out_length,
-        )
-    }
+    on_record(wax_service_record, bytes, playback, out)
 }
 
 #[inline]
