@@ -11,7 +11,7 @@ use Rattle.sets.specs.Laws.{byB, byEq, eqb-yes, eqb-no, ltb-yes}
 use Rattle.line.specs.All.{All, all-append}
 use Rattle.line.specs.Messages.{pageOf, lastNumber, locking, Work, Up, ReadRequest, WriteRequest, Commit, Abort, Purge, Busy, Done, WrittenSet, Lock, NoLock, ObjectLock, WholeLock, Down, Page, Deescalate, Callback, Committed, Aborted, Invalidate, Sent, To, Rec, Answer, Nothing, Begun, Value, Waits, Written, CommittedAs, AbortedFor, Purged, Refused, Empty}
 use Rattle.line.specs.Station as S
-use Rattle.line.specs.Station.{Station, Did, unless, Wait, Idle, ForRead, ForWrite, ForCommit, waiting, Kept, NotKept, KeptCall, shown, mayWrite, usedAt, usedPage, forCommit, live, ended, fits, checkBegin, checkOpen, checkAddress, checkPurge, dropPages, recordRead, writeLocal, mark, doCallback, doKept, doAllKept, closed, close, undo, ownBegin, readLocal, readAsk, readAs, ownRead, writeAsk, ownWrite, ownCommit, ownAbort, ownPurge, arrive, takeLock, answerWait, onPage, onDeescalate, onCallback, onCommitted, onAborted, onInvalidate, onDown, stationStep}
+use Rattle.line.specs.Station.{Station, Did, unless, Wait, Idle, ForRead, ForWrite, ForCommit, waiting, Kept, NotKept, KeptCall, shown, mayWrite, usedAt, usedPage, forCommit, live, ended, fits, checkBegin, openThen, checkOpen, longRead, longWrite, checkAddress, checkPurge, dropPages, recordRead, writeLocal, mark, doCallback, doKept, doAllKept, closed, close, undo, ownBegin, readLocal, readAsk, readAs, ownRead, writeAsk, ownWrite, ownCommit, ownAbort, ownPurge, arrive, takeLock, answerWait, onPage, onDeescalate, onCallback, onCommitted, onAborted, onInvalidate, onDown, stationStep}
 use Rattle.line.specs.Server.{Server, Serving, Waiter, noWaiter, Want, NoWant, WantRead, WantWrite, WantCommit, unexpected, notice, finish, join, leave, sendPage, abort, informed, write, archive, inform, informFrom, install, serveNow, joinRead, joinWrite, joinCommit, commitNow, unlist, openCall, markBusy, answered, openAsk, loosen, accept, ask, serveRead, concerned, callsFrom, call, grantPage, grantObject, installWaiter, start, serverStep}
 use Rattle.line.specs.Pass.{Atomic, if-keeps, step-keeps}
 use Rattle.line.specs.Line.{World, Op, Begin, Read, Write, Commits, Aborts, Purges, Call, Owner, ServerTakes, StationTakes, Broken, fresh, worldDown, tell, sentTo, carryUp, carryDown, perform, ownerActs, stationTakes, serverTakes, act, run, isRefused}
@@ -228,8 +228,8 @@ module _ (s : Station) (h : StationFits s) where
   unless-fits : (n : ℕ) (d : Did) → (eqb n 0 ≡ true → DidFits d) → DidFits (unless n d s)
   unless-fits n d k = if-did DidFits (eqb n 0) k (λ e. (h, tt))
 
-  address-fits : (a : ℕ) → eqb (checkAddress a s) 0 ≡ true → a < 256
-  address-fits a e = ltb-yes a 256 (address-passed (ltb a 256) (checkOpen s) e)
+  address-fits : (a : ℕ) (long : Bool) → eqb (checkAddress a long s) 0 ≡ true → a < 256
+  address-fits a long e = ltb-yes a 256 (address-passed (ltb a 256) (openThen s (turned long 15 0)) e)
 
   begin-fits : DidFits (ownBegin s)
   unfolding ownBegin
@@ -267,10 +267,12 @@ module _ (s : Station) (h : StationFits s) where
   perform-fits : (op : Op) → FitOp op → DidFits (perform op s)
   unfolding perform ownRead ownWrite ownPurge
   perform-fits Begin k = begin-fits
-  perform-fits (Read a) k = unless-fits (checkAddress a s) _ (λ e. readAs-fits a (address-fits a e) (s .wr a) (s .rd a))
+  perform-fits (Read a) k = unless-fits (checkAddress a (longRead a s) s) _ (λ e. readAs-fits a (address-fits a (longRead a s) e) (s .wr a) (s .rd a))
   perform-fits (Write a v) k =
-      unless-fits (checkAddress a s) _
-      (λ e. if-did DidFits (mayWrite a s) (λ q. (write-fits a v s (address-fits a e) k h, tt)) (λ q. writeAsk-fits a v (address-fits a e) k))
+      unless-fits (checkAddress a (longWrite a s) s) _
+      (λ e.
+      let b = address-fits a (longWrite a s) e in
+      if-did DidFits (mayWrite a s) (λ q. (write-fits a v s b k h, tt)) (λ q. writeAsk-fits a v b k))
   perform-fits Commits k = commit-fits
   perform-fits Aborts k = ownAbort-fits
   perform-fits (Purges p) k = unless-fits (checkPurge p s) _ (λ e. (drop-fits _ s h, (tt, tt)))

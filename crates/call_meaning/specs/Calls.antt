@@ -18,7 +18,7 @@ use Rattle.line.specs.Station as Model
 use Rattle.line.specs.Line.{Op, Begin, Read, Write, Commits, Aborts, Purges, perform}
 use Rattle.line.specs.Bounds.{owner-bound, station-bound}
 use Rattle.line.specs.Fit.{FitStation}
-use Rattle.line.specs.FitCalls.{FitDid, owner-fit, station-fit}
+use Rattle.line.specs.FitCalls.{recorded, FitDid, owner-fit, station-fit}
 use Rattle.message.specs.Layout.{setsFrom, kindOf, stationOf, transactionOf, pagesOf}
 use Rattle.message.specs.Number.{lengthOk, downNumber, kindOk, kindsOk, upNumber}
 use Rattle.message_meaning.specs.Meant.{downOf}
@@ -31,7 +31,7 @@ use Rattle.station_answer.specs.declared.Answer.{Answer}
 use Rattle.station_answer.specs.declared.Answer.the-variants.{Refused, Begun, Value, Waits, Written, Committed, Aborted, Purged, Nothing}
 use Rattle.station_answer.specs.Did.{Did, refuses, said, Outcome, outcome, laid}
 use Rattle.station_delivery.specs.Delivery.{endedB, answerWaitB, onPageB, onDeescalateB, onCallbackB, onCommittedB, onAbortedB, onInvalidateB, onDownB}
-use Rattle.station_owner.specs.Owner.{ready, called, checkBeginB, checkOpenB, checkAddressB, checkPurgeB, commitCalled, ownBeginB, shownB, readLocalB, readAskB, readHereB, readAsB, ownReadB, mayWriteB, writeAskB, writeAsB, ownWriteB, ownAbortB, ownPurgeB}
+use Rattle.station_owner.specs.Owner.{ready, called, checkBeginB, checkOpenB, longReadB, longWriteB, checkAddressB, checkPurgeB, commitCalled, ownBeginB, shownB, readLocalB, readAskB, readHereB, readAsB, ownReadB, mayWriteB, writeAskB, writeAsB, ownWriteB, ownAbortB, ownPurgeB}
 use Rattle.station_owner.specs.Facts.{ready-is}
 use Rattle.station.specs.Station.{checkStepB, stationStepB}
 use Rattle.station_meaning.specs.Meant.{meant, Is}
@@ -181,7 +181,7 @@ module _ {i : ℕ} {s : List ℕ} {m : Station} (h : Is i s m) (q : Sound i m) (
       go Begin f l k = called-told _ _ l (begin-means h q) k
       go (Read a) f l k = called-told _ _ l (read-means h q a) k
       go (Write a v) f l k = called-told _ _ l (write-means h q a v f) k
-      go Commits f l k = commit-told (commit-called-means h q o c r) k
+      go Commits f l k = commit-told (commit-called-means h q (recorded (z .few)) o c r) k
       go Aborts f l k = called-told _ _ l (abort-means h q) k
       go (Purges p) f l k = called-told _ _ l (purge-means h q p) k
 
@@ -291,13 +291,16 @@ module _ (s : List ℕ) where
   unfolding ownReadB readAsB readHereB readLocalB readAskB
   read-still a =
       let here = either (shownB a s) (taken refl) (taken refl) in
-      either (eqb (checkAddressB a s) 0)
+      let n = checkAddressB a (longReadB a s) s in
+      either (eqb n 0)
       (either (member s writtenSetFrom a) (taken refl) (either (member s readSetFrom a) (taken refl) here))
-      (refusal (checkAddressB a s))
+      (refusal n)
 
   write-still : (a v : ℕ) → Still s (ownWriteB a v s)
   unfolding ownWriteB writeAsB writeAskB
-  write-still a v = either (eqb (checkAddressB a s) 0) (either (mayWriteB a s) (taken refl) (taken refl)) (refusal (checkAddressB a s))
+  write-still a v =
+      let n = checkAddressB a (longWriteB a s) s in
+      either (eqb n 0) (either (mayWriteB a s) (taken refl) (taken refl)) (refusal n)
 
   abort-still : Still s (ownAbortB s)
   unfolding ownAbortB

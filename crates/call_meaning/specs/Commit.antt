@@ -12,12 +12,13 @@ use Rattle.lists.specs.Stores.{sets-front}
 use Rattle.lists.specs.Tests.{and-r}
 use Rattle.sets.specs.Base.{Val}
 use Rattle.sets.specs.Laws.{byB, byEq, eqb-yes, ltb-yes, ltb-no}
-use Rattle.entries.specs.Entries.{entriesFrom, entriesOf, FitVal, entries-count}
+use Rattle.entries.specs.Entries.{entriesFrom, entriesOf, FitVal, entries-size}
 use Rattle.record_meaning.specs.Layout.{length-bytesOf}
 use Rattle.line.specs.Messages.{locking, Up, Commit}
 use Rattle.line.specs.Messages as Line
 use Rattle.line.specs.Station.{Station, ForCommit, usedPage, workOf, checkOpen, ownCommit}
 use Rattle.line.specs.Station as Model
+use Rattle.line.specs.Fit.{LimitedWork}
 use Rattle.message.specs.Number.{kindsOk}
 use Rattle.message_meaning.specs.Numbers.{numbers, length-numbers}
 use Rattle.message.specs.Stores.{length-up}
@@ -119,8 +120,8 @@ module _ {i : ℕ} {s : List ℕ} {m : Station} (h : Is i s m) where
       (λ e. let l = ltb-yes a 256 e in rw (wrote-at h a l) (fit-if (member s writtenSetFrom a) (writtenValue s a) (writtenValue-lt h a l)))
       (λ e. rw (wrote-high h a (ltb-no a 256 e)) tt)
 
-  work-fits : Sound i m → m .opened ≡ true → WorkFits (workOf m)
-  work-fits q o =
+  work-fits : Sound i m → LimitedWork (workOf m) → m .opened ≡ true → WorkFits (workOf m)
+  work-fits q f o =
       record {
         transaction-not-0 = q .counted o;
         transaction-fits = rw (← number-at h) (number-lt h);
@@ -130,19 +131,20 @@ module _ {i : ℕ} {s : List ℕ} {m : Station} (h : Is i s m) where
         writes-fit = wrote-fits;
         versions-fit = version-fits;
         versions-within = version-high;
+        few = f;
       }
 
   -- what a server that knows the station's kind reads
-  pub work-is : Sound i m → m .opened ≡ true → (kinds : List ℕ) → kindsOk kinds ≡ true → getD kinds i 0 ≡ m .kind
+  pub work-is : Sound i m → LimitedWork (workOf m) → m .opened ≡ true → (kinds : List ℕ) → kindsOk kinds ≡ true → getD kinds i 0 ≡ m .kind
       → Reads kinds i (length (commitBytes s)) (commitBytes s) (Commit (workOf m))
-  work-is q o kinds ok k =
-      let r = work-sent kinds i (m .kind) (usedPagesB s) (workOf m) ok (q .own) k (work-fits q o) (usedPages-lt s) (λ p l. ap (λ (f : ℕ → Bool). f p) (usedPages-is h)) (λ p l. version-unused q p) in
+  work-is q f o kinds ok k =
+      let r = work-sent kinds i (m .kind) (usedPagesB s) (workOf m) ok (q .own) k (work-fits q f o) (usedPages-lt s) (λ p l. ap (λ (g : ℕ → Bool). g p) (usedPages-is h)) (λ p l. version-unused q p) in
       rw commit-is
       (record { length-is = refl; bytes-are = r .bytes-are; accepted = r .accepted; station-is = r .station-is; meant = r .meant })
 
-  -- "8 messages and 4,864 commit bytes (station)"
-  commit-most : length (commitBytes s) ≤ commitRoom
-  commit-most =
+  -- document 02, wish 1: "a commit and the station's buffer for it 1,120"
+  pub commit-most : LimitedWork (workOf m) → length (commitBytes s) ≤ commitRoom
+  commit-most f =
       let r = recordUp i (m .kind) (workOf m) in
       rw (
         commit-is,
@@ -152,12 +154,12 @@ module _ {i : ℕ} {s : List ℕ} {m : Station} (h : Is i s m) where
         length-numbers versionWidth ((workOf m) .versions) 32 0,
         length-bytesOf r,
       )
-      (omega (arith, entries-count (m .rd), entries-count (m .wr)))
+      (omega (arith, entries-size (m .rd), entries-size (m .wr), f .reads-few, f .writes-few))
 
-  commit-front : (c : List ℕ) → commitRoom ≤ length c → take (length (commitBytes s)) (sets c 0 (commitBytes s)) ≡ commitBytes s
-  commit-front c l =
+  commit-front : LimitedWork (workOf m) → (c : List ℕ) → commitRoom ≤ length c → take (length (commitBytes s)) (sets c 0 (commitBytes s)) ≡ commitBytes s
+  commit-front f c l =
       let x = commitBytes s in
-      rw (sets-front x c (length x) refl (omega (arith, commit-most))) (take-at x (drop (length x) c) (length x) refl)
+      rw (sets-front x c (length x) refl (omega (arith, commit-most f))) (take-at x (drop (length x) c) (length x) refl)
 
 -- THE CALL
 
@@ -180,7 +182,7 @@ commit-room : (s o c : List ℕ) → ready s o c ≡ true → commitRoom ≤ len
 unfolding ready
 commit-room s o c r = leb-true commitRoom (length c) (and-r (valid s && leb stationRoom (length o)) (leb commitRoom (length c)) r)
 
-module _ {i : ℕ} {s : List ℕ} {m : Station} (h : Is i s m) (q : Sound i m) (o c : List ℕ) where
+module _ {i : ℕ} {s : List ℕ} {m : Station} (h : Is i s m) (q : Sound i m) (f : LimitedWork (workOf m)) (o c : List ℕ) where
   -- "Commit sends 3 and waits for 21 or 22."
   pub commit-means : commitRoom ≤ length c → checkOpenB s ≡ 0 → CommitMeans i (commits s o c) (ownCommit m)
   unfolding ownCommit
@@ -192,7 +194,7 @@ module _ {i : ℕ} {s : List ℕ} {m : Station} (h : Is i s m) (q : Sound i m) (
         state = forCommit-is h;
         sound = sound-wait ForCommit q;
         no-messages = refl;
-        sent = λ kinds ok k. rw (commit-front h c l) (work-is h q (open-passed m n) kinds ok k);
+        sent = λ kinds ok k. rw (commit-front h f c l) (work-is h q f (open-passed m n) kinds ok k);
       })
 
   -- .. or is refused with 7 or 8

@@ -7,22 +7,23 @@ use mathlib.Core.Logic.{_≢_}
 use native.Mathlib.Omega.{arith}
 use lib.Dec.{eqb, ltb}
 use lib.Pow.{pow-lt}
-use Rattle.sets.specs.Base.{turned, none, some}
+use Rattle.sets.specs.Base.{turned, none, some, has}
+use Rattle.sets.specs.Size.{size, size-same}
 use Rattle.sets.specs.Laws.{byB, eqb-yes, eqb-no, ltb-yes, not-no}
 use Rattle.cells.specs.Upd.{cond-rel, branch-rel}
 use Rattle.cells.specs.Bits.{tb-pow}
 use Rattle.line.specs.Messages.{locking, lastNumber, ReadRequest, WriteRequest, Abort}
 use Rattle.line.specs.Messages as Line
-use Rattle.line.specs.Station.{Station, ForRead, ForWrite, waiting, requested, usedPage, shown, mayWrite, unless, checkBegin, checkOpen, checkAddress, checkPurge, ownBegin, readLocal, readAsk, readAs, ownRead, writeLocal, writeAsk, ownWrite, ownAbort, ownPurge}
+use Rattle.line.specs.Station.{Station, ForRead, ForWrite, waiting, requested, usedPage, shown, mayWrite, unless, checkBegin, openThen, checkOpen, longRead, longWrite, checkAddress, checkPurge, ownBegin, readLocal, readAsk, readAs, ownRead, writeLocal, writeAsk, ownWrite, ownAbort, ownPurge}
 use Rattle.line.specs.Station as Model
 use Rattle.message_meaning.specs.Sent.{read-sent, write-sent, abort-sent, purge-sent}
-use Rattle.station_state.specs.Layout.{number, member, writtenSetFrom, readSetFrom, readValue, writtenValue}
+use Rattle.station_state.specs.Layout.{number, member, countIn, writtenSetFrom, readSetFrom, readValue, writtenValue}
 use Rattle.station_answer.specs.declared.Answer.the-variants.{Aborted}
 use Rattle.station_answer.specs.Did.{Did}
 use Rattle.station_answer.specs.Ask.{lockingB}
-use Rattle.station_owner.specs.Owner.{unlessB, checkBeginB, checkOpenB, checkAddressB, checkPurgeB, ownBeginB, requestB, shownB, readLocalB, readAskB, readHereB, readAsB, ownReadB, mayWriteB, asksB, writeAskB, writeAsB, ownWriteB, abortsB, ownAbortB, ownPurgeB}
+use Rattle.station_owner.specs.Owner.{unlessB, checkBeginB, openThenB, checkOpenB, longReadB, longWriteB, checkAddressB, checkPurgeB, ownBeginB, requestB, shownB, readLocalB, readAskB, readHereB, readAsB, ownReadB, mayWriteB, asksB, writeAskB, writeAsB, ownWriteB, abortsB, ownAbortB, ownPurgeB}
 use Rattle.station_meaning.specs.Meant.{Is}
-use Rattle.station_meaning.specs.Tests.{station-at, kind-at, number-at, number-lt, open-at, waiting-at, requested-at, cached-at, whole-at, lock-at, unav-at, read-at, wrote-at, copy-at, usedPage-at}
+use Rattle.station_meaning.specs.Tests.{has-if, station-at, kind-at, number-at, number-lt, open-at, waiting-at, requested-at, cached-at, whole-at, lock-at, unav-at, read-at, wrote-at, copy-at, usedPage-at}
 use Rattle.station_meaning.specs.Changes.{begin-is, recordRead-is, writeLocal-is, forRead-is, forWrite-is}
 use Rattle.station_meaning.specs.Pages.{drop-as}
 use Rattle.call_meaning.specs.Relation.{Sound, ReadAs, AllRead, Means}
@@ -35,13 +36,47 @@ module _ {i : ℕ} {s : List ℕ} {m : Station} (h : Is i s m) where
   unfolding checkBeginB
   checkBegin-at = rw (waiting-at h, open-at h, number-at h)
 
-  pub checkOpen-at : checkOpenB s ≡ checkOpen m
-  unfolding checkOpenB
-  checkOpen-at = rw (waiting-at h, open-at h)
+  openThen-at : (n : ℕ) → openThenB s n ≡ openThen m n
+  unfolding openThenB
+  openThen-at n = rw (waiting-at h, open-at h)
 
-  pub checkAddress-at : (a : ℕ) → checkAddressB a s ≡ checkAddress a m
+  pub checkOpen-at : checkOpenB s ≡ checkOpen m
+  checkOpen-at = openThen-at 0
+
+  -- as much is recorded as the sets have
+  reads-count : countIn s readSetFrom ≡ size 256 (λ a. has (m .rd a))
+  unfolding countIn
+  reads-count = size-same 256 _ _ (λ a l. rw (read-at h a l) (sym (has-if (member s readSetFrom a) (readValue s a))))
+
+  writes-count : countIn s writtenSetFrom ≡ size 256 (λ a. has (m .wr a))
+  unfolding countIn
+  writes-count = size-same 256 _ _ (λ a l. rw (wrote-at h a l) (sym (has-if (member s writtenSetFrom a) (writtenValue s a))))
+
+  longRead-at : (a : ℕ) → a < 256 → longReadB a s ≡ longRead a m
+  unfolding longReadB
+  longRead-at a l =
+      rw (
+        read-at h a l,
+        wrote-at h a l,
+        has-if (member s readSetFrom a) (readValue s a),
+        has-if (member s writtenSetFrom a) (writtenValue s a),
+        ← reads-count,
+      )
+
+  longWrite-at : (a : ℕ) → a < 256 → longWriteB a s ≡ longWrite a m
+  unfolding longWriteB
+  longWrite-at a l = rw (wrote-at h a l, has-if (member s writtenSetFrom a) (writtenValue s a), ← writes-count)
+
+  -- 4 comes before the others
+  checkAddress-at : (a : ℕ) (long long′ : Bool) → (a < 256 → long ≡ long′) → checkAddressB a long s ≡ checkAddress a long′ m
   unfolding checkAddressB
-  checkAddress-at a = rw checkOpen-at
+  checkAddress-at a long long′ e = byB (ltb a 256) (λ l. rw (l, e (ltb-yes a 256 l), openThen-at (turned long′ 15 0))) (λ l. rw l)
+
+  pub checkRead-at : (a : ℕ) → checkAddressB a (longReadB a s) s ≡ checkAddress a (longRead a m) m
+  checkRead-at a = checkAddress-at a (longReadB a s) (longRead a m) (longRead-at a)
+
+  pub checkWrite-at : (a : ℕ) → checkAddressB a (longWriteB a s) s ≡ checkAddress a (longWrite a m) m
+  checkWrite-at a = checkAddress-at a (longWriteB a s) (longWrite a m) (longWrite-at a)
 
   pub checkPurge-at : (p : ℕ) → checkPurgeB p s ≡ checkPurge p m
   unfolding checkPurgeB
@@ -57,15 +92,19 @@ turned-no true n r l e = absurd (l e)
 turned-no false n r l e = (refl, e)
 
 module _ (m : Station) where
-  pub open-passed : checkOpen m ≡ 0 → m .opened ≡ true
-  open-passed e =
-      let w = turned-no (waiting (m .wait)) 7 (turned (not (m .opened)) 8 0) (omega arith) e in
-      not-no (m .opened) ((turned-no (not (m .opened)) 8 0 (omega arith) (w .1)) .0)
+  then-passed : (n : ℕ) → openThen m n ≡ 0 → m .opened ≡ true
+  then-passed n e =
+      let w = turned-no (waiting (m .wait)) 7 (turned (not (m .opened)) 8 n) (omega arith) e in
+      not-no (m .opened) ((turned-no (not (m .opened)) 8 n (omega arith) (w .1)) .0)
 
-  address-passed : (a : ℕ) → checkAddress a m ≡ 0 → (a < 256) × (m .opened ≡ true)
-  address-passed a e =
-      let r = turned-no (not (ltb a 256)) 4 (checkOpen m) (omega arith) e in
-      (ltb-yes a 256 (not-no (ltb a 256) (r .0)), open-passed (r .1))
+  pub open-passed : checkOpen m ≡ 0 → m .opened ≡ true
+  open-passed = then-passed 0
+
+  address-passed : (a : ℕ) (long : Bool) → checkAddress a long m ≡ 0 → (a < 256) × (m .opened ≡ true)
+  address-passed a long e =
+      let n = turned long 15 0 in
+      let r = turned-no (not (ltb a 256)) 4 (openThen m n) (omega arith) e in
+      (ltb-yes a 256 (not-no (ltb a 256) (r .0)), then-passed n (r .1))
 
   begin-passed : checkBegin m ≡ 0 → m .num ≢ lastNumber
   begin-passed e =
@@ -153,8 +192,8 @@ module _ {i : ℕ} {s : List ℕ} {m : Station} (h : Is i s m) (q : Sound i m) w
   pub read-means : (a : ℕ) → Means i (ownReadB a s) (ownRead a m)
   unfolding ownReadB ownRead
   read-means a =
-      unless-means (checkAddressB a s) (checkAddress a m) _ _ (checkAddress-at h a)
-      (λ e. let p = address-passed m a e in readAs-means a (p .0) (p .1))
+      unless-means (checkAddressB a (longReadB a s) s) (checkAddress a (longRead a m) m) _ _ (checkRead-at h a)
+      (λ e. let p = address-passed m a (longRead a m) e in readAs-means a (p .0) (p .1))
 
   -- WRITE
 
@@ -181,8 +220,8 @@ module _ {i : ℕ} {s : List ℕ} {m : Station} (h : Is i s m) (q : Sound i m) w
   pub write-means : (a v : ℕ) → v < 2 ^ 64 → Means i (ownWriteB a v s) (ownWrite a v m)
   unfolding ownWriteB ownWrite
   write-means a v lv =
-      unless-means (checkAddressB a s) (checkAddress a m) _ _ (checkAddress-at h a)
-      (λ e. let p = address-passed m a e in write-here a v (p .0) lv (p .1))
+      unless-means (checkAddressB a (longWriteB a s) s) (checkAddress a (longWrite a m) m) _ _ (checkWrite-at h a)
+      (λ e. let p = address-passed m a (longWrite a m) e in write-here a v (p .0) lv (p .1))
 
   -- ABORT
 

@@ -1,33 +1,35 @@
 -- Number 1 of a station's state: a state that passes means a station that fits, a state that means one passes; and a fresh one.
-use Prim.Native.Nat.{ℕ, zero, suc, _≤_, _<_, _/_, _%_, _^_}
+use Prim.Native.Nat.{ℕ, zero, suc, _+_, _≤_, _<_, _/_, _%_, _^_}
 use mathlib.Core.Path.{_≡_, refl, sym, ap, subst, _∙_, fun-ext}
-use mathlib.Core.Bool.{Bool, true, false, not, _&&_, _||_, false≢true}
+use mathlib.Core.Bool.{Bool, true, false, not, _&&_, _||_, or-false, false≢true}
 use mathlib.Core.List.{List}
 use mathlib.Core.Logic.{_≢_}
 use native.Mathlib.Omega.{arith}
 use lib.Dec.{eqb, ltb}
 use lib.ListN.{length, getD, set, replicate, length-replicate}
-use borrow.Author.Tests.{eqb-true, eqb-false, eq-eqb, ne-eqb, le-leb, not-false, not-true}
+use borrow.Author.Tests.{eqb-true, eqb-false, eq-eqb, ne-eqb, lt-ltb, le-leb, not-false, not-true}
 use Rattle.lists.specs.Tests.{and-l, and-r}
 use Rattle.sets.specs.Base.{Val, none, has, noneAt, nowhere, zeros}
 use Rattle.sets.specs.Laws.{byB, byEq, eqb-same, eqb-yes, eqb-no, ltb-yes, ltb-no}
+use Rattle.sets.specs.Size.{size, size-same, size-empty, size-joined, size-new, size-old}
+use Rattle.limits.specs.Limit.{limit}
 use Rattle.cells.specs.Num.{AllBytes}
 use Rattle.cells.specs.Bits.{tb, tb-zero, tb-test, tb-tells}
 use Rattle.cells.specs.Cells.{Cells, view, view-zero, view-col, view-row, cell-lt, upd3, Holds, begin, put8, get8, get32}
 use Rattle.line.specs.Messages.{locking}
-use Rattle.line.specs.Station.{Station, Wait, ForRead, waiting, forRead, Kept, NotKept, KeptCall, setCached, setUnav, setRd, setWr, setOl, setWl, freshStation}
+use Rattle.line.specs.Station.{Station, Wait, Idle, ForRead, waiting, forRead, forWrite, Kept, NotKept, KeptCall, setCached, setUnav, setRd, setWr, setOl, setWl, freshStation}
 use Rattle.line.specs.Station as Model
-use Rattle.line.specs.Fit.{Works, Locked, KeptFits, Callbacks, FitStation}
+use Rattle.line.specs.Fit.{Works, Locked, KeptFits, Callbacks, LimitedStation, FitStation}
 use Rattle.line.specs.FitCalls.{fit-new}
-use Rattle.station_state.specs.Layout.{keptFrom, wholeFrom, readSetFrom, writtenSetFrom, locksFrom, stationFrom, kindFrom, openFrom, waitFrom, keptCell, wholeCell, locksCell, stationCell, kindCell, openCell, waitCell, table, stateLength, keptOf, number, whole, station, kind, opened, wait, address, namedFrom, readValue, writtenValue, hasBit, member, noneIn}
-use Rattle.station_state.specs.Valid.{fieldsOk, ownKept, closedOk, firstOk, worksOk, locklessOk, holdsOk, valid, freshState}
-use Rattle.station_state.specs.Facts.{Lockless, Ranged, valid-ranged}
+use Rattle.station_state.specs.Layout.{keptFrom, wholeFrom, readSetFrom, writtenSetFrom, locksFrom, stationFrom, kindFrom, openFrom, waitFrom, keptCell, wholeCell, locksCell, stationCell, kindCell, openCell, waitCell, table, stateLength, keptOf, number, whole, station, kind, opened, wait, address, namedFrom, readValue, writtenValue, hasBit, member, countIn, noneIn}
+use Rattle.station_state.specs.Valid.{fieldsOk, ownKept, closedOk, firstOk, fewIn, limitedOk, worksOk, locklessOk, holdsOk, valid, freshState}
+use Rattle.station_state.specs.Facts.{Lockless, Few, Ranged, valid-ranged}
 use Rattle.station_state.specs.Sets.{none-member, members-none, none-numbers, numbers-none}
 use Rattle.station_callbacks.specs.Callbacks.{setsAt}
 use Rattle.station_answer.specs.Did.{Did}
 use Rattle.station_meaning.specs.Meant.{within, valueIf, keptIf, meantC, meant, Is, start}
 use Rattle.station_meaning.specs.Named.{named}
-use Rattle.station_meaning.specs.Tests.{has-if, station-at, kind-at, number-at, open-at, open-le, wait-le, address-lt, wait-is, waiting-at, forRead-at, whole-at, lock-at, read-at, wrote-at, kept-at, read-high, wrote-high}
+use Rattle.station_meaning.specs.Tests.{has-if, station-at, kind-at, number-at, open-at, open-le, wait-le, address-lt, wait-is, waiting-at, forRead-at, forWrite-at, whole-at, lock-at, read-at, wrote-at, kept-at, read-high, wrote-high}
 use Rattle.call_meaning.specs.Relation.{Sound, Means}
 
 -- A STATE THAT PASSES
@@ -58,7 +60,33 @@ none-bit : (k : ℕ) → hasBit 0 k ≡ false
 unfolding hasBit
 none-bit k = refl
 
+-- THE LIMIT: the sets from `at`, with the object waited for if that is out
+
+abbrev withOut : List ℕ → ℕ → Bool → ℕ → Bool
+withOut s at out a = member s at a || (out && eqb a (address s))
+
+with-few : (s : List ℕ) (at : ℕ) (out : Bool) → Few s at out → size 256 (withOut s at out) ≤ limit
+unfolding countIn
+with-few s at true f =
+    byB (member s at (address s)) (λ e. omega (arith, size-old 256 (member s at) (address s) e, f .most))
+    (λ e. omega (arith, size-joined 256 (member s at) (address s), f .room refl e))
+with-few s at false f = omega (arith, size-same 256 (withOut s at false) (member s at) (λ a l. or-false (member s at a)), f .most)
+
+few-with : (s : List ℕ) (at : ℕ) (out : Bool) → address s < 256 → size 256 (withOut s at out) ≤ limit → fewIn s at out ≡ true
+unfolding fewIn countIn
+few-with s at true l f =
+    byB (member s at (address s)) (λ e. rw e (le-leb (size 256 (member s at)) limit (omega (arith, size-old 256 (member s at) (address s) e, f))))
+    (λ e. rw e (lt-ltb (size 256 (member s at)) limit (omega (arith, size-new 256 (member s at) (address s) l e, f))))
+few-with s at false l f = le-leb (size 256 (member s at)) limit (omega (arith, size-same 256 (withOut s at false) (member s at) (λ a k. or-false (member s at a)), f))
+
 module _ {i : ℕ} {s : List ℕ} {m : Station} (h : Is i s m) where
+  -- what the model counts is what the bytes have
+  reads-with : size 256 (λ a. has (m .rd a) || forRead (m .wait) a) ≡ size 256 (withOut s readSetFrom (eqb (wait s) 1))
+  reads-with = size-same 256 _ _ (λ a l. rw (read-at h a l, has-if (member s readSetFrom a) (readValue s a), ← forRead-at h a))
+
+  writes-with : size 256 (λ a. has (m .wr a) || forWrite (m .wait) a) ≡ size 256 (withOut s writtenSetFrom (eqb (wait s) 2))
+  writes-with = size-same 256 _ _ (λ a l. rw (wrote-at h a l, has-if (member s writtenSetFrom a) (writtenValue s a), ← forWrite-at h a))
+
   lock-high : (a : ℕ) → 256 ≤ a → m .ol a ≡ false
   lock-high a l = sym (ap (λ (n : Station). n .ol a) (h .is)) ∙ rw (view-col table 0 s locksCell 0 (a / 8) (omega arith), tb-zero (a % 8))
 
@@ -110,6 +138,21 @@ module _ {i : ℕ} {s : List ℕ} {m : Station} (h : Is i s m) where
           first = read-out;
         }
 
+    -- within the limit: an open transaction by its bytes, and of none there is nothing
+    few-open : m .opened ≡ true → LimitedStation (m .rd) (m .wr) (m .wait)
+    few-open e =
+        record {
+          reads-few = rw reads-with (with-few s readSetFrom (eqb (wait s) 1) (r .reads-few (open-not e)));
+          writes-few = rw writes-with (with-few s writtenSetFrom (eqb (wait s) 2) (r .writes-few (open-not e)));
+        }
+
+    few-closed : m .opened ≡ false → LimitedStation (m .rd) (m .wr) (m .wait)
+    few-closed e =
+        record {
+          reads-few = omega (arith, size-empty 256 (λ a. has (m .rd a) || forRead (m .wait) a) (λ a. rw (works-of .unread e a, works-of .idle e)));
+          writes-few = omega (arith, size-empty 256 (λ a. has (m .wr a) || forWrite (m .wait) a) (λ a. rw (works-of .unwritten e a, works-of .idle e)));
+        }
+
     -- whoever holds something is an open locking station
     holding : {b : Bool} → ((locking (m .kind) && m .opened) ≡ false → b ≡ false) → b ≡ true → (locking (m .kind) && m .opened) ≡ true
     holding {b} f e = byB (locking (m .kind) && m .opened) (λ t. t) (λ t. absurd (false≢true (sym (f t) ∙ e)))
@@ -157,7 +200,7 @@ module _ {i : ℕ} {s : List ℕ} {m : Station} (h : Is i s m) where
         and-false false = refl
 
     fit-of : FitStation i m
-    fit-of = record { works = works-of; locked = locked-of; callbacks = callbacks-of }
+    fit-of = record { works = works-of; few = byB (m .opened) few-open few-closed; locked = locked-of; callbacks = callbacks-of }
 
 pub valid-means : (s : List ℕ) → AllBytes s → valid s ≡ true → Is (station s) s (meant s) × Sound (station s) (meant s) × FitStation (station s) (meant s)
 valid-means s b v =
@@ -188,6 +231,15 @@ module _ {i : ℕ} {s : List ℕ} {m : Station} (h : Is i s m) (q : Sound i m) (
   unwritten-none : m .opened ≡ false → noneIn s writtenSetFrom ≡ true
   unwritten-none e = members-none s (h .bytes) writtenSetFrom (λ a l. member-of _ _ (wrote-at h a l) (f .works .unwritten e a))
 
+  limited-ok : limitedOk s ≡ true
+  unfolding limitedOk
+  limited-ok =
+      let l = address-lt h in
+      rw (
+        few-with s readSetFrom (eqb (wait s) 1) l (rw (← reads-with h) (f .few .reads-few)),
+        few-with s writtenSetFrom (eqb (wait s) 2) l (rw (← writes-with h) (f .few .writes-few)),
+      )
+
   works-ok : worksOk s ≡ true
   unfolding worksOk closedOk firstOk
   works-ok =
@@ -205,8 +257,8 @@ module _ {i : ℕ} {s : List ℕ} {m : Station} (h : Is i s m) (q : Sound i m) (
       let l = address-lt h in
       let read : member s readSetFrom (address s) ≡ false = member-of _ _ (read-at h (address s) l) (u .0) in
       let written : member s writtenSetFrom (address s) ≡ false = member-of _ _ (wrote-at h (address s) l) (u .1) in
-      rw (e, w, read, written))
-      (λ w. rw (e, w)))
+      rw (e, w, read, written, limited-ok))
+      (λ w. rw (e, w, limited-ok)))
 
   module _ (e : (locking (m .kind) && m .opened) ≡ false) where
     neither : {b : Bool} → (b ≡ true → m .opened ≡ true) → (b ≡ true → locking (m .kind) ≡ true) → b ≡ false

@@ -1,16 +1,17 @@
 -- What loops build: whether one passes, a mask, a count.
 use mathlib.Core.Path.{_≡_, refl, sym, _∙_}
 use mathlib.Core.Bool.{Bool, true, false, cond, _&&_, _||_, and-true, and-false, or-true, or-false}
-use Prim.Native.Nat.{ℕ, zero, suc, _+_, _≤_, _<_, _^_}
+use Prim.Native.Nat.{ℕ, zero, suc, _+_, _/_, _%_, _≤_, _<_, _^_}
 use native.Mathlib.Nat.{add-comm}
 use native.Mathlib.Omega.{arith}
 use lib.Dec.{eqb, ltb}
 use lib.Bits.{bitOr, or-lt}
+use lib.Count.{ones, ones-step}
 use lib.Pow.{pow-pos}
 use borrow.Author.Tests.{lt-ltb, le-ltb}
 use Rattle.sets.specs.Base.{any}
 use Rattle.sets.specs.Laws.{byB, byEq, eqb-yes, eqb-no}
-use Rattle.sets.specs.Size.{size, size-most}
+use Rattle.sets.specs.Size.{size, size-most, size-first}
 use Rattle.cells.specs.Upd.{ltb-suc}
 use Rattle.cells.specs.Bits.{tb, tb-zero, tb-or, tb-pow}
 
@@ -80,3 +81,21 @@ pub rank-same : (f g : ℕ → Bool) (n : ℕ) → ((i : ℕ) → i < n → f i 
 unfolding rank
 rank-same f g zero h = refl
 rank-same f g (suc n) h = rw (rank-same f g n (λ i l. h i (omega arith)), h n (omega arith))
+
+-- how many bits of a number are set, as the machine counts them
+
+none-set : ones 0 ≡ 0
+unfolding ones
+none-set = refl
+
+bit-counts : (r : ℕ) → r < 2 → cond (eqb r 1) 1 0 ≡ r
+bit-counts zero l = refl
+bit-counts (suc zero) l = refl
+bit-counts (suc (suc r)) l = absurd (omega arith)
+
+pub ones-size : (n x : ℕ) → x < 2 ^ n → ones x ≡ size n (tb x)
+unfolding size tb
+ones-size zero x l = let e : x ≡ 0 = omega arith in rw (e, none-set)
+ones-size (suc n) x l =
+    let rest : ones (x / 2) ≡ size n (tb (x / 2)) = ones-size n (x / 2) (omega arith) in
+    ones-step x ∙ rw rest (omega (arith, bit-counts (x % 2) (omega arith), size-first n (tb x)))

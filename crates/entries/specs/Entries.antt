@@ -1,13 +1,14 @@
 -- What was read or written by address, as document 01's entries, rising; and nothing is lost by that.
 use Prim.Native.Nat.{ℕ, zero, suc, _+_, _≤_, _<_, _^_}
-use mathlib.Core.Path.{_≡_, refl, sym, _∙_}
-use mathlib.Core.Bool.{cond}
-use mathlib.Core.List.{List, [], _∷_}
+use mathlib.Core.Path.{_≡_, refl, sym, ap, _∙_}
+use mathlib.Core.Bool.{Bool, true, false, _||_, cond, or-true}
+use mathlib.Core.List.{List, [], _∷_, _++_}
 use native.Mathlib.Omega.{arith}
 use lib.Dec.{eqb, ltb}
-use lib.ListN.{length}
-use Rattle.sets.specs.Base.{Val, none, some}
+use lib.ListN.{length, length-append}
+use Rattle.sets.specs.Base.{Val, none, some, has}
 use Rattle.sets.specs.Laws.{byB, byEq, eqb-yes, eqb-no, ltb-yes, ltb-no}
+use Rattle.sets.specs.Size.{size, size-empty, size-part, size-joined}
 use Rattle.layout.specs.Record.{Entry, Rising, AllFit}
 
 -- THE DEFINITIONS
@@ -147,3 +148,46 @@ unfolding entriesOf
 says f w a =
     byB (ltb a 256) (λ e. says-below f a (ltb-yes a 256 e))
     (λ e. let h : 256 ≤ a = ltb-no a 256 e in from-says-more 256 0 f a (omega arith) ∙ sym (w a h))
+
+-- AS MANY ENTRIES AS VALUES
+
+-- the entries of one address more: it comes last
+pub from-snoc : (n a : ℕ) (f : ℕ → Val) → entriesFrom (suc n) a f ≡ entriesFrom n a f ++ entryIf (a + n) (f (a + n)) []
+unfolding entriesFrom
+from-snoc zero a f = ap (λ (b : ℕ). entryIf b (f b) []) (omega arith)
+from-snoc (suc n) a f =
+    ap (entryIf a (f a)) (from-snoc n (suc a) f ∙ ap (λ (b : ℕ). entriesFrom n (suc a) f ++ entryIf b (f b) []) (omega arith))
+    ∙ behind (f a) (entriesFrom n (suc a) f) (entryIf (a + suc n) (f (a + suc n)) [])
+  where
+    behind : (v : Val) (es fs : List Entry) → entryIf a v (es ++ fs) ≡ entryIf a v es ++ fs
+    behind none es fs = refl
+    behind (some x) es fs = refl
+
+from-none : (f : ℕ → Val) → length (entriesFrom 0 0 f) ≡ 0
+unfolding entriesFrom
+from-none f = refl
+
+from-size : (n : ℕ) (f : ℕ → Val) → length (entriesFrom n 0 f) ≡ size n (λ a. has (f a))
+unfolding size
+from-size zero f = from-none f
+from-size (suc n) f =
+    let none-before : 0 + n ≡ n = omega arith in
+    rw (from-snoc n 0 f, length-append, from-size n f, none-before) (last (f n))
+  where
+    last : (v : Val) → size n (λ a. has (f a)) + length (entryIf n v []) ≡ cond (has v) 1 0 + size n (λ a. has (f a))
+    last none = omega arith
+    last (some x) = omega arith
+
+pub entries-size : (f : ℕ → Val) → length (entriesOf f) ≡ size 256 (λ a. has (f a))
+unfolding entriesOf
+entries-size f = from-size 256 f
+
+-- a list says something of no more addresses than it has entries
+pub says-few : (l : List Entry) → size 256 (λ a. has (valueIn l a)) ≤ length l
+says-few [] = omega (arith, size-empty 256 (λ a. false) (λ a. refl))
+says-few (e ∷ es) =
+    let part = size-part 256 (λ a. has (valueIn (e ∷ es) a)) (λ a. has (valueIn es a) || eqb a (e .address)) (λ a l. said a) in
+    omega (arith, part, size-joined 256 (λ a. has (valueIn es a)) (e .address), says-few es)
+  where
+    said : (a : ℕ) → has (valueIn (e ∷ es) a) ≡ true → (has (valueIn es a) || eqb a (e .address)) ≡ true
+    said a = byEq a (e .address) (λ q. rw q (λ h. or-true (has (valueIn es a)))) (λ q. rw q (λ h. rw h))

@@ -11,7 +11,7 @@ use lib.ListN.{length, length-append}
 use Rattle.sets.specs.Base.{upd, snoc, any, Val, none, some, turned}
 use Rattle.sets.specs.Laws.{byB, byEq, eqb-same, eqb-yes, eqb-no, and-l, and-r}
 use Rattle.line.specs.Messages.{pageOf, lastNumber, locking, Work, Up, ReadRequest, WriteRequest, Commit, Abort, Purge, Busy, Done, WrittenSet, Down, Page, Deescalate, Callback, Committed, Aborted, Invalidate, To, Answer, Nothing, Begun, Value, Waits, Written, CommittedAs, AbortedFor, Purged, Refused, Empty}
-use Rattle.line.specs.Station.{Station, Did, didStation, does, unless, Wait, Idle, ForRead, ForWrite, ForCommit, forCommit, Kept, NotKept, KeptCall, usedAt, usedPage, shown, dropPages, mark, doCallback, doKept, doAllKept, closed, close, undo, checkBegin, checkOpen, checkAddress, checkPurge, ownBegin, readLocal, readAsk, readAs, ownRead, mayWrite, writeAsk, writeLocal, ownWrite, ownCommit, ownAbort, ownPurge, ended, fits, answerWait, onPage, onDeescalate, onCallback, onCommitted, onAborted, onInvalidate, onDown, stationStep}
+use Rattle.line.specs.Station.{Station, Did, didStation, does, unless, Wait, Idle, ForRead, ForWrite, ForCommit, forCommit, Kept, NotKept, KeptCall, usedAt, usedPage, shown, dropPages, mark, doCallback, doKept, doAllKept, closed, close, undo, checkBegin, checkOpen, longRead, longWrite, checkAddress, checkPurge, ownBegin, readLocal, readAsk, readAs, ownRead, mayWrite, writeAsk, writeLocal, ownWrite, ownCommit, ownAbort, ownPurge, ended, fits, answerWait, onPage, onDeescalate, onCallback, onCommitted, onAborted, onInvalidate, onDown, stationStep}
 use Rattle.line.specs.Line.{Op, Begin, Read, Write, Commits, Aborts, Purges, Call, Owner, ServerTakes, StationTakes, Broken, World, Reply, Acted, acted, replies, upReply, perform, tell, carryUp, ownerActs, isRefused, stationTakes, serverTakes, act}
 use Rattle.line.specs.Server.{Server, Serving, send, Waiter, concerned, callsFrom, noWaiter, isWant, waits, shut, unexpected, badNumber, notice, finish, join, leave, sendPage, abort, write, archive, informed, inform, informFrom, install, serveNow, joinRead, joinWrite, joinCommit, commitNow, unlist, openCall, markBusy, answered, openAsk, loosen, accept, ask, serveRead, call, grantObject, grantPage, installWaiter, start, serverStep}
 use Rattle.line.specs.Pass.{Atomic, step-keeps}
@@ -517,8 +517,8 @@ abort-8 own s b e =
 pub owner-bound : (own : ℕ) (op : Op) (s : Station) → own < 8 → s .kept own ≡ NotKept → length ((perform op s) .sent) ≤ 8
 unfolding perform ownBegin ownRead ownWrite ownCommit ownAbort ownPurge
 owner-bound own Begin s b e = unless-8 (checkBegin s) _ s (omega arith)
-owner-bound own (Read a) s b e = unless-8 (checkAddress a s) _ s (read-8 a (s .wr a) (s .rd a) s)
-owner-bound own (Write a v) s b e = unless-8 (checkAddress a s) _ s (write-8 a v s)
+owner-bound own (Read a) s b e = unless-8 (checkAddress a (longRead a s) s) _ s (read-8 a (s .wr a) (s .rd a) s)
+owner-bound own (Write a v) s b e = unless-8 (checkAddress a (longWrite a s) s) _ s (write-8 a v s)
 owner-bound own Commits s b e = unless-8 (checkOpen s) _ s (omega arith)
 owner-bound own Aborts s b e = unless-8 (checkOpen s) _ s (abort-8 own s b e)
 owner-bound own (Purges p) s b e = unless-8 (checkPurge p s) _ s (omega arith)
@@ -608,8 +608,8 @@ down-answer (Invalidate d) s =
 pub perform-untouched : (op : Op) (s : Station) → isRefused ((perform op s) .answer) ≡ true → Untouched s (perform op s)
 unfolding perform ownBegin ownRead ownWrite ownCommit ownAbort ownPurge
 perform-untouched Begin s h = unless-untouched (checkBegin s) _ s refl h
-perform-untouched (Read a) s h = unless-untouched (checkAddress a s) _ s (read-answer a (s .wr a) (s .rd a) s) h
-perform-untouched (Write a v) s h = unless-untouched (checkAddress a s) _ s (write-answer a v s) h
+perform-untouched (Read a) s h = unless-untouched (checkAddress a (longRead a s) s) _ s (read-answer a (s .wr a) (s .rd a) s) h
+perform-untouched (Write a v) s h = unless-untouched (checkAddress a (longWrite a s) s) _ s (write-answer a v s) h
 perform-untouched Commits s h = unless-untouched (checkOpen s) _ s refl h
 perform-untouched Aborts s h = unless-untouched (checkOpen s) _ s (ap isRefused (close-answer _)) h
 perform-untouched (Purges p) s h = unless-untouched (checkPurge p s) _ s refl h

@@ -3,7 +3,7 @@
 -- 01's order: `page 2 1 1 1 0 1 noValues` is 16 to station 2: page 1, object 1, transaction 1, version 0, unavailable set 1, zeros.
 use mathlib.Core.Path.{refl}
 use mathlib.Core.List.{List, [], _∷_, _++_}
-use Prim.Native.Nat.{ℕ, _^_}
+use Prim.Native.Nat.{ℕ, zero, suc, _^_}
 use Rattle.sets.specs.Base.{at}
 use Rattle.line.specs.Messages.{address, lastNumber, Answer, Nothing, Begun, Value, Waits, Written, CommittedAs, AbortedFor, Purged, Refused, Empty}
 use Rattle.line.specs.Station.{setNum}
@@ -192,6 +192,64 @@ spent =
     ∷ answers (Owner 0 Begin) (Refused 11)
     ∷ [])
 
+-- Document 02, wish 1: 48 reads, 48 writes, and no more: all objects of five pages, and four of two more.
+
+-- station i reads n objects more of page p, from object o on, which is cached and all zeros
+abbrev readsOn : ℕ → ℕ → ℕ → ℕ → List Step
+readsOn i p o zero = []
+readsOn i p o (suc n) = answers (Owner i (Read (address p o))) (Value 0) ∷ readsOn i p (suc o) n
+
+-- .. and the first n of a page that it does not have
+abbrev readsPage : ℕ → ℕ → ℕ → List Step
+readsPage i p n =
+    sends (Owner i (Read (address p 0))) Waits (readRequest i p 0 1 ∷ [])
+    ∷ serves i (page i p 0 1 0 0 noValues ∷ [])
+    ∷ answers (StationTakes i) (Value 0)
+    ∷ readsOn i p 1 n
+
+-- the same of writes, by a validating station
+abbrev writesOn : ℕ → ℕ → ℕ → ℕ → List Step
+writesOn i p o zero = []
+writesOn i p o (suc n) = answers (Owner i (Write (address p o) 1)) Written ∷ writesOn i p (suc o) n
+
+abbrev writesPage : ℕ → ℕ → ℕ → List Step
+writesPage i p n =
+    sends (Owner i (Write (address p 0) 1)) Waits (readRequest i p 0 1 ∷ [])
+    ∷ serves i (page i p 0 1 0 0 noValues ∷ [])
+    ∷ answers (StationTakes i) Written
+    ∷ writesOn i p 1 n
+
+abbrev eachOf : (ℕ → List Step) → ℕ → List Step
+eachOf f zero = []
+eachOf f (suc p) = eachOf f p ++ f p
+
+unfoldable pub longReads : Row
+longReads =
+    row "15. Long: the owner's 49th recorded read, checked after 8." line
+    (answers (Owner 0 Begin) (Begun 1)
+    ∷ (eachOf (λ p. readsPage 0 p 7) 5
+    ++ readsPage 0 5 3
+    ++ readsPage 0 6 3
+    ++ (answers (Owner 0 (Read (address 6 4))) (Refused 15)
+    ∷ answers (Owner 0 (Read (address 7 0))) (Refused 15)
+    ∷ answers (Owner 0 (Read (address 6 3))) (Value 0)
+    ∷ answers (Owner 0 (Read 256)) (Refused 4)
+    ∷ [])))
+
+unfoldable pub longWrites : Row
+longWrites =
+    row "15. Long: the owner's 49th written object, checked after 8." line
+    (answers (Owner 1 Begin) (Begun 1)
+    ∷ (eachOf (λ p. writesPage 1 p 7) 5
+    ++ writesPage 1 5 3
+    ++ writesPage 1 6 3
+    ++ (answers (Owner 1 (Write (address 6 4) 1)) (Refused 15)
+    ∷ answers (Owner 1 (Write (address 7 0) 1)) (Refused 15)
+    ∷ answers (Owner 1 (Write (address 6 3) 2)) Written
+    ∷ answers (Owner 1 (Read (address 6 3))) (Value 2)
+    ∷ answers (Owner 1 (Read (address 6 4))) (Value 0)
+    ∷ [])))
+
 -- What is turned back changes nothing.
 
 unfoldable pub turnedBack : Row
@@ -285,7 +343,7 @@ byArrival =
     ∷ []))
 
 unfoldable pub table : List Row
-table = C1 ∷ C2 ∷ C3 ∷ C4 ∷ C5 ∷ C6 ∷ C7 ∷ C8 ∷ C9 ∷ lastCommit ∷ spent ∷ turnedBack ∷ requestOut ∷ pageUnderWay ∷ staleCommit ∷ byArrival ∷ []
+table = C1 ∷ C2 ∷ C3 ∷ C4 ∷ C5 ∷ C6 ∷ C7 ∷ C8 ∷ C9 ∷ lastCommit ∷ spent ∷ longReads ∷ longWrites ∷ turnedBack ∷ requestOut ∷ pageUnderWay ∷ staleCommit ∷ byArrival ∷ []
 
 C1-holds : Holds C1
 unfolding Holds seen C1
@@ -331,6 +389,14 @@ spent-holds : Holds spent
 unfolding Holds seen spent
 spent-holds = refl
 
+longReads-holds : Holds longReads
+unfolding Holds seen longReads
+longReads-holds = refl
+
+longWrites-holds : Holds longWrites
+unfolding Holds seen longWrites
+longWrites-holds = refl
+
 turnedBack-holds : Holds turnedBack
 unfolding Holds seen turnedBack
 turnedBack-holds = refl
@@ -353,4 +419,4 @@ byArrival-holds = refl
 
 pub table-holds : AllHold table
 unfolding AllHold table
-table-holds = (C1-holds, (C2-holds, (C3-holds, (C4-holds, (C5-holds, (C6-holds, (C7-holds, (C8-holds, (C9-holds, (lastCommit-holds, (spent-holds, (turnedBack-holds, (requestOut-holds, (pageUnderWay-holds, (staleCommit-holds, (byArrival-holds, tt))))))))))))))))
+table-holds = (C1-holds, (C2-holds, (C3-holds, (C4-holds, (C5-holds, (C6-holds, (C7-holds, (C8-holds, (C9-holds, (lastCommit-holds, (spent-holds, (longReads-holds, (longWrites-holds, (turnedBack-holds, (requestOut-holds, (pageUnderWay-holds, (staleCommit-holds, (byArrival-holds, tt))))))))))))))))))

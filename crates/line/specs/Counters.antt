@@ -12,7 +12,7 @@ use Rattle.sets.specs.Laws.{byB, byEq, eqb-same, eqb-yes, eqb-no}
 use Rattle.line.specs.Messages.{lastNumber, locking, Work, Lock, NoLock, ObjectLock, WholeLock, Up, ReadRequest, WriteRequest, Commit, Abort, Purge, Busy, Done, WrittenSet, Down, Page, Deescalate, Callback, Committed, Aborted, Invalidate}
 use Rattle.line.specs.Server.{Server, Serving, badNumber, unexpected, notice, finish, join, leave, sendPage, abort, informed, write, archive, inform, informFrom, install, serveNow, joinRead, joinWrite, joinCommit, commitNow, unlist, openCall, markBusy, answered, openAsk, loosen, accept, ask, serveRead, call, grantPage, grantObject, installWaiter, start, serverStep}
 use Rattle.line.specs.Station as S
-use Rattle.line.specs.Station.{Station, Did, unless, Wait, Idle, ForRead, ForWrite, ForCommit, waiting, Kept, NotKept, KeptCall, shown, mayWrite, usedAt, usedPage, forCommit, live, ended, fits, checkBegin, checkOpen, checkAddress, checkPurge, dropPages, recordRead, writeLocal, mark, doCallback, doKept, doAllKept, closed, close, undo, ownBegin, readLocal, readAsk, readAs, ownRead, writeAsk, ownWrite, ownCommit, ownAbort, ownPurge, arrive, takeLock, answerWait, onPage, onDeescalate, onCallback, onCommitted, onAborted, onInvalidate, onDown, stationStep}
+use Rattle.line.specs.Station.{Station, Did, unless, Wait, Idle, ForRead, ForWrite, ForCommit, waiting, Kept, NotKept, KeptCall, shown, mayWrite, usedAt, usedPage, forCommit, live, ended, fits, checkBegin, checkOpen, longRead, longWrite, checkAddress, checkPurge, dropPages, recordRead, writeLocal, mark, doCallback, doKept, doAllKept, closed, close, undo, ownBegin, readLocal, readAsk, readAs, ownRead, writeAsk, ownWrite, ownCommit, ownAbort, ownPurge, arrive, takeLock, answerWait, onPage, onDeescalate, onCallback, onCommitted, onAborted, onInvalidate, onDown, stationStep}
 use Rattle.line.specs.Line.{World, Op, Begin, Read, Write, Commits, Aborts, Purges, Call, fresh, perform, act, run}
 use Rattle.line.specs.Pass.{Atomic, if-keeps, step-keeps}
 use Rattle.line.specs.Fuel.{sumTo, sum-at}
@@ -220,9 +220,9 @@ module _ (s : Station) (b : s .num ≤ lastNumber) where
   perform-numbered : (op : Op) → NumberedBy s (perform op s)
   unfolding perform ownRead ownWrite writeLocal ownCommit ownPurge dropPages
   perform-numbered Begin = begin-numbered
-  perform-numbered (Read a) = unless-numbered (checkAddress a s) _ (λ e. readAs-numbered a (s .wr a) (s .rd a))
+  perform-numbered (Read a) = unless-numbered (checkAddress a (longRead a s) s) _ (λ e. readAs-numbered a (s .wr a) (s .rd a))
   perform-numbered (Write a v) =
-      unless-numbered (checkAddress a s) _ (λ e. if-did (NumberedBy s) (mayWrite a s) (λ k. silent (s .num) b) (λ k. writeAsk-numbered a v))
+      unless-numbered (checkAddress a (longWrite a s) s) _ (λ e. if-did (NumberedBy s) (mayWrite a s) (λ k. silent (s .num) b) (λ k. writeAsk-numbered a v))
   perform-numbered Commits = unless-numbered (checkOpen s) _ (λ e. says (s .num) b _ (omega arith))
   perform-numbered Aborts = abort-numbered
   perform-numbered (Purges p) = unless-numbered (checkPurge p s) _ (λ e. says (s .num) b (Purge p) (omega arith))

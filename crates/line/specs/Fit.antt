@@ -1,14 +1,16 @@
 -- What number 1 asks of a state, in the model's words: beside `Apart`, that a field which does not count is empty, and that what stands in
 -- the waiting list fits the station that it stands for. And what number 4 asks of a message, and which kind of station sends or takes it.
 use mathlib.Core.Path.{_≡_}
-use mathlib.Core.Bool.{Bool, true, false, not}
+use mathlib.Core.Bool.{Bool, true, false, not, _||_}
 use mathlib.Core.Logic.{_≢_}
 use Prim.Native.Nat.{ℕ, _≤_, _<_}
 use lib.Dec.{eqb}
-use Rattle.sets.specs.Base.{Val, none}
-use Rattle.line.specs.Messages.{locking, Up, ReadRequest, WriteRequest, Commit, Abort, Purge, Busy, Done, WrittenSet, NoLock, ObjectLock, WholeLock, Down, Page, Deescalate, Callback, Committed, Aborted, Invalidate, Sent, To}
+use Rattle.sets.specs.Base.{Val, none, has}
+use Rattle.sets.specs.Size.{size}
+use Rattle.limits.specs.Limit.{limit}
+use Rattle.line.specs.Messages.{locking, Work, Rec, Up, ReadRequest, WriteRequest, Commit, Abort, Purge, Busy, Done, WrittenSet, NoLock, ObjectLock, WholeLock, Down, Page, Deescalate, Callback, Committed, Aborted, Invalidate, Sent, To}
 use Rattle.line.specs.Server.{Server, Waiter, Want, NoWant, WantRead, WantWrite, WantCommit, isWant}
-use Rattle.line.specs.Station.{Station, Wait, Idle, ForRead, Kept, NotKept, KeptCall}
+use Rattle.line.specs.Station.{Station, Wait, Idle, ForRead, forRead, forWrite, Kept, NotKept, KeptCall}
 use Rattle.line.specs.Apart.{Apart}
 
 -- sets with no member, and with one
@@ -18,14 +20,25 @@ Vacant f = (a : ℕ) → f a ≡ false
 abbrev pub Only : (ℕ → Bool) → ℕ → Type 0
 Only f a = (b : ℕ) → f b ≡ eqb b a
 
+-- document 02, wish 1: "48 distinct reads and 48 distinct writes", of a transaction, of a commit, of a record
+pub record Limited (reads writes : ℕ → Bool) : Type 0 where
+  pub reads-few : size 256 reads ≤ limit
+  pub writes-few : size 256 writes ≤ limit
+
+abbrev pub LimitedWork : Work → Type 0
+LimitedWork w = Limited (λ a. has (w .reads a)) (λ a. has (w .writes a))
+
+abbrev pub LimitedRec : Rec → Type 0
+LimitedRec r = Limited (λ a. has (r .reads a)) (λ a. has (r .writes a))
+
 -- MESSAGES
 
 -- number 4: "a station, page, object, requester or cause lies outside its range, a callback's requester is the station it comes to, a named
--- transaction or commit is 0", as far as the rules of this file need it
+-- transaction or commit is 0", as far as the rules of this file need it; and of a commit what number 5 says of n and m above the limit
 abbrev pub UpNames : Up → Type 0
 UpNames (ReadRequest a t) = (a < 256) × (t ≢ 0)
 UpNames (WriteRequest a t) = (a < 256) × (t ≢ 0)
-UpNames (Commit w) = w .transaction ≢ 0
+UpNames (Commit w) = (w .transaction ≢ 0) × LimitedWork w
 UpNames (Abort t) = t ≢ 0
 UpNames (Purge p) = p < 32
 UpNames (Busy r t) = t ≢ 0
@@ -97,10 +110,11 @@ pub record One (req : ℕ) (own others : ℕ → Bool) : Type 0 where
   pub asked-for : Only own req
   pub nothing-else : Vacant others
 
--- a commit is of the latest transaction
-pub record OfLatest (latest req transaction : ℕ) : Type 0 where
+-- a commit is of the latest transaction, and within the limit
+pub record OfLatest (latest req : ℕ) (w : Work) : Type 0 where
   pub req-is : req ≡ 0
-  pub latest-is : transaction ≡ latest
+  pub latest-is : w .transaction ≡ latest
+  pub few : LimitedWork w
 
 -- a station that owes station i a 7
 pub record Owes (kind : ℕ → ℕ) (i j : ℕ) : Type 0 where
@@ -113,7 +127,7 @@ pub record Form (kind : ℕ → ℕ) (i latest : ℕ) (w : Waiter) : Type 0 wher
   pub blank : isWant (w .want) ≡ false → Blank (w .arrival) (w .req) (w .reads) (w .writes)
   pub read : w .want ≡ WantRead → One (w .req) (w .reads) (w .writes)
   pub write : w .want ≡ WantWrite → One (w .req) (w .writes) (w .reads)
-  pub commit : w .want ≡ WantCommit → OfLatest latest (w .req) (w .work .transaction)
+  pub commit : w .want ≡ WantCommit → OfLatest latest (w .req) (w .work)
   pub called : w .called ≡ true → calls (w .want) ≡ true
   pub pending : (j : ℕ) → w .pend j ≡ true → w .called ≡ true
   pub owed : (j : ℕ) → w .pend j ≡ true → Owes kind i j
@@ -158,7 +172,13 @@ pub record Callbacks (own kind : ℕ) (opened : Bool) (kept : ℕ → Kept) : Ty
   pub done : opened ≡ false → (r : ℕ) → r < 8 → kept r ≡ NotKept
   pub fit : (r : ℕ) → KeptFits kind (kept r)
 
+-- the transaction is within the limit, the read or the write that is out counted as recorded
+pub record LimitedStation (rd wr : ℕ → Val) (wait : Wait) : Type 0 where
+  pub reads-few : size 256 (λ a. has (rd a) || forRead wait a) ≤ limit
+  pub writes-few : size 256 (λ a. has (wr a) || forWrite wait a) ≤ limit
+
 pub record FitStation (own : ℕ) (s : Station) : Type 0 where
   pub works : Works (s .opened) (s .num) (s .rd) (s .wr) (s .wait)
+  pub few : LimitedStation (s .rd) (s .wr) (s .wait)
   pub locked : Locked (s .kind) (s .opened) (s .ol) (s .wl)
   pub callbacks : Callbacks own (s .kind) (s .opened) (s .kept)

@@ -1,21 +1,23 @@
 -- Every call of a station, an owner's operation or a delivery, leaves a state that number 1 takes, and what it sends fits a station of its
 -- kind: from every such state, for every message that number 4 lets pass.
 use mathlib.Core.Path.{_≡_, refl, sym, ap, _∙_}
-use mathlib.Core.Bool.{Bool, true, false, not, _&&_, _||_, false≢true, cond}
+use mathlib.Core.Bool.{Bool, true, false, not, _&&_, _||_, false≢true, cond, or-true}
 use mathlib.Core.Logic.{_≢_}
 use Prim.Native.Nat.{ℕ, zero, suc, _+_, _≤_, _<_}
 use native.Mathlib.Omega.{arith}
-use lib.Dec.{eqb, ltb}
-use borrow.Author.Tests.{ltb-true}
-use Rattle.sets.specs.Base.{Val, none, some, turned}
+use lib.Dec.{eqb, ltb, leb}
+use borrow.Author.Tests.{ltb-true, leb-false}
+use Rattle.sets.specs.Base.{Val, none, some, has, upd, turned}
+use Rattle.sets.specs.Size.{size, size-empty, size-part, size-joined}
+use Rattle.limits.specs.Limit.{limit}
 use Rattle.sets.specs.Laws.{byB, byEq, eqb-same, eqb-yes, eqb-no, and-l, and-r, not-no, any-some}
 use Rattle.line.specs.Messages.{locking, Lock, NoLock, ObjectLock, WholeLock, Down, Page, Deescalate, Callback, Committed, Aborted, Invalidate}
-use Rattle.line.specs.Station.{Station, freshStation, Did, unless, Wait, Idle, ForRead, ForWrite, ForCommit, waiting, Kept, NotKept, KeptCall, shown, mayWrite, usedAt, inUse, touched, forRead, forWrite, forCommit, requested, usedPage, live, ended, fitsPage, fits, checkBegin, checkOpen, checkAddress, checkPurge, dropPages, recordRead, writeLocal, mark, doCallback, doKept, doAllKept, closed, close, undo, ownBegin, readLocal, readAsk, readAs, ownRead, writeAsk, ownWrite, ownCommit, ownAbort, ownPurge, arrive, takeLock, answerWait, onPage, onDeescalate, loosen, onCallback, onCommitted, onAborted, onInvalidate, onDown, stationStep}
+use Rattle.line.specs.Station.{Station, freshStation, Did, unless, Wait, Idle, ForRead, ForWrite, ForCommit, waiting, Kept, NotKept, KeptCall, shown, mayWrite, usedAt, inUse, touched, forRead, forWrite, forCommit, requested, usedPage, live, ended, fitsPage, fits, checkBegin, openThen, checkOpen, longRead, longWrite, checkAddress, checkPurge, dropPages, recordRead, writeLocal, mark, doCallback, doKept, doAllKept, closed, close, undo, ownBegin, readLocal, readAsk, readAs, ownRead, writeAsk, ownWrite, ownCommit, ownAbort, ownPurge, arrive, takeLock, answerWait, onPage, onDeescalate, loosen, onCallback, onCommitted, onAborted, onInvalidate, onDown, stationStep}
 use Rattle.line.specs.Line.{Op, Begin, Read, Write, Commits, Aborts, Purges, perform}
 use Rattle.line.specs.All.{All, all-append}
 use Rattle.line.specs.Bounds.{undo-kept}
 use Rattle.line.specs.Kept.{all-kept}
-use Rattle.line.specs.Fit.{DownNames, UpFits, Works, Locked, KeptFits, FitStation}
+use Rattle.line.specs.Fit.{DownNames, UpFits, Limited, LimitedStation, Works, Locked, KeptFits, FitStation}
 
 -- a call so far: the station, and what it sends
 pub record FitDid (own : ℕ) (d : Did) : Type 0 where
@@ -55,6 +57,95 @@ NoRead w = (a : ℕ) → w ≡ ForRead a → ⊥
 idle-reads : (w : Wait) → waiting w ≡ false → NoRead w
 idle-reads w e a q = false≢true (sym e ∙ ap waiting q)
 
+-- THE LIMIT
+
+-- a set with no more members
+smaller : (f g : ℕ → Bool) → ((a : ℕ) → f a ≡ true → g a ≡ true) → size 256 g ≤ limit → size 256 f ≤ limit
+smaller f g p l = omega (arith, size-part 256 f g (λ a b. p a), l)
+
+-- one member more, that 15 lets pass
+one-more : (f : ℕ → Bool) (a : ℕ) → (not (f a) && leb limit (size 256 f)) ≡ false → size 256 f ≤ limit → size 256 (λ b. f b || eqb b a) ≤ limit
+one-more f a e l =
+    byB (f a)
+    (λ t. omega (arith, l, size-part 256 (λ b. f b || eqb b a) f (λ b c. old b t)))
+    (λ t. omega (arith, size-joined 256 f a, leb-false limit (size 256 f) (rw t at e)))
+  where
+    has-left : (c : Bool) → (c || false) ≡ true → c ≡ true
+    has-left true z = refl
+    has-left false z = z
+
+    old : (b : ℕ) → f a ≡ true → (f b || eqb b a) ≡ true → f b ≡ true
+    old b t = byEq b a (λ q. rw (eqb-yes b a q, t) (λ z. refl)) (λ q. rw q (λ z. has-left (f b) z))
+
+-- nothing read, written or out
+none-few : LimitedStation (λ a. none) (λ a. none) Idle
+none-few = record { reads-few = omega (arith, size-empty 256 (λ a. false) (λ a. refl)); writes-few = omega (arith, size-empty 256 (λ a. false) (λ a. refl)) }
+
+-- who waits for nothing waits for no read and no write
+idle-none : (w : Wait) → waiting w ≡ false → (b : ℕ) → (forRead w b ≡ false) × (forWrite w b ≡ false)
+idle-none Idle e b = (refl, refl)
+idle-none (ForRead a) e b = absurd (false≢true (sym e))
+idle-none (ForWrite a v) e b = absurd (false≢true (sym e))
+idle-none ForCommit e b = (refl, refl)
+
+left : (a b : Bool) → a ≡ true → (a || b) ≡ true
+left a b e = rw e
+
+alone : (a b : Bool) → b ≡ false → (a || b) ≡ true → a ≡ true
+alone true b e h = refl
+alone false b e h = absurd (false≢true (sym e ∙ h))
+
+-- a value at a is the set with a
+joined : (f : ℕ → Val) (a v : ℕ) (out : ℕ → Bool) → ((b : ℕ) → out b ≡ false) → (b : ℕ) → (has (upd f a (some v) b) || out b) ≡ true → (has (f b) || eqb b a) ≡ true
+joined f a v out n b = byEq b a (λ q. rw q (λ h. or-true (has (f b)))) (λ q. rw (q, n b) (λ h. h))
+
+module _ {rd wr : ℕ → Val} {wait : Wait} (l : LimitedStation rd wr wait) where
+  -- what is recorded
+  pub recorded : Limited (λ a. has (rd a)) (λ a. has (wr a))
+  recorded =
+      record {
+        reads-few = smaller _ _ (λ a e. left (has (rd a)) (forRead wait a) e) (l .reads-few);
+        writes-few = smaller _ _ (λ a e. left (has (wr a)) (forWrite wait a) e) (l .writes-few);
+      }
+
+  -- with no read and no write out
+  not-out : (w : Wait) → ((b : ℕ) → (forRead w b ≡ false) × (forWrite w b ≡ false)) → LimitedStation rd wr w
+  not-out w n =
+      record {
+        reads-few = smaller _ _ (λ a e. alone (has (rd a)) (forRead w a) (n a .0) e) (recorded .reads-few);
+        writes-few = smaller _ _ (λ a e. alone (has (wr a)) (forWrite w a) (n a .1) e) (recorded .writes-few);
+      }
+
+  -- a read, a write out
+  read-out : (a : ℕ) → (not (has (rd a)) && leb limit (size 256 (λ b. has (rd b)))) ≡ false → LimitedStation rd wr (ForRead a)
+  read-out a e =
+      record {
+        reads-few = one-more (λ b. has (rd b)) a e (recorded .reads-few);
+        writes-few = not-out Idle (λ b. (refl, refl)) .writes-few;
+      }
+
+  write-out : (a v : ℕ) → (not (has (wr a)) && leb limit (size 256 (λ b. has (wr b)))) ≡ false → LimitedStation rd wr (ForWrite a v)
+  write-out a v e =
+      record {
+        reads-few = not-out Idle (λ b. (refl, refl)) .reads-few;
+        writes-few = one-more (λ b. has (wr b)) a e (recorded .writes-few);
+      }
+
+-- .. and recorded
+read-in : {rd wr : ℕ → Val} {a : ℕ} (v : ℕ) (w : Wait) → waiting w ≡ false → LimitedStation rd wr (ForRead a) → LimitedStation (upd rd a (some v)) wr w
+read-in {rd} {wr} {a} v w i l =
+    record {
+      reads-few = smaller _ _ (joined rd a v (forRead w) (λ b. idle-none w i b .0)) (l .reads-few);
+      writes-few = smaller _ _ (λ b e. rw (idle-none w i b .1) at e) (l .writes-few);
+    }
+
+write-in : {rd wr : ℕ → Val} {a x : ℕ} (v : ℕ) (w : Wait) → waiting w ≡ false → LimitedStation rd wr (ForWrite a x) → LimitedStation rd (upd wr a (some v)) w
+write-in {rd} {wr} {a} v w i l =
+    record {
+      reads-few = smaller _ _ (λ b e. rw (idle-none w i b .0) at e) (l .reads-few);
+      writes-few = smaller _ _ (joined wr a v (forWrite w) (λ b. idle-none w i b .1)) (l .writes-few);
+    }
+
 -- ITS END
 
 one-done : (r : ℕ) (k : Kept) (d : Did) → d .station .kept r ≡ k → (doKept r k d) .station .kept r ≡ NotKept
@@ -74,6 +165,7 @@ all-done (suc n) r d q a b =
 record Ending (own : ℕ) (d : Did) : Type 0 where
   closed-is : d .station .opened ≡ false
   works : Works (d .station .opened) (d .station .num) (d .station .rd) (d .station .wr) (d .station .wait)
+  few : LimitedStation (d .station .rd) (d .station .wr) (d .station .wait)
   locked : Locked (d .station .kind) (d .station .opened) (d .station .ol) (d .station .wl)
   not-own : d .station .kept own ≡ NotKept
   fit : (r : ℕ) → KeptFits (d .station .kind) (d .station .kept r)
@@ -88,6 +180,7 @@ module _ (own : ℕ) where
       record {
         closed-is = h .closed-is;
         works = h .works;
+        few = h .few;
         locked = h .locked;
         not-own = byEq own r (λ q. rw q refl) (λ q. rw q (h .not-own));
         fit = λ p. byEq p r (λ q. rw q tt) (λ q. rw q (h .fit p));
@@ -107,6 +200,7 @@ module _ (own : ℕ) where
       record {
         closed-is = refl;
         works = record { numbered = λ q. absurd (false≢true q); idle = λ q. refl; unread = λ q a. refl; unwritten = λ q a. refl; first = λ a q. (refl, refl) };
+        few = none-few;
         locked = record { object-opened = λ a q. q; object-locks = λ a q. absurd (false≢true q); whole-opened = λ p q. q; whole-locks = λ p q. absurd (false≢true q) };
         not-own = e;
         fit = f;
@@ -117,6 +211,7 @@ module _ (own : ℕ) where
         station =
             record {
               works = k .works;
+              few = k .few;
               locked = k .locked;
               callbacks = record { not-own = k .not-own; done = λ q r l. all-done 8 0 start r (omega arith) (omega arith); fit = k .fit };
             };
@@ -134,13 +229,21 @@ record Opened (s : Station) : Type 0 where
   idle : waiting (s .wait) ≡ false
   open-is : s .opened ≡ true
 
-passed : (a b : Bool) → eqb (turned a 7 (turned b 8 0)) 0 ≡ true → (a ≡ false) × (b ≡ false)
-passed true b e = absurd (false≢true e)
-passed false true e = absurd (false≢true e)
-passed false false e = (refl, refl)
+passed : (a b : Bool) (n : ℕ) → eqb (turned a 7 (turned b 8 n)) 0 ≡ true → (a ≡ false) × (b ≡ false) × (eqb n 0 ≡ true)
+passed true b n e = absurd (false≢true e)
+passed false true n e = absurd (false≢true e)
+passed false false n e = (refl, refl, e)
 
-open-ok : (s : Station) → eqb (checkOpen s) 0 ≡ true → Opened s
-open-ok s e = let u = passed (waiting (s .wait)) (not (s .opened)) e in record { idle = u .0; open-is = not-no (s .opened) (u .1) }
+open-ok : (s : Station) (n : ℕ) → eqb (openThen s n) 0 ≡ true → Opened s
+open-ok s n e = let u = passed (waiting (s .wait)) (not (s .opened)) n e in record { idle = u .0; open-is = not-no (s .opened) (u .1) }
+
+-- 15 Long, behind them
+not-long : (s : Station) (b : Bool) → eqb (openThen s (turned b 15 0)) 0 ≡ true → b ≡ false
+not-long s b e = short b (passed (waiting (s .wait)) (not (s .opened)) (turned b 15 0) e .2)
+  where
+    short : (b : Bool) → eqb (turned b 15 0) 0 ≡ true → b ≡ false
+    short true z = absurd (false≢true z)
+    short false z = refl
 
 -- 4 Range, before them
 ranged : (b : Bool) (n : ℕ) → eqb (turned (not b) 4 n) 0 ≡ true → (b ≡ true) × (eqb n 0 ≡ true)
@@ -167,6 +270,7 @@ module _ (own : ℕ) (s : Station) (h : FitStation own s) where
         station =
             record {
               works = open-works refl (λ z. omega (arith, z)) (h .works .first);
+              few = h .few;
               locked = record { object-opened = λ a q. refl; object-locks = h .locked .object-locks; whole-opened = λ p q. refl; whole-locks = h .locked .whole-locks };
               callbacks = record { not-own = h .callbacks .not-own; done = λ q r l. absurd (false≢true (sym q)); fit = h .callbacks .fit };
             };
@@ -174,36 +278,38 @@ module _ (own : ℕ) (s : Station) (h : FitStation own s) where
       })
 
   -- the object's own write and recorded read, as `readAs` looks at them
-  readAs-fit : (a : ℕ) (w r : Val) → s .wr a ≡ w → s .rd a ≡ r → a < 256 → Opened s → FitDid own (readAs a w r s)
+  readAs-fit : (a : ℕ) (w r : Val) → s .wr a ≡ w → s .rd a ≡ r → a < 256 → Opened s → longRead a s ≡ false → FitDid own (readAs a w r s)
   unfolding readAs readLocal recordRead readAsk
-  readAs-fit a none none p q l o =
+  readAs-fit a none none p q l o g =
+      let full : (not (has (s .rd a)) && leb limit (size 256 (λ b. has (s .rd b)))) ≡ false = rw q (rw (p, q) at g) in
+      let out : LimitedStation (s .rd) (s .wr) (ForRead a) = read-out (h .few) a full in
       if-fit (FitDid own) (shown s a)
       (λ e.
       record {
-        station = record { works = works-as _ _ _ (o .open-is) (λ b z. absurd (idle-reads (s .wait) (o .idle) b z)); locked = h .locked; callbacks = h .callbacks };
+        station = record { works = works-as _ _ _ (o .open-is) (λ b z. absurd (idle-reads (s .wait) (o .idle) b z)); few = read-in _ (s .wait) (o .idle) out; locked = h .locked; callbacks = h .callbacks };
         sent = tt;
       })
       (λ e.
       record {
-        station = record { works = works-as _ _ _ (o .open-is) (λ b z. let y : b ≡ a = asked b z in (rw y q, rw y p)); locked = h .locked; callbacks = h .callbacks };
+        station = record { works = works-as _ _ _ (o .open-is) (λ b z. let y : b ≡ a = asked b z in (rw y q, rw y p)); few = out; locked = h .locked; callbacks = h .callbacks };
         sent = (record { names = (l, h .works .numbered (o .open-is)); kind-fits = refl }, tt);
       })
     where
       asked : (b : ℕ) → ForRead a ≡ ForRead b → b ≡ a
       asked b z = sym (ap (λ (w : Wait). addressIn w) z)
-  readAs-fit a none (some v) p q l o = record { station = h; sent = tt }
-  readAs-fit a (some v) r p q l o = record { station = h; sent = tt }
+  readAs-fit a none (some v) p q l o g = record { station = h; sent = tt }
+  readAs-fit a (some v) r p q l o g = record { station = h; sent = tt }
 
-  write-local : (a v : ℕ) → Opened s → FitStation own (writeLocal a v s)
+  write-local : (a v : ℕ) → Opened s → LimitedStation (s .rd) (s .wr) (ForWrite a v) → FitStation own (writeLocal a v s)
   unfolding writeLocal
-  write-local a v o = record { works = works-as _ _ _ (o .open-is) (λ b z. absurd (idle-reads (s .wait) (o .idle) b z)); locked = h .locked; callbacks = h .callbacks }
+  write-local a v o g = record { works = works-as _ _ _ (o .open-is) (λ b z. absurd (idle-reads (s .wait) (o .idle) b z)); few = write-in v (s .wait) (o .idle) g; locked = h .locked; callbacks = h .callbacks }
 
-  write-ask : (a v : ℕ) → a < 256 → Opened s → FitDid own (writeAsk a v s)
+  write-ask : (a v : ℕ) → a < 256 → Opened s → LimitedStation (s .rd) (s .wr) (ForWrite a v) → FitDid own (writeAsk a v s)
   unfolding writeAsk
-  write-ask a v l o =
+  write-ask a v l o g =
       let n = h .works .numbered (o .open-is) in
       record {
-        station = record { works = works-as _ _ _ (o .open-is) (λ b z. let y : _≡_ {A = ℕ} 0 1 = cc in absurd (omega arith)); locked = h .locked; callbacks = h .callbacks };
+        station = record { works = works-as _ _ _ (o .open-is) (λ b z. let y : _≡_ {A = ℕ} 0 1 = cc in absurd (omega arith)); few = g; locked = h .locked; callbacks = h .callbacks };
         sent = byB (locking (s .kind)) (λ e. rw e (record { names = (l, n); kind-fits = e }, tt)) (λ e. rw e (record { names = (l, n); kind-fits = refl }, tt));
       }
 
@@ -212,10 +318,10 @@ module _ (own : ℕ) (s : Station) (h : FitStation own s) where
   commit-fit =
       unless-fit (checkOpen s) _
       (λ e.
-      let o = open-ok s e in
+      let o = open-ok s 0 e in
       record {
-        station = record { works = works-as _ _ _ (o .open-is) (λ b z. let y : _≡_ {A = ℕ} 0 1 = cc in absurd (omega arith)); locked = h .locked; callbacks = h .callbacks };
-        sent = (record { names = h .works .numbered (o .open-is); kind-fits = refl }, tt);
+        station = record { works = works-as _ _ _ (o .open-is) (λ b z. let y : _≡_ {A = ℕ} 0 1 = cc in absurd (omega arith)); few = not-out (h .few) ForCommit (λ b. (refl, refl)); locked = h .locked; callbacks = h .callbacks };
+        sent = (record { names = (h .works .numbered (o .open-is), recorded (h .few)); kind-fits = refl }, tt);
       })
 
   abort-fit : FitDid own (ownAbort s)
@@ -223,7 +329,7 @@ module _ (own : ℕ) (s : Station) (h : FitStation own s) where
   abort-fit =
       unless-fit (checkOpen s) _
       (λ e.
-      let n = h .works .numbered (open-ok s e .open-is) in
+      let n = h .works .numbered (open-ok s 0 e .open-is) in
       close-fit own _ (rw (undo-kept s) (h .callbacks .not-own)) (λ r. rw (undo-kept s, undo-kind s) (h .callbacks .fit r))
       (rw (undo-kind s) (byB (locking (s .kind)) (λ k. rw k (record { names = n; kind-fits = k }, tt)) (λ k. rw k tt))))
 
@@ -232,21 +338,26 @@ module _ (own : ℕ) (s : Station) (h : FitStation own s) where
   unfolding perform ownRead ownWrite ownPurge dropPages
   owner-fit Begin = begin-fit
   owner-fit (Read a) =
-      unless-fit (checkAddress a s) _
-      (λ e. let u = ranged (ltb a 256) (checkOpen s) e in readAs-fit a (s .wr a) (s .rd a) refl refl (ltb-true a 256 (u .0)) (open-ok s (u .1)))
-  owner-fit (Write a v) =
-      unless-fit (checkAddress a s) _
+      unless-fit (checkAddress a (longRead a s) s) _
       (λ e.
-      let u = ranged (ltb a 256) (checkOpen s) e in
-      let o = open-ok s (u .1) in
-      if-fit (FitDid own) (mayWrite a s) (λ k. record { station = write-local a v o; sent = tt }) (λ k. write-ask a v (ltb-true a 256 (u .0)) o))
+      let n = turned (longRead a s) 15 0 in
+      let u = ranged (ltb a 256) (openThen s n) e in
+      readAs-fit a (s .wr a) (s .rd a) refl refl (ltb-true a 256 (u .0)) (open-ok s n (u .1)) (not-long s (longRead a s) (u .1)))
+  owner-fit (Write a v) =
+      unless-fit (checkAddress a (longWrite a s) s) _
+      (λ e.
+      let n = turned (longWrite a s) 15 0 in
+      let u = ranged (ltb a 256) (openThen s n) e in
+      let o = open-ok s n (u .1) in
+      let g = write-out (h .few) a v (not-long s (longWrite a s) (u .1)) in
+      if-fit (FitDid own) (mayWrite a s) (λ k. record { station = write-local a v o g; sent = tt }) (λ k. write-ask a v (ltb-true a 256 (u .0)) o g))
   owner-fit Commits = commit-fit
   owner-fit Aborts = abort-fit
   owner-fit (Purges p) =
       unless-fit (checkPurge p s) _
       (λ e.
       let u = ranged (ltb p 32) (turned (requested (s .wait) p) 7 (turned (usedPage s p || not (s .cached p)) 10 0)) e in
-      record { station = record { works = h .works; locked = h .locked; callbacks = h .callbacks }; sent = (record { names = ltb-true p 32 (u .0); kind-fits = refl }, tt) })
+      record { station = record { works = h .works; few = h .few; locked = h .locked; callbacks = h .callbacks }; sent = (record { names = ltb-true p 32 (u .0); kind-fits = refl }, tt) })
 
 -- THE STEP
 
@@ -269,20 +380,22 @@ record Same (s t : Station) : Type 0 where
   num : t .num ≡ s .num
   opened : t .opened ≡ s .opened
   kept : t .kept ≡ s .kept
+  rd : t .rd ≡ s .rd
+  wr : t .wr ≡ s .wr
 
 lock-same : (l : Lock) (a : ℕ) (s : Station) → Same s (takeLock l a s)
 unfolding takeLock
-lock-same NoLock a s = record { kind = refl; num = refl; opened = refl; kept = refl }
-lock-same ObjectLock a s = record { kind = refl; num = refl; opened = refl; kept = refl }
-lock-same WholeLock a s = record { kind = refl; num = refl; opened = refl; kept = refl }
+lock-same NoLock a s = record { kind = refl; num = refl; opened = refl; kept = refl; rd = refl; wr = refl }
+lock-same ObjectLock a s = record { kind = refl; num = refl; opened = refl; kept = refl; rd = refl; wr = refl }
+lock-same WholeLock a s = record { kind = refl; num = refl; opened = refl; kept = refl; rd = refl; wr = refl }
 
-answer-fit : (own : ℕ) (w : Wait) (s : Station) → FitStation own s → s .opened ≡ true → s .wait ≡ Idle → FitDid own (answerWait w s)
+answer-fit : (own : ℕ) (w : Wait) (s : Station) → FitStation own s → s .opened ≡ true → s .wait ≡ Idle → LimitedStation (s .rd) (s .wr) w → FitDid own (answerWait w s)
 unfolding answerWait recordRead
-answer-fit own Idle s h o i = record { station = h; sent = tt }
-answer-fit own (ForRead a) s h o i =
-    record { station = record { works = works-as own s h _ _ _ o (λ b z. absurd (idle-reads (s .wait) (ap waiting i) b z)); locked = h .locked; callbacks = h .callbacks }; sent = tt }
-answer-fit own (ForWrite a v) s h o i = record { station = write-local own s h a v (record { idle = ap waiting i; open-is = o }); sent = tt }
-answer-fit own ForCommit s h o i = record { station = h; sent = tt }
+answer-fit own Idle s h o i g = record { station = h; sent = tt }
+answer-fit own (ForRead a) s h o i g =
+    record { station = record { works = works-as own s h _ _ _ o (λ b z. absurd (idle-reads (s .wait) (ap waiting i) b z)); few = read-in _ (s .wait) (ap waiting i) g; locked = h .locked; callbacks = h .callbacks }; sent = tt }
+answer-fit own (ForWrite a v) s h o i g = record { station = write-local own s h a v (record { idle = ap waiting i; open-is = o }) g; sent = tt }
+answer-fit own ForCommit s h o i g = record { station = h; sent = tt }
 
 -- what is in use is so of an open transaction
 used-open : (own : ℕ) (s : Station) → FitStation own s → (a : ℕ) → usedAt s a ≡ true → s .opened ≡ true
@@ -301,10 +414,11 @@ module _ (own : ℕ) (s : Station) (h : FitStation own s) where
       answer-fit own (s .wait) _
       (record {
         works = open-works (q .opened ∙ o) (λ z. h .works .numbered o (sym (q .num) ∙ z)) (λ b z. let y : _≡_ {A = ℕ} 0 1 = cc in absurd (omega arith));
+        few = rw (q .rd, q .wr) (not-out (h .few) Idle (λ b. (refl, refl)));
         locked = lock-locked l a t s o f (h .locked);
         callbacks = rw (q .kind, q .opened, q .kept) (h .callbacks);
       })
-      (q .opened ∙ o) refl)
+      (q .opened ∙ o) refl (rw (q .rd, q .wr) (h .few)))
 
   deescalate-fit : (p t : ℕ) → t ≢ 0 → locking (s .kind) ≡ true → FitDid own (onDeescalate p t s)
   unfolding onDeescalate loosen
@@ -313,7 +427,7 @@ module _ (own : ℕ) (s : Station) (h : FitStation own s) where
       (λ e.
       rw e
       (record {
-        station = record { works = h .works; locked = open-locked (and-l (s .opened) _ (and-l (live s t) _ e)) k; callbacks = h .callbacks };
+        station = record { works = h .works; few = h .few; locked = open-locked (and-l (s .opened) _ (and-l (live s t) _ e)) k; callbacks = h .callbacks };
         sent = (record { names = n; kind-fits = k }, tt);
       }))
       (λ e. rw e (record { station = h; sent = (record { names = n; kind-fits = k }, tt) }))
@@ -329,6 +443,7 @@ module _ (own : ℕ) (s : Station) (h : FitStation own s) where
         station =
             record {
               works = h .works;
+              few = h .few;
               locked = h .locked;
               callbacks =
                   record {
@@ -339,7 +454,7 @@ module _ (own : ℕ) (s : Station) (h : FitStation own s) where
             };
         sent = (record { names = n; kind-fits = k }, tt);
       })
-      (λ e. record { station = record { works = h .works; locked = h .locked; callbacks = h .callbacks }; sent = (record { names = n; kind-fits = k }, tt) })
+      (λ e. record { station = record { works = h .works; few = h .few; locked = h .locked; callbacks = h .callbacks }; sent = (record { names = n; kind-fits = k }, tt) })
 
   invalidate-fit : (d : ℕ → Bool) → FitDid own (onInvalidate d s)
   unfolding onInvalidate dropPages
@@ -347,7 +462,7 @@ module _ (own : ℕ) (s : Station) (h : FitStation own s) where
       let y : Station = dropPages d s in
       if-fit (FitDid own) (touched d s && not (forCommit (s .wait)))
       (λ e. close-fit own _ (rw (undo-kept y) (h .callbacks .not-own)) (λ r. rw (undo-kept y, undo-kind y) (h .callbacks .fit r)) tt)
-      (λ e. record { station = record { works = h .works; locked = h .locked; callbacks = h .callbacks }; sent = tt })
+      (λ e. record { station = record { works = h .works; few = h .few; locked = h .locked; callbacks = h .callbacks }; sent = tt })
 
   down-fit : (m : Down) → DownNames own m → fits m s ≡ true → FitDid own (onDown m s)
   unfolding onDown onCommitted onAborted
@@ -371,6 +486,7 @@ pub fit-new : (own k : ℕ) → FitStation own (freshStation k)
 fit-new own k =
     record {
       works = record { numbered = λ e. absurd (false≢true e); idle = λ e. refl; unread = λ e a. refl; unwritten = λ e a. refl; first = λ a e. (refl, refl) };
+      few = none-few;
       locked = record { object-opened = λ a e. e; object-locks = λ a e. absurd (false≢true e); whole-opened = λ p e. e; whole-locks = λ p e. absurd (false≢true e) };
       callbacks = record { not-own = refl; done = λ e r l. refl; fit = λ r. tt };
     }

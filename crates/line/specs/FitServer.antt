@@ -1,5 +1,5 @@
--- Every step of the server leaves a state that number 1 takes, and what it sends fits its station: from every such state, for every
--- message that number 4 lets pass and number 6 takes.
+-- Every step of the server leaves a state that number 1 takes, what it sends fits its station, and what it archives is within the limit:
+-- from every such state, for every message that numbers 4 and 5 let pass and number 6 takes.
 use mathlib.Core.Path.{_≡_, refl, sym, ap, _∙_}
 use mathlib.Core.Bool.{Bool, true, false, not, _&&_, false≢true}
 use mathlib.Core.List.{List, [], _∷_, _++_}
@@ -10,18 +10,21 @@ use lib.Dec.{eqb, ltb}
 use borrow.Author.Tests.{ltb-true}
 use Rattle.sets.specs.Base.{upd, any}
 use Rattle.sets.specs.Laws.{byB, byEq, eqb-same, eqb-yes, and-l, and-r, not-yes}
-use Rattle.line.specs.Messages.{lastNumber, locking, Work, Up, ReadRequest, WriteRequest, Commit, Abort, Purge, Busy, Done, WrittenSet, Down, Sent, To}
+use Rattle.line.specs.Messages.{lastNumber, locking, Work, Up, ReadRequest, WriteRequest, Commit, Abort, Purge, Busy, Done, WrittenSet, Down, Sent, To, Rec}
 use Rattle.line.specs.Server.{Server, Serving, freshServer, Waiter, noWaiter, waiterPend, waiterBusy, waiterCalled, Want, NoWant, WantRead, WantWrite, WantCommit, isWant, waits, wrotePage, unexpected, badNumber, notice, finish, join, leave, sendPage, abort, informed, write, archive, inform, informFrom, install, readWaiter, writeWaiter, commitWaiter, serveNow, joinRead, joinWrite, joinCommit, commitNow, unlist, openCall, markBusy, answered, openAsk, loosen, accept, ask, serveRead, concerned, callsFrom, call, grantPage, grantObject, installWaiter, start, serverStep}
 use Rattle.line.specs.Pass.{Atomic, if-keeps, step-keeps}
 use Rattle.line.specs.All.{All, all-append}
 use Rattle.line.specs.Apart.{ApartIn, or-l, good-number, atomic-apart, accept-apart, apart-fresh}
-use Rattle.line.specs.Fit.{UpNames, DownNames, takenBy, SentFits, calls, Owes, Form, Forms, Fit}
+use Rattle.line.specs.Fit.{UpNames, DownNames, takenBy, SentFits, LimitedWork, LimitedRec, calls, Owes, Form, Forms, Fit}
 
 abbrev FormsIn : Serving → Type 0
 FormsIn x = Forms (x .server .kind) (x .server .latest) (x .server .fin) (x .server .queue)
 
 abbrev SentIn : Serving → Type 0
 SentIn x = All (SentFits (x .server .kind)) (x .sent)
+
+abbrev RecsIn : Serving → Type 0
+RecsIn x = All LimitedRec (x .recs)
 
 -- ENTRIES
 
@@ -84,13 +87,13 @@ module _ (kind : ℕ → ℕ) (i latest : ℕ) (s : Server) where
         busy = λ j e. absurd (false≢true e);
       }
 
-  commit-form : (w : Work) → w .transaction ≡ latest → Form kind i latest (commitWaiter s w)
-  commit-form w q =
+  commit-form : (w : Work) → w .transaction ≡ latest → LimitedWork w → Form kind i latest (commitWaiter s w)
+  commit-form w q few =
       record {
         blank = λ e. absurd (false≢true (sym e));
         read = λ e. let z : _≡_ {A = ℕ} 0 1 = cc in absurd (omega arith);
         write = λ e. let z : _≡_ {A = ℕ} 0 1 = cc in absurd (omega arith);
-        commit = λ e. record { req-is = refl; latest-is = q };
+        commit = λ e. record { req-is = refl; latest-is = q; few = few };
         called = λ e. absurd (false≢true e);
         pending = λ j e. absurd (false≢true e);
         owed = λ j e. absurd (false≢true e);
@@ -186,11 +189,16 @@ pub record FitIn (x : Serving) : Type 0 where
   pub apart : ApartIn x
   pub forms : FormsIn x
   pub sent : SentIn x
+  pub recs : RecsIn x
 
 module _ (i : ℕ) (x : Serving) where
   notice-forms : (t : ℕ) → t ≢ 0 → waits (x .server) i ≡ false → FormsIn x → FormsIn (notice i t x)
   unfolding notice
   notice-forms t n idle h = if-keeps FormsIn (eqb t (x .server .latest i)) (λ e. h) (λ e. begun-forms h i t n idle)
+
+  notice-recs : (t : ℕ) → RecsIn x → RecsIn (notice i t x)
+  unfolding notice
+  notice-recs t h = if-keeps RecsIn (eqb t (x .server .latest i)) (λ e. h) (λ e. h)
 
   notice-sent : (t : ℕ) → SentIn x → SentIn (notice i t x)
   unfolding notice
@@ -240,6 +248,15 @@ unfolding informFrom
 informs-sent zero j i w x b h = h
 informs-sent (suc n) j i w x b h = informs-sent n (suc j) i w (inform i w j x) (omega arith) (inform-sent i w j x (omega arith) h)
 
+inform-recs : (i : ℕ) (w : Work) (j : ℕ) (x : Serving) → RecsIn x → RecsIn (inform i w j x)
+unfolding inform
+inform-recs i w j x h = if-keeps RecsIn (informed (x .server) i w j) (λ e. h) (λ e. h)
+
+informs-recs : (n j i : ℕ) (w : Work) (x : Serving) → RecsIn x → RecsIn (informFrom n j i w x)
+unfolding informFrom
+informs-recs zero j i w x h = h
+informs-recs (suc n) j i w x h = informs-recs n (suc j) i w (inform i w j x) (inform-recs i w j x h)
+
 -- 21, and 23
 module _ (i : ℕ) (w : Work) (x : Serving) where
   install-forms : FormsIn x → FormsIn (install i w x)
@@ -249,6 +266,11 @@ module _ (i : ℕ) (w : Work) (x : Serving) where
   install-sent : i < 8 → w .transaction ≢ 0 → SentIn x → SentIn (install i w x)
   unfolding install archive write finish leave
   install-sent b n h = informs-sent 8 0 i w _ (omega arith) (more (x .server .kind) (x .sent) i _ h b n refl)
+
+  -- the record is the commit's
+  install-recs : LimitedWork w → RecsIn x → RecsIn (install i w x)
+  unfolding install archive write finish leave
+  install-recs f h = informs-recs 8 0 i w _ (all-append LimitedRec (x .recs) _ h (record { reads-few = f .reads-few; writes-few = f .writes-few }, tt))
 
 -- 20
 concerned-owes : (s : Server) (i j : ℕ) → concerned s i j ≡ true → Owes (s .kind) i j
@@ -287,46 +309,56 @@ calls-want WantWrite t n = refl
 calls-want WantCommit t n = refl
 
 pub atomic-fit : Atomic FitIn
-unfolding ask serveRead sendPage leave call grantObject grantPage installWaiter
+unfolding abort finish ask serveRead sendPage leave call grantObject grantPage installWaiter
 atomic-fit =
     record {
       aborts = λ i c x b t k.
-          record { apart = atomic-apart .aborts i c x b t (k .apart); forms = abort-forms i c x (k .forms); sent = abort-sent i c x b (waits-named i x b k t) (k .sent) };
+          record { apart = atomic-apart .aborts i c x b t (k .apart); forms = abort-forms i c x (k .forms); sent = abort-sent i c x b (waits-named i x b k t) (k .sent); recs = k .recs };
       asks = λ i h p x b t u k.
           let o = k .apart .locks .whole-open h p (t .held) in
           record {
             apart = atomic-apart .asks i h p x b t u (k .apart);
             forms = k .forms;
             sent = more (x .server .kind) (x .sent) h _ (k .sent) (o .station) (b, k .forms .named h (o .station) (o .unfinished)) (o .locks);
+            recs = k .recs;
           };
       reads = λ i x b w c k.
           record {
             apart = atomic-apart .reads i x b w c (k .apart);
             forms = left-forms (k .forms) i;
             sent = more (x .server .kind) (x .sent) i _ (k .sent) b (k .forms .form i b .read w .in-range, waits-named i x b k (ap isWant w)) refl;
+            recs = k .recs;
           };
       calls = λ i x b t u w c k.
           record {
             apart = atomic-apart .calls i x b t u w c (k .apart);
             forms = changed-forms (k .forms) i _ (λ _. called-form (k .forms .form i b) (concerned (x .server) i) (calls-want _ t w) (concerned-owes (x .server) i) (uncalled i x b k u));
             sent = all-append (SentFits (x .server .kind)) (x .sent) (callsFrom 8 0 (x .server) i) (k .sent) (calls-fit 8 0 (x .server) i (waits-named i x b k t));
+            recs = k .recs;
           };
       objects = λ i x b w r k.
           record {
             apart = atomic-apart .objects i x b w r (k .apart);
             forms = left-forms (k .forms) i;
             sent = more (x .server .kind) (x .sent) i _ (k .sent) b (request-in i x b k w, waits-named i x b k (ap isWant w)) (k .apart .waiting .entry i b .writes-lock w);
+            recs = k .recs;
           };
       pages = λ i x b w r e k.
           record {
             apart = atomic-apart .pages i x b w r e (k .apart);
             forms = left-forms (k .forms) i;
             sent = more (x .server .kind) (x .sent) i _ (k .sent) b (request-in i x b k w, waits-named i x b k (ap isWant w)) (k .apart .waiting .entry i b .writes-lock w);
+            recs = k .recs;
           };
       installs = λ i x b w f r k.
           let v = x .server .queue i .work in
           let n : v .transaction ≢ 0 = λ z. waits-named i x b k (ap isWant w) (sym (k .forms .form i b .commit w .latest-is) ∙ z) in
-          record { apart = atomic-apart .installs i x b w f r (k .apart); forms = install-forms i v x (k .forms); sent = install-sent i v x b n (k .sent) };
+          record {
+            apart = atomic-apart .installs i x b w f r (k .apart);
+            forms = install-forms i v x (k .forms);
+            sent = install-sent i v x b n (k .sent);
+            recs = install-recs i v x (k .forms .form i b .commit w .few) (k .recs);
+          };
     }
 
 -- ACCEPT
@@ -351,6 +383,10 @@ commitNow-sent : (i : ℕ) (w : Work) (x : Serving) → i < 8 → x .server .lat
 unfolding commitNow
 commitNow-sent i w x b n m h = if-keeps SentIn (eqb (x .server .last) lastNumber) (λ e. abort-sent i 4 x b n h) (λ e. install-sent i w x b m h)
 
+commitNow-recs : (i : ℕ) (w : Work) (x : Serving) → LimitedWork w → RecsIn x → RecsIn (commitNow i w x)
+unfolding commitNow abort finish leave
+commitNow-recs i w x f h = if-keeps RecsIn (eqb (x .server .last) lastNumber) (λ e. h) (λ e. install-recs i w x f h)
+
 accept-forms : (i : ℕ) (m : Up) (x : Serving) → i < 8 → UpNames m → unexpected i m (x .server) ≡ false → FitIn x → FormsIn (accept i m x)
 unfolding accept joinRead joinWrite joinCommit serveNow sendPage unlist markBusy answered loosen
 accept-forms i (ReadRequest a t) x b n u h =
@@ -363,9 +399,9 @@ accept-forms i (WriteRequest a t) x b n u h =
 accept-forms i (Commit w) x b n u h =
     let t : ℕ = w .transaction in
     let y : Serving = notice i t x in
-    let g : FormsIn y = noticed-forms i t x n (or-l (badNumber (x .server) i t) _ u) h in
+    let g : FormsIn y = noticed-forms i t x (n .0) (or-l (badNumber (x .server) i t) _ u) h in
     if-keeps FormsIn (locking (x .server .kind i)) (λ e. commitNow-forms i w y g)
-    (λ e. join-forms i _ y (commit-form (y .server .kind) i (y .server .latest i) (y .server) w (sym (noticed-latest i x t))) g)
+    (λ e. join-forms i _ y (commit-form (y .server .kind) i (y .server .latest i) (y .server) w (sym (noticed-latest i x t)) (n .1)) g)
 accept-forms i (Abort t) x b n u h = finish-forms i (notice i t x) (noticed-forms i t x n (or-l (badNumber (x .server) i t) _ u) h)
 accept-forms i (Purge p) x b n u h = h .forms
 accept-forms i (Busy r t) x b n u h =
@@ -387,22 +423,35 @@ accept-sent i (WriteRequest a t) x b n h = notice-sent i x t h
 accept-sent i (Commit w) x b n h =
     let t : ℕ = w .transaction in
     let g : SentIn (notice i t x) = notice-sent i x t h in
-    if-keeps SentIn (locking (x .server .kind i)) (λ e. commitNow-sent i w (notice i t x) b (λ z. n (sym (noticed-latest i x t) ∙ z)) n g) (λ e. g)
+    if-keeps SentIn (locking (x .server .kind i)) (λ e. commitNow-sent i w (notice i t x) b (λ z. n .0 (sym (noticed-latest i x t) ∙ z)) (n .0) g) (λ e. g)
 accept-sent i (Abort t) x b n h = notice-sent i x t h
 accept-sent i (Purge p) x b n h = h
 accept-sent i (Busy r t) x b n h = if-keeps SentIn (openCall (x .server) i r t) (λ e. h) (λ e. h)
 accept-sent i (Done r t d) x b n h = if-keeps SentIn (openCall (x .server) i r t) (λ e. h) (λ e. h)
 accept-sent i (WrittenSet p t set) x b n h = if-keeps SentIn (openAsk (x .server) i p t) (λ e. h) (λ e. h)
 
+accept-recs : (i : ℕ) (m : Up) (x : Serving) → UpNames m → RecsIn x → RecsIn (accept i m x)
+unfolding accept joinRead joinWrite joinCommit join serveNow sendPage finish unlist markBusy answered loosen
+accept-recs i (ReadRequest a t) x n h = let g = notice-recs i x t h in if-keeps RecsIn (locking (x .server .kind i)) (λ e. g) (λ e. g)
+accept-recs i (WriteRequest a t) x n h = notice-recs i x t h
+accept-recs i (Commit w) x n h =
+    let g = notice-recs i x (w .transaction) h in
+    if-keeps RecsIn (locking (x .server .kind i)) (λ e. commitNow-recs i w (notice i (w .transaction) x) (n .1) g) (λ e. g)
+accept-recs i (Abort t) x n h = notice-recs i x t h
+accept-recs i (Purge p) x n h = h
+accept-recs i (Busy r t) x n h = if-keeps RecsIn (openCall (x .server) i r t) (λ e. h) (λ e. h)
+accept-recs i (Done r t d) x n h = if-keeps RecsIn (openCall (x .server) i r t) (λ e. h) (λ e. h)
+accept-recs i (WrittenSet p t set) x n h = if-keeps RecsIn (openAsk (x .server) i p t) (λ e. h) (λ e. h)
+
 pub accept-fit : (i : ℕ) (m : Up) (x : Serving) → i < 8 → UpNames m → unexpected i m (x .server) ≡ false → FitIn x → FitIn (accept i m x)
 accept-fit i m x b n u h =
-    record { apart = accept-apart i m x b u (h .apart); forms = accept-forms i m x b n u h; sent = accept-sent i m x b n (h .sent) }
+    record { apart = accept-apart i m x b u (h .apart); forms = accept-forms i m x b n u h; sent = accept-sent i m x b n (h .sent); recs = accept-recs i m x n (h .recs) }
 
 -- THE STEP
 
 module _ (i : ℕ) (m : Up) (s : Server) (b : i < 8) (n : UpNames m) (u : unexpected i m s ≡ false) (h : Fit s) where
   step-all : FitIn (serverStep i m s)
-  step-all = step-keeps FitIn atomic-fit i m s (accept-fit i m (start s) b n u (record { apart = h .apart; forms = h .forms; sent = tt }))
+  step-all = step-keeps FitIn atomic-fit i m s (accept-fit i m (start s) b n u (record { apart = h .apart; forms = h .forms; sent = tt; recs = tt }))
 
   -- the state left is taken again
   pub step-fit : Fit ((serverStep i m s) .server)
@@ -411,6 +460,10 @@ module _ (i : ℕ) (m : Up) (s : Server) (b : i < 8) (n : UpNames m) (u : unexpe
   -- what is sent fits
   pub step-sends : All (SentFits ((serverStep i m s) .server .kind)) ((serverStep i m s) .sent)
   step-sends = step-all .sent
+
+  -- what is archived is within the limit
+  pub step-archives : All LimitedRec ((serverStep i m s) .recs)
+  step-archives = step-all .recs
 
 pub fit-fresh : (k : ℕ → ℕ) → ((i : ℕ) → k i ≤ 1) → Fit (freshServer k)
 fit-fresh k small =

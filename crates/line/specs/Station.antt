@@ -2,8 +2,10 @@
 use mathlib.Core.Bool.{Bool, true, false, not, _&&_, _||_, cond}
 use mathlib.Core.List.{List, [], _∷_}
 use Prim.Native.Nat.{ℕ, zero, suc, _+_}
-use lib.Dec.{eqb, ltb}
+use lib.Dec.{eqb, ltb, leb}
 use Rattle.sets.specs.Base.{upd, snoc, Val, none, some, has, valOr, noneAt, nowhere, zeros, any, turned}
+use Rattle.sets.specs.Size.{size}
+use Rattle.limits.specs.Limit.{limit}
 use Rattle.line.specs.Messages.{pageOf, address, lastNumber, locking, Work, Up, ReadRequest, WriteRequest, Commit, Abort, Purge, Busy, Done, WrittenSet, Lock, NoLock, ObjectLock, WholeLock, Down, Page, Deescalate, Callback, Committed, Aborted, Invalidate, Answer, Nothing, Begun, Value, Waits, Written, CommittedAs, AbortedFor, Purged, Refused}
 
 -- what the owner waits for
@@ -208,13 +210,24 @@ undo s = cond (locking (s .kind)) (mark (λ a. has (s .wr a)) s) (dropPages (wro
 abbrev pub checkBegin : Station → ℕ
 checkBegin s = turned (waiting (s .wait)) 7 (turned (s .opened) 9 (turned (eqb (s .num) lastNumber) 11 0))
 
--- 7 Waiting, 8 Closed
-abbrev pub checkOpen : Station → ℕ
-checkOpen s = turned (waiting (s .wait)) 7 (turned (not (s .opened)) 8 0)
+-- 7 Waiting, 8 Closed, then others
+abbrev pub openThen : Station → ℕ → ℕ
+openThen s others = turned (waiting (s .wait)) 7 (turned (not (s .opened)) 8 others)
 
--- 4 Range (an address is one byte: page 0 to 31, object 0 to 7), 7 Waiting, 8 Closed
-abbrev pub checkAddress : ℕ → Station → ℕ
-checkAddress a s = turned (not (ltb a 256)) 4 (checkOpen s)
+abbrev pub checkOpen : Station → ℕ
+checkOpen s = openThen s 0
+
+-- 15 Long (document 02, wish 1): "the owner's 49th recorded read or 49th written object". What was read or written before is not recorded
+-- as read again, and what was written before is not one object more.
+abbrev pub longRead : ℕ → Station → Bool
+longRead a s = not (usedAt s a) && leb limit (size 256 (λ b. has (s .rd b)))
+
+abbrev pub longWrite : ℕ → Station → Bool
+longWrite a s = not (has (s .wr a)) && leb limit (size 256 (λ b. has (s .wr b)))
+
+-- 4 Range (an address is one byte: page 0 to 31, object 0 to 7), 7 Waiting, 8 Closed, 15 Long
+abbrev pub checkAddress : ℕ → Bool → Station → ℕ
+checkAddress a long s = turned (not (ltb a 256)) 4 (openThen s (turned long 15 0))
 
 -- 4 Range, 7 Waiting ("a purge counts only for the requested page"), 10 Kept
 abbrev pub checkPurge : ℕ → Station → ℕ
@@ -237,7 +250,7 @@ readAs a none (some v) s = does (Value v) s []
 readAs a (some v) r s = does (Value v) s []
 
 unfoldable pub ownRead : ℕ → Station → Did
-ownRead a s = unless (checkAddress a s) (readAs a (s .wr a) (s .rd a) s) s
+ownRead a s = unless (checkAddress a (longRead a s) s) (readAs a (s .wr a) (s .rd a) s) s
 
 -- "A locking station writes locally under its lock on object or page, else sends 2. A validating station writes locally on a
 -- cached page, else sends 1."
@@ -248,7 +261,7 @@ unfoldable pub writeAsk : ℕ → ℕ → Station → Did
 writeAsk a v s = does Waits (setWait s (ForWrite a v)) (cond (locking (s .kind)) (WriteRequest a (s .num)) (ReadRequest a (s .num)) ∷ [])
 
 unfoldable pub ownWrite : ℕ → ℕ → Station → Did
-ownWrite a v s = unless (checkAddress a s) (cond (mayWrite a s) (does Written (writeLocal a v s) []) (writeAsk a v s)) s
+ownWrite a v s = unless (checkAddress a (longWrite a s) s) (cond (mayWrite a s) (does Written (writeLocal a v s) []) (writeAsk a v s)) s
 
 -- "0 for an unused page; all 0 from a locking station"
 abbrev pub workOf : Station → Work

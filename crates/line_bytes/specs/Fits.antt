@@ -9,16 +9,20 @@ use native.Mathlib.Omega.{arith}
 use lib.Bits.{bitOr}
 use lib.Dec.{eqb, ltb}
 use borrow.Author.Tests.{eqb-true, eqb-false, eq-eqb, ne-eqb, not-true, not-false}
+use Rattle.sets.specs.Base.{has}
 use Rattle.sets.specs.Laws.{byB, byEq, eqb-same, eqb-yes, eqb-no, ltb-yes, ltb-no}
+use Rattle.sets.specs.Size.{size, size-same}
 use Rattle.cells.specs.Bits.{tb, tb-or, tb-high}
 use Rattle.cells.specs.Cells.{view, view-col, view-row, cell-lt, get32}
 use Rattle.line.specs.Messages.{locking}
 use Rattle.line.specs.Server.{Server, Want, NoWant, WantRead, WantWrite, WantCommit, isWant}
 use Rattle.line.specs.Apart.{Holder, Locks, Ages, Entry, Waiting}
-use Rattle.line.specs.Fit.{calls, One, Owes, Form, Forms, Fit}
-use Rattle.station_state.specs.Layout.{numberWidth, hasBit, member, noneIn}
+use Rattle.line.specs.Fit.{LimitedWork, calls, One, Owes, Form, Forms, Fit}
+use Rattle.station_state.specs.Layout.{numberWidth, hasBit, member, countIn, noneIn}
 use Rattle.station_state.specs.Sets.{none-member}
-use Rattle.server_state.specs.Layout.{table, askedCell, kindCell, lockCell, wholeCell, workCell, workFrom, pendFrom, requestFrom, workNumber, lockOf, wholeOf, readSetFrom, writtenSetFrom, kindOf, wantOf, requestOf, calledOf, pendOf, busyOf, unfinishedOf}
+use Rattle.station_meaning.specs.Meant.{within}
+use Rattle.station_meaning.specs.Tests.{has-if}
+use Rattle.server_state.specs.Layout.{table, askedCell, kindCell, lockCell, wholeCell, readSetCell, writtenSetCell, readValueCell, writtenValueCell, workCell, workFrom, pendFrom, requestFrom, workNumber, lockOf, wholeOf, readSetFrom, writtenSetFrom, kindOf, wantOf, requestOf, calledOf, pendOf, busyOf, unfinishedOf}
 use Rattle.server_state.specs.Facts.{Ranged}
 use Rattle.server_state.specs.Facts as Bytes
 use Rattle.server_state.specs.Sets.{only-member}
@@ -85,6 +89,25 @@ module _ {s : List ℕ} {m : Server} (h : Is s m) where
 
   pub number-at : (i : ℕ) → i < 8 → wantOf s i ≡ 3 → workNumber s i ≡ m .queue i .work .transaction
   number-at i l k = rw (work-at h i l k) (get32 (start h) workCell i 0 (workFrom + i * numberWidth) refl (omega arith) l (omega arith))
+
+  -- a waiting commit brings what its sets have, and as much
+  work-reads : (i a : ℕ) → i < 8 → a < 256 → wantOf s i ≡ 3 → has (m .queue i .work .reads a) ≡ member s (readSetFrom i) a
+  work-reads i a li la k =
+      rw (work-at h i li k) (has-if (within (view table 0 s readSetCell i) a) (view table 0 s readValueCell i a))
+      ∙ ap (λ (n : Server). n .queue i .reads a) (h .is) ∙ sym (read-member i a li la)
+
+  work-writes : (i a : ℕ) → i < 8 → a < 256 → wantOf s i ≡ 3 → has (m .queue i .work .writes a) ≡ member s (writtenSetFrom i) a
+  work-writes i a li la k =
+      rw (work-at h i li k) (has-if (within (view table 0 s writtenSetCell i) a) (view table 0 s writtenValueCell i a))
+      ∙ ap (λ (n : Server). n .queue i .writes a) (h .is) ∙ sym (written-member i a li la)
+
+  pub reads-count : (i : ℕ) → i < 8 → wantOf s i ≡ 3 → size 256 (λ a. has (m .queue i .work .reads a)) ≡ countIn s (readSetFrom i)
+  unfolding countIn
+  reads-count i l k = size-same 256 _ _ (λ a la. work-reads i a l la k)
+
+  pub writes-count : (i : ℕ) → i < 8 → wantOf s i ≡ 3 → size 256 (λ a. has (m .queue i .work .writes a)) ≡ countIn s (writtenSetFrom i)
+  unfolding countIn
+  writes-count i l k = size-same 256 _ _ (λ a la. work-writes i a l la k)
 
   module _ (r : Ranged s) where
     want-number : (i : ℕ) → i < 8 → wantOf s i ≡ wantNumber (m .queue i .want)
@@ -246,7 +269,12 @@ module _ {s : List ℕ} {m : Server} (h : Is s m) where
             write = λ e. let o = write-bytes e in record { in-range = request-lt; asked-for = only-written o; nothing-else = nothing-read (o .nothing-else) };
             commit = λ e.
                 let o = commit-bytes e in
-                record { req-is = sym (request-at h i l) ∙ o .request-is; latest-is = sym (number-at i l (number WantCommit e)) ∙ o .latest-is ∙ latest-at h i l };
+                let three = number WantCommit e in
+                record {
+                  req-is = sym (request-at h i l) ∙ o .request-is;
+                  latest-is = sym (number-at i l three) ∙ o .latest-is ∙ latest-at h i l;
+                  few = record { reads-few = rw (reads-count i l three) (o .reads-few); writes-few = rw (writes-count i l three) (o .writes-few) };
+                };
             called = λ e. calls-of (m .queue i .want) (rw (← want-number i l) (r .called i l (called-yes e) .wants));
             pending = λ j e. sym (called-at h i l) ∙ ap not (ne-eqb (calledOf s i) 0 (pend-calls j e));
             owed = owed-of;

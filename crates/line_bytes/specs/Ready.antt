@@ -33,7 +33,7 @@ use Rattle.line_bytes.specs.Runs.{kind-small, same-kinds, callsOf, run-s
 use Rattle.line_bytes.specs.Arrivals.{arrivals-below}
 use Rattle.line_bytes.specs.Flags.{Flagged, step-flagged, fresh-flagged}
 use Rattle.line_bytes.specs.Valid.{valid-of}
-use Rattle.line_bytes.specs.Stays.{up-names}
+use Rattle.line_bytes.specs.Served.{up-names}
 
 -- WHAT CALLS LEAVE OF THE SERVER
 
@@ -112,7 +112,7 @@ module _ (kinds : List ℕ) (size : length kinds ≡ 8) (i : ℕ) (l : i < 8) (b
       let t = lent (b .server) o q r in
       let check = check-is kinds size i l b w o q x u (k .0) t h in
       let flags = step-flagged kinds x (b .server) (k .0 .accepted) (all-bytes x (k .0 .bytes-are)) (g .flags) in
-      let names : UpNames u = subst UpNames (k .0 .meant) (up-names kinds x (k .0 .accepted)) in
+      let names : UpNames u = subst UpNames (k .0 .meant) (up-names kinds x (k .0 .accepted) (all-bytes x (k .0 .bytes-are))) in
       let after : unexpected i u (w .server) ≡ false → Kept ((serverStepB x (b .server)) .state) ((serverStep i u (w .server)) .server) =
       λ e. record { flags = flags; fit = step-fit i u (w .server) l names e (g .fit) } in
       byB (unexpected i u (w .server)) (λ e. rw (r, check, e) g) (λ e. rw (r, check, e) (after e))
@@ -143,9 +143,9 @@ run-kept kinds size ok (c ∷ cs) b w f h g =
 
 -- the next call of a run is turned back with number 1 only for its output
 pub record Ready (w : WorldB) : Type 0 where
-  -- "128 messages and 36,992 record bytes (server)"
+  -- 128 messages and 7,040 record bytes
   pub server : (o q : List ℕ) → serverRoom ≤ length o → recordsRoom ≤ length q → ServerCall.ready (w .server) o q ≡ true
-  -- "8 messages and 4,864 commit bytes (station)"
+  -- 8 messages and 1,120 commit bytes
   pub station : (i : ℕ) → i < 8 → (o c : List ℕ) → stationRoom ≤ length o → commitRoom ≤ length c → ready (w .station i) o c ≡ true
 
 module _ (kinds : List ℕ) (ok : kindsOk kinds ≡ true) (cs : List CallB) (f : AllFit cs) where

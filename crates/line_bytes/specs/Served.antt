@@ -13,17 +13,25 @@ use Rattle.lists.specs.Stores.{sets-front}
 use Rattle.sets.specs.Base.{upd, nowhere, zeros}
 use Rattle.sets.specs.Laws.{byB, byEq, eqb-yes, eqb-no, ltb-yes, ltb-no}
 use Rattle.le.specs.Le.{setU64}
+use Rattle.cells.specs.Num.{AllBytes, bytes-all}
 use Rattle.cells.specs.Upd.{ltb-suc}
 use Rattle.cells.specs.Bits.{tb, tb-zero}
 use Rattle.cells.specs.Cells.{Cells, view-zero, upd3, Holds, begin, put8, put64}
-use Rattle.layout.specs.Record.{longestRecord, bytesOf, archiveOf}
-use Rattle.entries.specs.Entries.{entries-count}
+use Rattle.layout.specs.Record.{bytesOf, archiveOf}
+use Rattle.entries.specs.Entries.{entries-size}
 use Rattle.recs.specs.Recs.{asRecord, recordsOf}
 use Rattle.record_meaning.specs.Layout.{length-bytesOf}
 use Rattle.line.specs.Messages.{Sent, Rec}
 use Rattle.line.specs.Server.{Server, noWaiter, setKind, setQueue, setListed, setAsked, waiterReads, waiterWrites, waiterPend, waiterBusy}
 use Rattle.line.specs.Server as Model
-use Rattle.message.specs.Commit.{recordsRoom, serverRoom}
+use Rattle.line.specs.All.{All}
+use Rattle.line.specs.Fit.{LimitedRec, UpNames}
+use Rattle.message.specs.Layout.{stationOf, kindOf}
+use Rattle.message.specs.Number.{upNumber}
+use Rattle.message.specs.Commit.{longestSent, recordsRoom, serverRoom}
+use Rattle.message_meaning.specs.Meant.{workAt, upOf}
+use Rattle.message_meaning.specs.Kinds.{up-1, up-2, up-3, up-4, up-5, up-6, up-7, up-8}
+use Rattle.message_meaning.specs.UpAccepted.{UpAccepted, up-accepted, commit-few}
 use Rattle.station_callbacks.specs.Callbacks.{flat}
 use Rattle.station_meaning.specs.Meant.{within}
 use Rattle.server_state.specs.Layout.{nextAgeCell, nextArrivalCell, kindCell, table, nextAgeFrom, nextArrivalFrom, kindFrom, serverLength}
@@ -34,6 +42,7 @@ use Rattle.server_meaning.specs.Tests.{kind-at}
 use Rattle.server_actions.specs.Actions.{Serving}
 use Rattle.server_actions.specs.Step.{kindsOf, laid}
 use Rattle.step_meaning.specs.Relation.{Sound, AllSent, AllRecs, Serves}
+use Rattle.step_meaning.specs.Accept.{by-kind}
 use Rattle.call_meaning.specs.Buffers.{messagesIn, Sized, laid-read}
 use Rattle.line_bytes.specs.Fits.{fit-of, sound-fit}
 
@@ -51,6 +60,23 @@ module _ {s : List ℕ} {m : Server} (h : Is s m) where
       (λ i l.
       let small : i < 8 = omega arith in
       getD-take 8 (drop kindFrom s) i 0 small ∙ getD-drop kindFrom s i 0 ∙ kind-at h i small ∙ k i small)
+
+-- A MESSAGE THAT NUMBERS 2 TO 5 LET PASS
+
+-- what numbers 4 and 5 let pass names what they ask for, in the model's words
+pub up-names : (kinds x : List ℕ) → upNumber kinds x ≡ 0 → AllBytes x → UpNames (upOf x)
+unfolding workAt
+up-names kinds x n b =
+    let a : UpAccepted kinds x = up-accepted kinds x n in
+    by-kind (kindOf x) (a .kind-from) (a .kind-to)
+    (λ e. let f = a .request (omega arith) in rw (up-1 x e) (omega (arith, f .page-is, f .object-is), f .transaction-not-0))
+    (λ e. let f = a .request (omega arith) in rw (up-2 x e) (omega (arith, f .page-is, f .object-is), f .transaction-not-0))
+    (λ e. rw (up-3 x e) (a .commit e .transaction-not-0, commit-few (getD kinds (stationOf x) 0) x (bytes-all x b) (a .commit e)))
+    (λ e. rw (up-4 x e) (a .abort e .transaction-not-0))
+    (λ e. rw (up-5 x e) (a .purge e .page-is))
+    (λ e. rw (up-6 x e) (a .busy e .transaction-not-0))
+    (λ e. rw (up-7 x e) (a .done e .transaction-not-0))
+    (λ e. rw (up-8 x e) (a .written-set e .transaction-not-0))
 
 -- A FRESH STATE
 
@@ -137,18 +163,20 @@ recs-flat [] (r ∷ rs) h = absurd h
 recs-flat (b ∷ bs) [] h = absurd h
 recs-flat (b ∷ bs) (r ∷ rs) h = rw (h .0, recs-flat bs rs (h .1))
 
--- "Length 16 + 9 × (n + m), at most 4,624"
-archive-most : (rs : List Rec) → length (archiveOf (recordsOf rs)) ≤ longestRecord * length rs
+-- document 02, wish 1: "Records are then at most 880 bytes"
+archive-most : (rs : List Rec) → All LimitedRec rs → length (archiveOf (recordsOf rs)) ≤ longestSent * length rs
 unfolding archiveOf
-archive-most [] = omega arith
-archive-most (r ∷ rs) =
+archive-most [] f = omega arith
+archive-most (r ∷ rs) f =
     omega (
       arith,
       length-append (bytesOf (asRecord r)) (archiveOf (recordsOf rs)),
       length-bytesOf (asRecord r),
-      entries-count (r .reads),
-      entries-count (r .writes),
-      archive-most rs,
+      entries-size (r .reads),
+      entries-size (r .writes),
+      f .0 .reads-few,
+      f .0 .writes-few,
+      archive-most rs (f .1),
     )
 
 pub archive-join : (qs rs : List Rec) → archiveOf (recordsOf (qs ++ rs)) ≡ archiveOf (recordsOf qs) ++ archiveOf (recordsOf rs)
@@ -156,14 +184,18 @@ unfolding archiveOf
 archive-join [] rs = refl
 archive-join (q ∷ qs) rs = rw (archive-join qs rs) (sym (append-assoc (bytesOf (asRecord q)) (archiveOf (recordsOf qs)) (archiveOf (recordsOf rs))))
 
--- "128 messages and 36,992 record bytes": there is room for what a step sends and archives
+-- eight records fit "the server's record buffer 7,040"
+pub records-fit : (bs : List (List ℕ)) (rs : List Rec) → AllRecs bs rs → length rs ≤ 8 → All LimitedRec rs → length (flat bs) ≤ recordsRoom
+records-fit bs rs h most few = rw (recs-flat bs rs h) (omega (arith, archive-most rs few))
+
+-- "128 messages" and 7,040 record bytes: there is room for what a step sends and archives
 module _ {b : Serving} {x : Model.Serving} (h : Serves b x) (o q : List ℕ) (lo : serverRoom ≤ length o) (lq : recordsRoom ≤ length q) where
   pub messages-are : length (x .sent) ≤ 128 → messagesIn ((laid o q b) .messages) ((laid o q b) .sent) ≡ b .sent
   messages-are most = laid-read o (b .sent) (sent-sized (b .sent) (x .sent) (h .sent)) (omega (arith, sent-count (b .sent) (x .sent) (h .sent)))
 
-  pub records-are : length (x .recs) ≤ 8 → take ((laid o q b) .archived) ((laid o q b) .records) ≡ archiveOf (recordsOf (x .recs))
-  records-are most =
+  pub records-are : length (x .recs) ≤ 8 → All LimitedRec (x .recs) → take ((laid o q b) .archived) ((laid o q b) .records) ≡ archiveOf (recordsOf (x .recs))
+  records-are most few =
       let bytes = flat (b .recs) in
       let same : bytes ≡ archiveOf (recordsOf (x .recs)) = recs-flat (b .recs) (x .recs) (h .recs) in
-      let fits : length bytes ≤ length q = rw same (omega (arith, archive-most (x .recs))) in
+      let fits : length bytes ≤ length q = omega (arith, records-fit (b .recs) (x .recs) (h .recs) most few) in
       ap (take (length bytes)) (sets-front bytes q (length bytes) refl fits) ∙ take-at bytes (drop (length bytes) q) (length bytes) refl ∙ same

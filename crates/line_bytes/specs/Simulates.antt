@@ -19,7 +19,10 @@ use Rattle.line.specs.Station.{Station, Did, stationStep}
 use Rattle.line.specs.Server.{Server, serverStep, unexpected}
 use Rattle.line.specs.Server as Model
 use Rattle.line.specs.Line.{Op, Told, World, worldUp, worldDown, Call, Owner, ServerTakes, StationTakes, Broken, tell, sentTo, carryUp, carryDown, perform, ownerActs, isRefused, stationTakes, serverTakes, act}
+use Rattle.line.specs.All.{All}
 use Rattle.line.specs.Bounds.{step-128, step-8}
+use Rattle.line.specs.Fit.{LimitedRec, UpNames}
+use Rattle.line.specs.FitServer.{step-archives}
 use Rattle.truth.specs.ValidatedMoves.{perform-kind, step-kind}
 use Rattle.message.specs.Layout.{stationOf}
 use Rattle.message.specs.Number.{kindsOk, downNumber}
@@ -51,8 +54,9 @@ use Rattle.call_meaning.specs.Buffers.{messagesIn, sentBy}
 use Rattle.call_meaning.specs.Calls.{AllReads, performB, stepB, OpFits, owner-means, owner-unready, step-told, step-unchanged}
 use Rattle.call_meaning.specs.Calls as Calls
 use Rattle.line_bytes.specs.Bytes.{WorldB, CallB, OwnerB, ServerTakesB, StationTakesB, Fits, tellB, sentToB, restUp, restDown, carryUpB, carryDownB, ownerActsB, stationTakesB, serverTakesB, actB}
-use Rattle.line_bytes.specs.Served.{sound-of, kinds-read, archive-join, messages-are, records-are}
+use Rattle.line_bytes.specs.Served.{sound-of, kinds-read, up-names, archive-join, messages-are, records-are}
 use Rattle.line_bytes.specs.Kinds.{server-kind}
+use Rattle.line_bytes.specs.Fits.{fit-of}
 
 -- THE RELATION
 
@@ -397,6 +401,13 @@ module _ (kinds : List ℕ) (size : length kinds ≡ 8) (i : ℕ) (l : i < 8) (b
       let taken = accept-means is (wanting s (t .state)) (sound-of is (t .state)) kinds x (k .accepted) (all-bytes x (k .bytes-are)) (omega (arith, r .ages-fit)) (omega (arith, r .arrivals-fit)) in
       subst (λ (v : Up). Serves (serverStepB x s) (serverStep i v (w .server))) (k .meant) (step-means x s i (w .server) (rw (k .station-is) at taken))
 
+  -- what it archives is within the limit
+  pub archives : (x : List ℕ) (u : Up) → Reads kinds i (length x) x u → Lent (b .server) o q → Sim kinds b w → unexpected i u (w .server) ≡ false
+      → All LimitedRec ((serverStep i u (w .server)) .recs)
+  archives x u k t h e =
+      let names : UpNames u = rw (k .meant) at (up-names kinds x (k .accepted) (all-bytes x (k .bytes-are))) in
+      step-archives i u (w .server) l names e (fit-of (h .line .server) (valid-ranged (b .server) (t .state)))
+
   rest-up : (ms : List (List ℕ)) (us : List Up) → AllReads kinds i ms us → Sim kinds b w → Sim kinds (restUp i ms b) (worldUp w (upd (w .up) i us))
   rest-up ms us k h =
       record {
@@ -446,9 +457,11 @@ module _ (kinds : List ℕ) (size : length kinds ≡ 8) (i : ℕ) (l : i < 8) (b
       let check = check-is kinds size i l b w o q x u (k .0) t h in
       let s = serves kinds size i l b w o q x u (k .0) t h in
       let ms₁ = messages-are s o q (t .messages) (t .records) (step-128 i u (w .server)) in
-      let rs₁ = records-are s o q (t .messages) (t .records) (step-8 i u (w .server) l) in
+      byB (unexpected i u (w .server)) (λ e. rw (r, check, e, carry-refused 6 o q b) h)
+      (λ e.
+      let rs₁ = records-are s o q (t .messages) (t .records) (step-8 i u (w .server) l) (archives kinds size i l b w o q x u (k .0) t h e) in
       let moved = carry-down kinds size i l (restUp i ms b) (worldUp w (upd (w .up) i us)) o q _ _ s (server-kind i u (w .server)) ms₁ rs₁ (rest-up kinds size i l b w o q ms us (k .1) h) in
-      byB (unexpected i u (w .server)) (λ e. rw (r, check, e, carry-refused 6 o q b) h) (λ e. rw (r, check, e) moved)
+      rw (r, check, e) moved)
 
   -- number 1
   server-still : (ms : List (List ℕ)) → ServerCall.ready (b .server) o q ≡ false → serverTakesB i ms o q b ≡ b

@@ -17,14 +17,13 @@ use Rattle.line.specs.All.{All}
 use Rattle.line.specs.Bounds.{step-128}
 use Rattle.line.specs.Counters.{step-counts}
 use Rattle.line.specs.Fit as Fit
-use Rattle.line.specs.Fit.{UpNames, SentFits}
-use Rattle.line.specs.FitServer.{step-fit, step-sends}
+use Rattle.line.specs.Fit.{LimitedRec, SentFits}
+use Rattle.line.specs.FitServer.{step-fit, step-sends, step-archives}
 use Rattle.truth.specs.ValidatedMoves.{perform-kind, step-kind}
-use Rattle.message.specs.Layout.{kindOf, stationOf}
+use Rattle.message.specs.Layout.{stationOf}
 use Rattle.message.specs.Number.{downNumber, kindsOk, upNumber}
-use Rattle.message_meaning.specs.Meant.{workAt, upOf, downOf}
-use Rattle.message_meaning.specs.Kinds.{up-1, up-2, up-3, up-4, up-5, up-6, up-7, up-8}
-use Rattle.message_meaning.specs.UpAccepted.{UpAccepted, up-accepted}
+use Rattle.message_meaning.specs.Meant.{upOf, downOf}
+use Rattle.message_meaning.specs.UpAccepted.{up-accepted}
 use Rattle.station_state.specs.Layout as StationState
 use Rattle.station_state.specs.Valid as StationValid
 use Rattle.station_callbacks.specs.Callbacks.{flat}
@@ -48,31 +47,16 @@ use Rattle.server_actions.specs.Actions.{serving, acceptB}
 use Rattle.server_actions.specs.Pass.{serverStepB}
 use Rattle.server_actions.specs.Step.{ready, kindsOf, checkStepB, laid, serverCalled}
 use Rattle.step_meaning.specs.Relation.{AllSent, Serves}
-use Rattle.step_meaning.specs.Accept.{by-kind, unexpected-at, accept-means}
+use Rattle.step_meaning.specs.Accept.{unexpected-at, accept-means}
 use Rattle.step_meaning.specs.Pass.{step-means}
 use Rattle.line_bytes.specs.Fits.{fit-of, sound-fit}
 use Rattle.line_bytes.specs.Flags.{Flagged, step-flagged}
 use Rattle.line_bytes.specs.Valid.{valid-of}
-use Rattle.line_bytes.specs.Served.{messages-are}
+use Rattle.line_bytes.specs.Served.{up-names, messages-are}
 use Rattle.line_bytes.specs.Kinds.{server-kind}
 use Rattle.line_bytes.specs.Simulates.{lent}
 
 -- THE SERVER
-
--- what number 4 lets pass names what number 4 asks for, in the model's words
-pub up-names : (kinds x : List ℕ) → upNumber kinds x ≡ 0 → UpNames (upOf x)
-unfolding workAt
-up-names kinds x n =
-    let a : UpAccepted kinds x = up-accepted kinds x n in
-    by-kind (kindOf x) (a .kind-from) (a .kind-to)
-    (λ e. let f = a .request (omega arith) in rw (up-1 x e) (omega (arith, f .page-is, f .object-is), f .transaction-not-0))
-    (λ e. let f = a .request (omega arith) in rw (up-2 x e) (omega (arith, f .page-is, f .object-is), f .transaction-not-0))
-    (λ e. rw (up-3 x e) (a .commit e .transaction-not-0))
-    (λ e. rw (up-4 x e) (a .abort e .transaction-not-0))
-    (λ e. rw (up-5 x e) (a .purge e .page-is))
-    (λ e. rw (up-6 x e) (a .busy e .transaction-not-0))
-    (λ e. rw (up-7 x e) (a .done e .transaction-not-0))
-    (λ e. rw (up-8 x e) (a .written-set e .transaction-not-0))
 
 -- numbers 2 to 5, and 6
 checked : (m s : List ℕ) → checkStepB m s ≡ 0 → (upNumber (kindsOf s) m ≡ 0) × (unexpectedB s m ≡ false)
@@ -124,10 +108,14 @@ module _ (m s : List ℕ) (bm : AllBytes m) (bs : AllBytes s) (v : valid s ≡ t
   pub arrivals-rise : arrivalsOf ((serverStepB m s) .state) ≤ arrivalsOf s + 1
   arrivals-rise = omega (arith, arrivals-at (stepped .state), arrivals-at is, counters .1)
 
+  -- what is archived is within the limit
+  pub archives : All LimitedRec ((serverStep (stationOf m) (upOf m) (meant s)) .recs)
+  archives = step-archives (stationOf m) (upOf m) (meant s) own (up-names (kindsOf s) m taken bm) expected (fit-of is (valid-ranged s v))
+
   step-valid : agesOf ((serverStepB m s) .state) < counterLimit → arrivalsOf ((serverStepB m s) .state) < counterLimit → valid ((serverStepB m s) .state) ≡ true
   step-valid la ln =
       valid-of (stepped .state) (step-flagged (kindsOf s) m s taken bm flags)
-      (step-fit (stationOf m) (upOf m) (meant s) own (up-names (kindsOf s) m taken) expected (fit-of is (valid-ranged s v)))
+      (step-fit (stationOf m) (upOf m) (meant s) own (up-names (kindsOf s) m taken bm) expected (fit-of is (valid-ranged s v)))
       (rw (← ages-at (stepped .state)) la) (rw (← arrivals-at (stepped .state)) ln)
 
 -- whatever is lent
@@ -202,7 +190,7 @@ sends-fit m s o q bm bs =
     messages-are h o q (t .messages) (t .records) (step-128 i u (meant s)) in
     let fits : All (SentFits ((meant s) .kind)) ((serverStep i u (meant s)) .sent) =
     subst (λ (k : ℕ → ℕ). All (SentFits k) ((serverStep i u (meant s)) .sent)) (server-kind i u (meant s))
-    (step-sends i u (meant s) (own m s bm bs v ok) (up-names (kindsOf s) m (taken m s bm bs v ok)) (expected m s bm bs v ok) (fit-of (is m s bm bs v ok) (valid-ranged s v))) in
+    (step-sends i u (meant s) (own m s bm bs v ok) (up-names (kindsOf s) m (taken m s bm bs v ok) bm) (expected m s bm bs v ok) (fit-of (is m s bm bs v ok) (valid-ranged s v))) in
     rw (r, k) (subst (All (DownTaken s)) (sym here) (all-taken s ((meant s) .kind) (kind-at (is m s bm bs v ok)) ((serverStepB m s) .sent) ((serverStep i u (meant s)) .sent) (h .sent) fits)))
     (λ k. rw (r, k) tt))
     (λ r. rw r tt)

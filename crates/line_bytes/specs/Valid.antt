@@ -16,14 +16,15 @@ use Rattle.line.specs.Messages.{locking}
 use Rattle.line.specs.Server.{Server, Want, NoWant, WantRead, WantWrite, WantCommit, isWant, waits}
 use Rattle.line.specs.Apart.{Holder, Entry}
 use Rattle.line.specs.Fit.{calls, Form, Fit}
-use Rattle.station_state.specs.Layout.{hasBit, noneIn}
+use Rattle.limits.specs.Limit.{limit}
+use Rattle.station_state.specs.Layout.{hasBit, countIn, noneIn}
 use Rattle.station_state.specs.Sets.{members-none}
 use Rattle.server_state.specs.Layout.{counterLimit, kindFrom, wantFrom, calledFrom, unfinishedFrom, pendFrom, busyFrom, serverLength, ageOf, arrivalOf, agesOf, arrivalsOf, workNumber, latestOf, askedOf, lockOf, wholeOf, readSetFrom, writtenSetFrom, kindOf, wantOf, requestOf, calledOf, pendOf, busyOf, unfinishedOf}
-use Rattle.server_state.specs.Valid.{mostAt, most, rangesOk, countersOk, onlyIn, blankOk, commitOk, requestOk, waiterOk, entryOk, owesAt, callsOk, agedOk, stationOk, holderOk, holderAt, besideAt, pageOk, askedAt, apartAt, apartOk, valid}
+use Rattle.server_state.specs.Valid.{mostAt, most, rangesOk, countersOk, onlyIn, blankOk, fewOk, commitOk, requestOk, waiterOk, entryOk, owesAt, callsOk, agedOk, stationOk, holderOk, holderAt, besideAt, pageOk, askedAt, apartAt, apartOk, valid}
 use Rattle.server_state.specs.Sets.{members-only}
 use Rattle.server_meaning.specs.Meant.{wantAs, Is}
 use Rattle.server_meaning.specs.Tests.{bit-is, kind-at, lock-at, whole-at, latest-at, fin-at, age-at, ages-at, arrival-at, arrivals-at, request-at, called-at, want-at, waits-at, asked-at, pend-at, busy-at}
-use Rattle.line_bytes.specs.Fits.{wantNumber, read-member, written-member, number-at}
+use Rattle.line_bytes.specs.Fits.{wantNumber, read-member, written-member, number-at, reads-count, writes-count}
 use Rattle.line_bytes.specs.Flags.{Flagged}
 
 -- TESTS
@@ -136,14 +137,24 @@ module _ {s : List ℕ} {m : Server} (h : Is s m) (k : Flagged s) (f : Fit m) wh
         (both _ _ (both _ _ (eq-eqb (arrivalOf s i) 0 (arrival-at h i l ∙ b .arrival-is)) (eq-eqb (requestOf s i) 0 (request-at h i l ∙ b .req-is))) (none-read (b .nothing-read)))
         (none-written (b .nothing-written))
 
+    few-ok : wantOf s i ≡ 3 → fewOk s i ≡ true
+    unfolding fewOk
+    few-ok e =
+        let w : m .queue i .want ≡ WantCommit = want-at h i l ∙ rw e refl in
+        let o = form .commit w .few in
+        both _ _ (le-leb (countIn s (readSetFrom i)) limit (rw (← reads-count h i l e) (o .reads-few)))
+        (le-leb (countIn s (writtenSetFrom i)) limit (rw (← writes-count h i l e) (o .writes-few)))
+
     commit-ok : wantOf s i ≡ 3 → commitOk s i ≡ true
     unfolding commitOk
     commit-ok e =
         let w : m .queue i .want ≡ WantCommit = want-at h i l ∙ rw e refl in
         let o = form .commit w in
         let kind : kindOf s i ≡ 1 = omega (arith, kind-at h i l, f .forms .kinds i, eqb-no (m .kind i) 0 (entry .commits-validate w)) in
-        both _ _ (both _ _ (eq-eqb (kindOf s i) 1 kind) (eq-eqb (requestOf s i) 0 (request-at h i l ∙ o .req-is)))
-        (eq-eqb (workNumber s i) (latestOf s i) (number-at h i l e ∙ o .latest-is ∙ sym (latest-at h i l)))
+        both _ _
+        (both _ _ (both _ _ (eq-eqb (kindOf s i) 1 kind) (eq-eqb (requestOf s i) 0 (request-at h i l ∙ o .req-is)))
+        (eq-eqb (workNumber s i) (latestOf s i) (number-at h i l e ∙ o .latest-is ∙ sym (latest-at h i l))))
+        (few-ok e)
 
     request-ok : wantOf s i ≢ 0 → wantOf s i ≢ 3 → requestOk s i ≡ true
     unfolding requestOk

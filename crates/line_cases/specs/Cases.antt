@@ -14,7 +14,7 @@ use Rattle.line.specs.Rows.{each, seen}
 use Rattle.record.specs.Check.{headOk, headAt, riseAt, rises, addressesRise, checkOf}
 use Rattle.message.specs.Layout.{message}
 use Rattle.message.specs.Range.{zeroAt, zeros, commitOk, upFieldsOk}
-use Rattle.message.specs.Commit.{commitLengthOk, versionOk, pagesTo, recordAgrees, commitNumber}
+use Rattle.message.specs.Commit.{commitLengthOk, fewOk, versionOk, pagesTo, recordAgrees, commitNumber}
 use Rattle.message.specs.Number.{lengthOk, upRange, kindOk, upNumber}
 use Rattle.message.specs.Number as Number
 use Rattle.server_state.specs.Valid.{mostAt, most, kindsOk}
@@ -26,7 +26,7 @@ use Rattle.line_cases.specs.Seen.{Step, seenB}
 use Rattle.line_cases.specs.Shown.{inBytes, allRight, seen-is}
 use Rattle.line_cases.specs.Archived.{joined, archive-is}
 use Rattle.line_cases.specs.Rows.{kinds, OfLine, calls, Runs, Comes, PartHolds, Holds, AllHold}
-use Rattle.line_cases.specs.Table.{C1, C2, C3, C4, C5, C6, C7, C8, C9, C10, C11, commits12, readOf8By1, C12, table}
+use Rattle.line_cases.specs.Table.{C1, C2, C3, C4, C5, C6, C7, C8, C9, C10, C11, commits12, readOf8By1, C12, longReads, longWrites, longCommits, table}
 
 kinds-ok : kindsOk kinds ≡ true
 unfolding kindsOk most mostAt allTo
@@ -86,8 +86,8 @@ unfolding C9 seen message bytes bytesOf header
 C9-holds = (runs _ _ refl refl refl, tt)
 
 C10-holds : Holds C10
-unfolding C10 File.table upNumber Number.kindsOk kindOk lengthOk upRange commitLengthOk versionOk pagesTo recordAgrees commitNumber zeroAt zeros commitOk upFieldsOk allTo u16At u32At headOk headAt riseAt rises addressesRise checkOf
-C10-holds = (comes _ _ 0 refl refl, (File.table-holds .0, (comes _ _ 5 refl refl, (File.table-holds .1 .0, tt))))
+unfolding C10 File.table upNumber Number.kindsOk kindOk lengthOk upRange commitLengthOk fewOk versionOk pagesTo recordAgrees commitNumber zeroAt zeros commitOk upFieldsOk allTo u16At u32At headOk headAt riseAt rises addressesRise checkOf
+C10-holds = (comes _ _ 5 refl refl, (File.table-holds .0, (comes _ _ 5 refl refl, (File.table-holds .1 .0, tt))))
 
 C11-holds : Holds C11
 unfolding C11 File.table seen
@@ -105,7 +105,19 @@ C12-holds : Holds C12
 unfolding C12 File.table
 C12-holds = (C12-archived, (File.table-holds .1 .1 .1 .0, (C12-followed, (File.table-holds .1 .1 .1 .1 .0, tt))))
 
--- C1 to C12, of the steps over bytes
+longReads-holds : Holds longReads
+unfolding longReads seen message bytes bytesOf header
+longReads-holds = (runs _ _ refl refl refl, tt)
+
+longWrites-holds : Holds longWrites
+unfolding longWrites seen message bytes bytesOf header
+longWrites-holds = (runs _ _ refl refl refl, tt)
+
+longCommits-holds : Holds longCommits
+unfolding longCommits upNumber Number.kindsOk kindOk lengthOk upRange commitLengthOk fewOk versionOk pagesTo recordAgrees commitNumber zeroAt zeros commitOk upFieldsOk allTo u16At u32At headOk headAt riseAt rises addressesRise checkOf
+longCommits-holds = (comes _ _ 0 refl refl, (comes _ _ 5 refl refl, (comes _ _ 5 refl refl, tt)))
+
+-- C1 to C12 and the limit, of the steps over bytes
 pub table-of-bytes : AllHold table
 unfolding table
-table-of-bytes = (C1-holds, (C2-holds, (C3-holds, (C4-holds, (C5-holds, (C6-holds, (C7-holds, (C8-holds, (C9-holds, (C10-holds, (C11-holds, (C12-holds, tt))))))))))))
+table-of-bytes = (C1-holds, (C2-holds, (C3-holds, (C4-holds, (C5-holds, (C6-holds, (C7-holds, (C8-holds, (C9-holds, (C10-holds, (C11-holds, (C12-holds, (longReads-holds, (longWrites-holds, (longCommits-holds, tt)))))))))))))))

@@ -29,7 +29,7 @@ use Rattle.call_meaning.specs.Buffers.{messagesIn, sentBy}
 use Rattle.call_meaning.specs.Calls.{AllReads, performB, stepB, OpFits}
 use Rattle.line_bytes.specs.Bytes.{WorldB, freshB, CallB, OwnerB, ServerTakesB, StationTakesB, Fits, AllFit, actB, runB}
 use Rattle.line_bytes.specs.Served.{messages-are, records-are}
-use Rattle.line_bytes.specs.Simulates.{Sim, AllDown, asCall, owner-told, step-told-at, lent, check-is, serves, act-sim}
+use Rattle.line_bytes.specs.Simulates.{Sim, AllDown, asCall, owner-told, step-told-at, lent, check-is, serves, archives, act-sim}
 use Rattle.line_bytes.specs.Runs.{same-kinds, fresh-sim}
 use Rattle.line_bytes.specs.Ready.{Ready, ready-of-run}
 use Rattle.line_bytes.specs.Whole.{nameOf, namesOf, Room, AllRoom, run-more, fit-more}
@@ -105,8 +105,11 @@ module _ (kinds : List ℕ) (size : length kinds ≡ 8) (ok : Number.kindsOk kin
       let s = serves kinds size i l b w o q x u (k .0) t h in
       let y = serverStep i u (w .server) in
       let messages = messages-are s o q (t .messages) (t .records) (step-128 i u (w .server)) ∙ downs-written _ (y .sent) (s .sent) in
-      let records = records-are s o q (t .messages) (t .records) (step-8 i u (w .server) l) ∙ sym (records-same (y .recs)) in
-      byB (unexpected i u (w .server)) (λ e. rw (r, check, e)) (λ e. rw (r, check, e) (λ z. step (ServerTakes i) Nothing (messages z) (records z)))
+      byB (unexpected i u (w .server)) (λ e. rw (r, check, e))
+      (λ e.
+      let few = archives kinds size i l b w o q x u (k .0) t h e in
+      let records = records-are s o q (t .messages) (t .records) (step-8 i u (w .server) l) few ∙ sym (records-same (y .recs)) in
+      rw (r, check, e) (λ z. step (ServerTakes i) Nothing (messages z) (records z)))
 
   -- any call, of a station that is one, with output that is long enough
   call-shown : (c : CallB) → stationOf (nameOf c) < 8 → Fits c → Room c → Ready b

@@ -1,4 +1,4 @@
--- Document 01's cases C1 to C12 as one table: of each call its answer, the bytes of the messages that it sends and the bytes that it
+-- Document 01's cases C1 to C12, and document 02's wish 1, as one table: of each call its answer, the bytes of the messages that it sends and the bytes that it
 -- archives. 8 is page 1, object 0; 9 is page 1, object 1.
 use Prim.Native.Nat.{ℕ, zero, suc, _+_, _*_, _-_}
 use mathlib.Core.List.{List, [], _∷_, _++_}
@@ -218,12 +218,87 @@ commitsAll n n′ m m′ rest =
 unfoldable pub C10 : Row
 C10 =
     row "C10 n = m = 256: 4,624 bytes; n = 257: number 5."
-    -- on the way up: 240 bytes and the record's
-    (OfCommit (commitsAll 0 1 0 1 (upFrom 0 256 ++ (upFrom 0 256 ++ replicate (valueLength * (256 + 256)) 0))) (recordAt + recordLength 256 256) 0
+    -- on the way up, 240 bytes and the record's, it is beyond document 02's limit
+    (OfCommit (commitsAll 0 1 0 1 (upFrom 0 256 ++ (upFrom 0 256 ++ replicate (valueLength * (256 + 256)) 0))) (recordAt + recordLength 256 256) 5
     ∷ OfFile (filled 256 256) 4624 0 "commit station transaction reads writes\n1 0 1 256 256\nend 1\n"
     -- a byte has no 257th address
     ∷ OfCommit (commitsAll 1 1 0 0 (upFrom 0 256 ++ (255 ∷ replicate (valueLength * 257) 0))) (recordAt + recordLength 257 0) 5
     ∷ OfFile (filled 257 0) (recordLength 257 0) 5 "commit station transaction reads writes\nrefused 5 after 0\n"
+    ∷ [])
+
+-- a commit of transaction 1 of station 0 that has used the pages 0 to 5, or to 6: n reads and m writes, each of the first addresses
+abbrev commitsFirst : ℕ → ℕ → ℕ → List ℕ
+commitsFirst pages n m = commit 0 1 pages [] (recorded n m 0 1 0 0 (upFrom 0 n ++ upFrom 0 m) (replicate (n + m) 0))
+
+-- station i reads n objects more of page p, from object o on, which is cached and all zeros
+abbrev readsOn : ℕ → ℕ → ℕ → ℕ → List Step
+readsOn i p o zero = []
+readsOn i p o (suc n) = answers (Owner i (Read (p * 8 + o))) (Value 0) ∷ readsOn i p (suc o) n
+
+-- .. and the first of a page that it does not have, and n more
+abbrev readsPage : ℕ → ℕ → ℕ → List Step
+readsPage i p n =
+    sends (Owner i (Read (p * 8))) Waits (message 1 i p 0 1 0 0 [] ∷ [])
+    ∷ serves i (message 16 i p 0 1 0 0 [] ∷ [])
+    ∷ answers (StationTakes i) (Value 0)
+    ∷ readsOn i p 1 n
+
+-- the same of writes, by a validating station
+abbrev writesOn : ℕ → ℕ → ℕ → ℕ → List Step
+writesOn i p o zero = []
+writesOn i p o (suc n) = answers (Owner i (Write (p * 8 + o) 1)) Written ∷ writesOn i p (suc o) n
+
+abbrev writesPage : ℕ → ℕ → ℕ → List Step
+writesPage i p n =
+    sends (Owner i (Write (p * 8) 1)) Waits (message 1 i p 0 1 0 0 [] ∷ [])
+    ∷ serves i (message 16 i p 0 1 0 0 [] ∷ [])
+    ∷ answers (StationTakes i) Written
+    ∷ writesOn i p 1 n
+
+abbrev eachOf : (ℕ → List Step) → ℕ → List Step
+eachOf f zero = []
+eachOf f (suc p) = eachOf f p ++ f p
+
+-- "48 distinct reads": all objects of pages 0 to 4, and four each of pages 5 and 6
+unfoldable pub longReads : Row
+longReads =
+    row "15, Long: the owner's 49th recorded read, checked after 8; local, requested; a repeat passes"
+    (OfLine
+    (answers (Owner 0 Begin) (Begun 1)
+    ∷ (eachOf (λ p. readsPage 0 p 7) 5
+    ++ readsPage 0 5 3
+    ++ readsPage 0 6 3
+    ++ (answers (Owner 0 (Read 52)) (Refused 15)
+    ∷ answers (Owner 0 (Read 56)) (Refused 15)
+    ∷ answers (Owner 0 (Read 51)) (Value 0)
+    ∷ answers (Owner 0 (Read 256)) (Refused 4)
+    ∷ [])))
+    []
+    ∷ [])
+
+unfoldable pub longWrites : Row
+longWrites =
+    row "15, Long: the owner's 49th written object, checked after 8; local, requested; a second write and a read of it pass"
+    (OfLine
+    (answers (Owner 1 Begin) (Begun 1)
+    ∷ (eachOf (λ p. writesPage 1 p 7) 5
+    ++ writesPage 1 5 3
+    ++ writesPage 1 6 3
+    ++ (answers (Owner 1 (Write 52 1)) (Refused 15)
+    ∷ answers (Owner 1 (Write 56 1)) (Refused 15)
+    ∷ answers (Owner 1 (Write 51 2)) Written
+    ∷ answers (Owner 1 (Read 51)) (Value 2)
+    ∷ answers (Owner 1 (Read 52)) (Value 0)
+    ∷ [])))
+    []
+    ∷ [])
+
+unfoldable pub longCommits : Row
+longCommits =
+    row "The server gives number 5 to n or m above 48. Records are then at most 880 bytes, a commit 1,120."
+    (OfCommit (commitsFirst 63 48 48) 1120 0
+    ∷ OfCommit (commitsFirst 127 49 0) (recordAt + recordLength 49 0) 5
+    ∷ OfCommit (commitsFirst 127 0 49) (recordAt + recordLength 0 49) 5
     ∷ [])
 
 -- no calls archive nothing; record check of no bytes is short
@@ -267,4 +342,4 @@ C12 =
     ∷ [])
 
 unfoldable pub table : List Row
-table = C1 ∷ C2 ∷ C3 ∷ C4 ∷ C5 ∷ C6 ∷ C7 ∷ C8 ∷ C9 ∷ C10 ∷ C11 ∷ C12 ∷ []
+table = C1 ∷ C2 ∷ C3 ∷ C4 ∷ C5 ∷ C6 ∷ C7 ∷ C8 ∷ C9 ∷ C10 ∷ C11 ∷ C12 ∷ longReads ∷ longWrites ∷ longCommits ∷ []

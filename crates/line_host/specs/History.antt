@@ -34,7 +34,7 @@ use Rattle.call_meaning.specs.Calls.{AllReads, owner-unready, step-unready}
 use Rattle.line_bytes.specs.Bytes.{WorldB}
 use Rattle.line_bytes.specs.Served.{archive-join, records-are}
 use Rattle.line_bytes.specs.Runs.{callsOf, same-kinds, fresh-sim}
-use Rattle.line_bytes.specs.Simulates.{Sim, AllDown, asCall, act-sim, read-down, taken-down, owner-told, step-told-at, check-is, serves}
+use Rattle.line_bytes.specs.Simulates.{Sim, AllDown, asCall, act-sim, read-down, taken-down, owner-told, step-told-at, check-is, serves, archives}
 use Rattle.line_bytes.specs.Simulates as Sims
 use Rattle.line_host.specs.Line.{ownerHosted, stepHosted, serverHosted, answerIn, archivedIn, CallH, OwnerH, StationH, ServerH, FitsH, AllFitH, lineH, Event, EndedByOwner, Ended, ended, ownerEvents, stationEvents, serverEvents, eventsH, WorldH, freshH, actH, runH}
 use Rattle.line_host.specs.Same.{lent, plainOf, plainsOf, plain-fits, owner-found, step-found, server-found, act-same}
@@ -142,11 +142,12 @@ module _ (kinds : List ℕ) (ok : Number.kindsOk kinds ≡ true) (eight : length
           let given = Sims.lent (b .server) o′ q′ r in
           let check = check-is kinds eight i l b w o′ q′ x u (k .0) given sim in
           let done = serves kinds eight i l b w o′ q′ x u (k .0) given sim in
-          let bytes = records-are done o′ q′ (given .messages) (given .records) (step-8 i u (w .server) l) in
           let joined = archive-join (w .archive) ((serverStep i u (w .server)) .recs) in
           byB (unexpected i u (w .server))
           (λ e. rw (f .accepted, r, check, e))
           (λ e.
+          let few = archives kinds eight i l b w o′ q′ x u (k .0) given sim e in
+          let bytes = records-are done o′ q′ (given .messages) (given .records) (step-8 i u (w .server) l) few in
           let more : b .archive ++ archivedIn (serverHosted x (b .server) o q t) ≡ archiveOf (recordsOf (w .archive ++ (serverStep i u (w .server)) .recs)) =
           rw (f .archived, r, check, e, bytes, sim .line .records) (sym joined) in
           rw (more, f .accepted, r, check, e, sim .line .records))

@@ -15,7 +15,7 @@ use Rattle.station_answer.specs.declared.Answer.{Answer}
 use Rattle.station_answer.specs.declared.Answer.the-variants.{Refused, Begun, Value, Waits, Written, Committed, Aborted, Purged, Nothing}
 use Rattle.station_answer.specs.Did.{Did, Outcome, laid}
 use Rattle.station_delivery.specs.Delivery.{endedB, answerWaitB, onPageB, onDeescalateB, onCallbackB, onCommittedB, onAbortedB, onInvalidateB, onDownB}
-use Rattle.station_owner.specs.Owner.{ready, called, unlessB, checkBeginB, checkOpenB, checkAddressB, checkPurgeB, commitCalled, ownBeginB, shownB, readLocalB, readAskB, readHereB, readAsB, ownReadB, mayWriteB, writeAskB, writeAsB, ownWriteB, ownAbortB, ownPurgeB}
+use Rattle.station_owner.specs.Owner.{ready, called, unlessB, checkBeginB, checkOpenB, longReadB, longWriteB, checkAddressB, checkPurgeB, commitCalled, ownBeginB, shownB, readLocalB, readAskB, readHereB, readAsB, ownReadB, mayWriteB, writeAskB, writeAsB, ownWriteB, ownAbortB, ownPurgeB}
 use Rattle.station.specs.Station.{checkStepB, stationStepB}
 use Rattle.call_meaning.specs.Calls.{performB, stepB}
 
@@ -52,12 +52,12 @@ module _ (s : List ℕ) where
   read-sure : (a : ℕ) → SureDid (ownReadB a s)
   unfolding ownReadB readAsB readHereB readLocalB readAskB
   read-sure a =
-      unless-sure (checkAddressB a s) _
+      unless-sure (checkAddressB a (longReadB a s) s) _
       (both SureDid (member s writtenSetFrom a) tt (both SureDid (member s readSetFrom a) tt (both SureDid (shownB a s) tt tt)))
 
   write-sure : (a v : ℕ) → SureDid (ownWriteB a v s)
   unfolding ownWriteB writeAsB writeAskB
-  write-sure a v = unless-sure (checkAddressB a s) _ (both SureDid (mayWriteB a s) tt tt)
+  write-sure a v = unless-sure (checkAddressB a (longWriteB a s) s) _ (both SureDid (mayWriteB a s) tt tt)
 
   abort-sure : SureDid (ownAbortB s)
   unfolding ownAbortB

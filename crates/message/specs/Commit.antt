@@ -7,7 +7,8 @@ use lib.Bits.{bitAnd, bitOr}
 use lib.Dec.{eqb, leb}
 use Rattle.lists.specs.Tests.{allTo}
 use Rattle.le.specs.Le.{u16At, u32At}
-use Rattle.layout.specs.Record.{headerLength, recordLength, longestRecord}
+use Rattle.limits.specs.Limit.{limit}
+use Rattle.layout.specs.Record.{headerLength, recordLength}
 use Rattle.record.specs.Check.{readCountFrom, writeCountFrom, commitNumberFrom, transactionNumberFrom, stationNumberFrom, stationKindFrom, checkOf}
 use Rattle.message.specs.Layout.{messageLength, stationOf, transactionOf, pagesOf}
 
@@ -24,18 +25,23 @@ recordAt = versionsAt + 32 * versionWidth
 abbrev pub addressesAt : ℕ
 addressesAt = recordAt + headerLength
 
--- what number 1 asks of outputs: "8 messages and 4,864 commit bytes (station)", "128 messages and 36,992 record bytes (server)"
+-- document 02, wish 1: "Records are then at most 880 bytes", on the way up and as the server leaves them
+abbrev pub longestSent : ℕ
+longestSent = recordLength limit limit
+
+-- what number 1 asks of outputs: 8 messages and "a commit and the station's buffer for it 1,120", 128 messages and "the server's record
+-- buffer 7,040"
 abbrev pub stationRoom : ℕ
 stationRoom = 8 * messageLength
 
 abbrev pub commitRoom : ℕ
-commitRoom = recordAt + longestRecord
+commitRoom = recordAt + longestSent
 
 abbrev pub serverRoom : ℕ
 serverRoom = 128 * messageLength
 
 abbrev pub recordsRoom : ℕ
-recordsRoom = 8 * longestRecord
+recordsRoom = 8 * longestSent
 
 -- the record's size fields
 abbrev pub entriesOf : List ℕ → ℕ
@@ -44,6 +50,10 @@ entriesOf m = u16At m (recordAt + readCountFrom) + u16At m (recordAt + writeCoun
 -- "a commit isn't 240 and its record's length"
 unfoldable pub commitLengthOk : List ℕ → Bool
 commitLengthOk m = leb addressesAt (length m) && eqb (length m) (recordAt + recordLength (u16At m (recordAt + readCountFrom)) (u16At m (recordAt + writeCountFrom)))
+
+-- document 02, wish 1: "The server gives number 5 to n or m above 48."
+unfoldable pub fewOk : List ℕ → Bool
+fewOk m = leb (u16At m (recordAt + readCountFrom)) limit && leb (u16At m (recordAt + writeCountFrom)) limit
 
 -- "a version that must be 0 isn't": it may be another of a used page, from a validating station
 unfoldable pub versionOk : ℕ → List ℕ → ℕ → Bool
@@ -62,4 +72,4 @@ recordAgrees kind m =
 
 -- number 5 of a commit of the right length; kind is that of the station at the server
 unfoldable pub commitNumber : ℕ → List ℕ → ℕ
-commitNumber kind m = cond (eqb (checkOf (drop recordAt m)) 0) (cond (recordAgrees kind m) 0 5) 5
+commitNumber kind m = cond (fewOk m) (cond (eqb (checkOf (drop recordAt m)) 0) (cond (recordAgrees kind m) 0 5) 5) 5

@@ -6,7 +6,7 @@ ghost use lib.Seq.{sets};
 ghost use mathlib.Core.Bool.{cond};
 ghost use Rattle.message.specs.Layout.{setsFrom, setsLength, valuesLength, messageLength, kindOf, message as Layout·message, upMessage};
 ghost use Rattle.message.specs.Range.{zeroAt, zeros as Range·zeros, requestOk, commitOk, abortOk, purgeOk, busyOk, doneOk, writtenSetOk, pageMessageOk, deescalateOk, callbackOk, committedOk, abortedOk, invalidateOk, upFieldsOk, downFieldsOk};
-ghost use Rattle.message.specs.Commit.{recordAt, addressesAt, entriesOf, commitLengthOk, versionOk, pagesTo, recordAgrees, commitNumber};
+ghost use Rattle.message.specs.Commit.{recordAt, addressesAt, entriesOf, commitLengthOk, fewOk, versionOk, pagesTo, recordAgrees, commitNumber};
 ghost use Rattle.message.specs.Number.{lengthOk, upRange, downRange, downNumber, kindOk, kindsOk, upNumber};
 ghost use Rattle.lists.specs.Tests.{allTo};
 ghost use Rattle.message.specs.Stores.{cleared, front};
@@ -56,14 +56,18 @@ pub const RECORD_KIND: usize = RECORD + record::KIND;
 
 pub const ADDRESSES: usize = RECORD + record::HEADER;
 
-// What number 1 asks of outputs: "8 messages and 4,864 commit bytes (station)", "128 messages and 36,992 record bytes (server)".
+// Document 02, wish 1: "Records are then at most 880 bytes", on the way up and as the server leaves them.
+pub const LONGEST_SENT: usize = record::HEADER + record::ENTRY * (2 * limits::LIMIT as usize);
+
+// What number 1 asks of outputs: 8 messages and "a commit and the station's buffer for it 1,120", 128 messages and "the server's record
+// buffer 7,040".
 pub const STATION_ROOM: usize = 8 * LENGTH;
 
-pub const COMMIT_ROOM: usize = RECORD + record::LONGEST;
+pub const COMMIT_ROOM: usize = RECORD + LONGEST_SENT;
 
 pub const SERVER_ROOM: usize = 128 * LENGTH;
 
-pub const RECORDS_ROOM: usize = 8 * record::LONGEST;
+pub const RECORDS_ROOM: usize = 8 * LONGEST_SENT;
 
 // Runs of fields that a kind may leave unnamed: page and object, page to transaction, the page set with or without the version, all
 // sets but the first, and what stands from a field to the end.
@@ -441,6 +445,15 @@ fn page_bit(p: u32) -> u32
     1u32 << p
 }
 
+// Whether a commit has no more reads and no more writes than one transaction may have.
+fn few_ok(m: &[u8]) -> bool
+    requires { ⌜ addressesAt ≤ length (now m) ⌝ }
+    ensures { λ r. ⌜ r ≡ fewOk (now (m .entry)) ⌝ }
+{
+    (le::get_u16(m, RECORD_READS) <= limits::LIMIT)
+        & (le::get_u16(m, RECORD_WRITES) <= limits::LIMIT)
+}
+
 // A version other than 0 is that of a used page, from a validating station.
 fn version_ok(kind: u8, m: &[u8], p: u32) -> bool
     requires { ⌜ (recordAt ≤ length (now m)) × (p < 32) ⌝ }
@@ -497,6 +510,9 @@ fn commit_number(kind: u8, m: &[u8]) -> u32
     requires { ⌜ addressesAt + entriesOf (now m) ≤ length (now m) ⌝ }
     ensures { λ r. ⌜ r ≡ commitNumber kind (now (m .entry)) ⌝ }
 {
+    if !few_ok(m) {
+        return 5;
+    }
     if record::wax_record_check(&m[RECORD..]) != 0 {
         return 5;
     }

@@ -26,6 +26,15 @@ u16-behind a m i = rw (u16At-is m (a + i), u16At-is (drop a m) i) (sym (numAt-dr
 pub u32-behind : (a : ℕ) (m : List ℕ) (i : ℕ) → u32At m (a + i) ≡ u32At (drop a m) i
 u32-behind a m i = rw (u32At-is m (a + i), u32At-is (drop a m) i) (sym (numAt-drop 4 a m i))
 
+-- a record's size fields
+pub reads-are : (s : List ℕ) → length ((recordOf s) .reads) ≡ readCount s
+unfolding recordOf
+reads-are s = length-entriesAt s (readCount s + writeCount s) 0 (readCount s)
+
+pub writes-are : (s : List ℕ) → length ((recordOf s) .writes) ≡ writeCount s
+unfolding recordOf
+writes-are s = length-entriesAt s (readCount s + writeCount s) (readCount s) (writeCount s)
+
 counts-are : (s : List ℕ) → readCount s + writeCount s ≡ length (entries (recordOf s))
 counts-are s = sym (length-entriesAt s _ 0 _) ∙ ap length (sym (entries-of s))
 

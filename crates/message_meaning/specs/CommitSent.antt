@@ -18,8 +18,9 @@ use Rattle.le.specs.Width.{bytes}
 use Rattle.le.specs.Laws.{u32At-is}
 use Rattle.sets.specs.Laws.{byB, eqb-same, ltb-yes}
 use Rattle.cells.specs.Bits.{tb, tb-test, tb-tells}
+use Rattle.limits.specs.Limit.{limit}
 use Rattle.layout.specs.Record.{Record, WellFormed, bytesOf}
-use Rattle.record.specs.Check.{readCountFrom, writeCountFrom, commitNumberFrom, transactionNumberFrom, stationNumberFrom, stationKindFrom, commitNumber, transactionNumber, stationNumber, stationKind, lengthOf, checkOf}
+use Rattle.record.specs.Check.{readCountFrom, writeCountFrom, commitNumberFrom, transactionNumberFrom, stationNumberFrom, stationKindFrom, readCount, writeCount, commitNumber, transactionNumber, stationNumber, stationKind, lengthOf, checkOf}
 use Rattle.record_meaning.specs.Parse.{recordOf}
 use Rattle.record_meaning.specs.Layout.{bytesOf-are}
 use Rattle.record_meaning.specs.Meaning.{written-read as record-back}
@@ -29,7 +30,7 @@ use Rattle.entries.specs.Entries.{valueIn}
 use Rattle.message.specs.Stores.{length-up}
 use Rattle.message.specs.Layout.{pageFrom, transactionFrom, versionFrom, valuesLength, messageLength, kindOf, stationOf, message, single, upMessage}
 use Rattle.message.specs.Range.{zeroAt, zeros, commitOk, upFieldsOk}
-use Rattle.message.specs.Commit.{versionsAt, versionWidth, recordAt, addressesAt, entriesOf as entriesIn, commitLengthOk, versionOk, pagesTo, recordAgrees, commitNumber as commitTurned}
+use Rattle.message.specs.Commit.{versionsAt, versionWidth, recordAt, addressesAt, entriesOf as entriesIn, commitLengthOk, fewOk, versionOk, pagesTo, recordAgrees, commitNumber as commitTurned}
 use Rattle.message.specs.Number.{lengthOk, upRange, kindsOk, upNumber}
 use Rattle.message_meaning.specs.Meant.{versionAt, workAt}
 use Rattle.message_meaning.specs.Kinds.{up-3}
@@ -37,7 +38,7 @@ use Rattle.message_meaning.specs.Numbers.{numbers, length-numbers, numbe
 use Rattle.message_meaning.specs.Inverse.{ReadBack, written-read, message-more}
 use Rattle.message_meaning.specs.Sent.{Reads, up-are}
 use Rattle.message_meaning.specs.Uses.{mask-fits}
-use Rattle.message_meaning.specs.CommitRead.{u16-behind, u32-behind, pages-used}
+use Rattle.message_meaning.specs.CommitRead.{u16-behind, u32-behind, reads-are, writes-are, pages-used}
 
 -- "32 versions of 4 bytes": the n from page p on
 abbrev pub versionBytes : (ℕ → ℕ) → ℕ → ℕ → List ℕ
@@ -61,6 +62,12 @@ module _ (r : Record) (w : WellFormed r) where
 
   record-size : lengthOf (bytesOf r) ≡ length (bytesOf r)
   record-size = rw append-nil at (record-back r [] w .length-is)
+
+  reads-read : readCount (bytesOf r) ≡ length (r .reads)
+  reads-read = sym (reads-are (bytesOf r)) ∙ ap (λ (x : Record). length (x .reads)) record-read
+
+  writes-read : writeCount (bytesOf r) ≡ length (r .writes)
+  writes-read = sym (writes-are (bytesOf r)) ∙ ap (λ (x : Record). length (x .writes)) record-read
 
   commit-read : commitNumber (bytesOf r) ≡ r .commit
   unfolding recordOf
@@ -93,6 +100,9 @@ pub record Sendable (kinds : List ℕ) (r : Record) (used : ℕ) (v : ℕ → �
   pub kinds-ok : kindsOk kinds ≡ true
   pub kind-known : getD kinds (r .station) 0 ≡ r .kind
   pub well-formed : WellFormed r
+  -- document 02, wish 1: "48 distinct reads and 48 distinct writes"
+  pub reads-few : length (r .reads) ≤ limit
+  pub writes-few : length (r .writes) ≤ limit
   -- "commit number (4; 0 on the way up)"
   pub commit-0 : r .commit ≡ 0
   -- "set of pages used": those of the reads and writes
@@ -194,9 +204,24 @@ module _ {kinds : List ℕ} {r : Record} {used : ℕ} {v : ℕ → ℕ} (h : Sen
       )
       (eqb-same used)
 
+  few-ok : fewOk (commitMessage r used v) ≡ true
+  unfolding fewOk
+  few-ok =
+      let m = commitMessage r used v in
+      let w = h .well-formed in
+      rw (
+        u16-behind recordAt m readCountFrom,
+        u16-behind recordAt m writeCountFrom,
+        record-place,
+        reads-read r w,
+        writes-read r w,
+        le-leb (length (r .reads)) limit (h .reads-few),
+        le-leb (length (r .writes)) limit (h .writes-few),
+      )
+
   turned-not : commitTurned (getD kinds (stationOf (commitMessage r used v)) 0) (commitMessage r used v) ≡ 0
   unfolding commitTurned
-  turned-not = rw (head-read .station-is, h .kind-known, record-place, record-accepted r (h .well-formed), agrees)
+  turned-not = rw (few-ok, head-read .station-is, h .kind-known, record-place, record-accepted r (h .well-formed), agrees)
 
   -- the server takes it, and reads what the record, the set and the versions say
   pub commit-sent : Reads kinds (r .station) (recordAt + length (bytesOf r)) (commitMessage r used v) (Commit (workIn r v))

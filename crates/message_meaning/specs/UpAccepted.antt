@@ -17,19 +17,21 @@ use Rattle.le.specs.Laws.{u32At-is}
 use Rattle.sets.specs.Base.{some}
 use Rattle.sets.specs.Laws.{byB, byEq, eqb-no}
 use Rattle.cells.specs.Bits.{tb, tb-test}
+use Rattle.limits.specs.Limit.{limit}
 use Rattle.layout.specs.Record.{Entry, WellFormed, AllFit, recordLength}
 use Rattle.record.specs.Check.{readCountFrom, writeCountFrom, commitNumberFrom, transactionNumberFrom, stationNumberFrom, stationKindFrom, lengthOf, checkOf}
 use Rattle.record_meaning.specs.Parse.{recordOf}
 use Rattle.record_meaning.specs.Meaning.{read-written}
 use Rattle.line.specs.Server.{usedPage}
-use Rattle.entries.specs.Entries.{valueIn, FitVal, Within}
+use Rattle.line.specs.Fit.{LimitedWork}
+use Rattle.entries.specs.Entries.{valueIn, FitVal, Within, says-few}
 use Rattle.message.specs.Layout.{pageFrom, objectFrom, transactionFrom, pagesFrom, versionFrom, setsFrom, secondSet, messageLength, kindOf, stationOf, pageOf, requesterOf, objectOf, transactionOf, pagesOf}
 use Rattle.message.specs.Range.{zeros, stationOk, pageOk, requestOk, commitOk, abortOk, purgeOk, busyOk, doneOk, writtenSetOk, upFieldsOk}
-use Rattle.message.specs.Commit.{versionsAt, versionWidth, recordAt, addressesAt, entriesOf as entriesIn, commitLengthOk, versionOk, pagesTo, recordAgrees, commitNumber}
+use Rattle.message.specs.Commit.{versionsAt, versionWidth, recordAt, addressesAt, entriesOf as entriesIn, commitLengthOk, fewOk, versionOk, pagesTo, recordAgrees, commitNumber}
 use Rattle.message.specs.Number.{lengthOk, upRange, kindsOk, recordNumber, upNumber}
 use Rattle.message_meaning.specs.Meant.{versionAt, workAt}
 use Rattle.message.specs.Accepted.{Zero, zeros-are, page-lt, object-lt, requester-lt, station-lt, transaction-named, passed}
-use Rattle.message_meaning.specs.CommitRead.{u16-behind, u32-behind, pages-used}
+use Rattle.message_meaning.specs.CommitRead.{u16-behind, u32-behind, reads-are, writes-are, pages-used}
 use Rattle.message_meaning.specs.WorkSent.{WorkFits}
 
 -- WHAT EACH KIND'S FIELDS ARE
@@ -135,6 +137,9 @@ pub record CommitFields (kind : ℕ) (m : List ℕ) : Type 0 where
   pub unnamed-page : Zero m pageFrom (transactionFrom - pageFrom)
   pub unnamed-version : Zero m versionFrom (messageLength - versionFrom)
   pub length-is : length m ≡ recordAt + lengthOf (drop recordAt m)
+  -- document 02, wish 1: "The server gives number 5 to n or m above 48."
+  pub reads-few : length ((recordOf (drop recordAt m)) .reads) ≤ limit
+  pub writes-few : length ((recordOf (drop recordAt m)) .writes) ≤ limit
   pub record-accepted : checkOf (drop recordAt m) ≡ 0
   pub commit-0 : (recordOf (drop recordAt m)) .commit ≡ 0
   pub transaction-is : (recordOf (drop recordAt m)) .transaction ≡ transactionOf m
@@ -159,10 +164,19 @@ version-0 kind m p h l e =
     let is-0 : (eqb (u32At m (versionsAt + p * versionWidth)) 0 || (eqb kind 1 && tb (pagesOf m) p)) ≡ true = rw (tb-test p (pagesOf m)) at h in
     rw (lt-ltb p 32 l) (eqb-true (u32At m (versionsAt + p * versionWidth)) 0 (rw (e, or-false) at is-0))
 
+few-fields : (m : List ℕ) → fewOk m ≡ true → (length ((recordOf (drop recordAt m)) .reads) ≤ limit) × (length ((recordOf (drop recordAt m)) .writes) ≤ limit)
+unfolding fewOk
+few-fields m h =
+    let s = drop recordAt m in
+    let n : u16At m (recordAt + readCountFrom) ≤ limit = leb-true _ limit (and-l (leb (u16At m (recordAt + readCountFrom)) limit) _ h) in
+    let k : u16At m (recordAt + writeCountFrom) ≤ limit = leb-true _ limit (and-r (leb (u16At m (recordAt + readCountFrom)) limit) _ h) in
+    (rw (reads-are s, ← u16-behind recordAt m readCountFrom) n, rw (writes-are s, ← u16-behind recordAt m writeCountFrom) k)
+
 commit-fields : (kind : ℕ) (m : List ℕ) → commitOk m ≡ true → commitLengthOk m ≡ true → commitNumber kind m ≡ 0 → CommitFields kind m
 unfolding commitOk commitNumber recordAgrees recordOf
 commit-fields kind m h len n =
-    let checked = passed (eqb (checkOf (drop recordAt m)) 0) (cond (recordAgrees kind m) 0 5) 4 n in
+    let short = passed (fewOk m) (cond (eqb (checkOf (drop recordAt m)) 0) (cond (recordAgrees kind m) 0 5) 5) 4 n in
+    let checked = passed (eqb (checkOf (drop recordAt m)) 0) (cond (recordAgrees kind m) 0 5) 4 (short .1) in
     let same = (passed (recordAgrees kind m) 0 4 (checked .1)) .0 in
     let size = commit-length m len in
     let versions : allTo (versionOk kind m) 32 ≡ true = search (and-l, and-r) depth 7 in
@@ -172,6 +186,8 @@ commit-fields kind m h len n =
       unnamed-page = zeros-are m pageFrom (transactionFrom - pageFrom) (search (and-l, and-r));
       unnamed-version = zeros-are m versionFrom (messageLength - versionFrom) (search (and-l, and-r));
       length-is = size;
+      reads-few = few-fields m (short .0) .0;
+      writes-few = few-fields m (short .0) .1;
       record-accepted = eqb-true (checkOf (drop recordAt m)) 0 (checked .0);
       commit-0 = sym (u32-behind recordAt m commitNumberFrom) ∙ eqb-true (u32At m (recordAt + commitNumberFrom)) 0 (search (and-l, and-r) depth 7);
       transaction-is = sym (u32-behind recordAt m transactionNumberFrom) ∙ eqb-true (u32At m (recordAt + transactionNumberFrom)) (transactionOf m) (search (and-l, and-r) depth 7);
@@ -277,6 +293,13 @@ module _ (kind : ℕ) (m : List ℕ) (hm : Bytes m) (c : CommitFields kind m) wh
   pub commit-record : WellFormed (recordOf (drop recordAt m))
   commit-record = read-written (drop recordAt m) (bytes-drop recordAt m hm) (c .record-accepted) .well-formed
 
+  -- what it brings is within the limit
+  pub commit-few : LimitedWork (workAt m)
+  unfolding workAt
+  commit-few =
+      let r = recordOf (drop recordAt m) in
+      record { reads-few = omega (arith, says-few (r .reads), c .reads-few); writes-few = omega (arith, says-few (r .writes), c .writes-few) }
+
   pub commit-work : WorkFits (workAt m)
   unfolding workAt
   commit-work =
@@ -291,4 +314,5 @@ module _ (kind : ℕ) (m : List ℕ) (hm : Bytes m) (c : CommitFields kind m) wh
         writes-fit = value-fits (r .writes) (w .writes-fit);
         versions-fit = version-fits m hm;
         versions-within = version-within m;
+        few = commit-few;
       }

@@ -15,7 +15,8 @@ use Rattle.cells.specs.Bits.{tb}
 use Rattle.layout.specs.Record.{Record, WellFormed, bytesOf}
 use Rattle.line.specs.Messages.{Work, Commit}
 use Rattle.line.specs.Server.{usedPage}
-use Rattle.entries.specs.Entries.{entriesOf, valueIn, FitVal, Within, entries-rise, entries-count, entries-fit, says}
+use Rattle.line.specs.Fit.{LimitedWork}
+use Rattle.entries.specs.Entries.{entriesOf, valueIn, FitVal, Within, entries-rise, entries-count, entries-fit, entries-size, says}
 use Rattle.message.specs.Number.{kindOk, kindsOk}
 use Rattle.message_meaning.specs.Sent.{Reads}
 use Rattle.message_meaning.specs.CommitSent.{commitMessage, workIn, Sendable, commit-sent}
@@ -26,7 +27,7 @@ abbrev pub recordUp : ℕ → ℕ → Work → Record
 recordUp station kind w =
     record { reads = entriesOf (w .reads); writes = entriesOf (w .writes); commit = 0; transaction = w .transaction; station = station; kind = kind }
 
--- values of 8 bytes, at addresses below 256; versions of 4 bytes, of pages below 32
+-- values of 8 bytes, at addresses below 256; versions of 4 bytes, of pages below 32; no more than one transaction may have
 pub record WorkFits (w : Work) : Type 0 where
   pub transaction-not-0 : w .transaction ≢ 0
   pub transaction-fits : w .transaction < 2 ^ 32
@@ -36,6 +37,7 @@ pub record WorkFits (w : Work) : Type 0 where
   pub writes-fit : (a : ℕ) → FitVal ((w .writes) a)
   pub versions-fit : (p : ℕ) → (w .versions) p < 2 ^ 32
   pub versions-within : (p : ℕ) → 32 ≤ p → (w .versions) p ≡ 0
+  pub few : LimitedWork w
 
 pub record-well : (station kind : ℕ) (w : Work) → station < 8 → kind ≤ 1 → WorkFits w → WellFormed (recordUp station kind w)
 record-well st k w hs hk f =
@@ -80,6 +82,8 @@ work-sent kinds st k used w ok hs hk f hu pages zero-is =
       kinds-ok = ok;
       kind-known = hk;
       well-formed = record-well st k w hs (rw (← hk) (kind-most kinds ok st hs)) f;
+      reads-few = rw (entries-size (w .reads)) (f .few .reads-few);
+      writes-few = rw (entries-size (w .writes)) (f .few .writes-few);
       commit-0 = refl;
       pages-fit = hu;
       pages-are = λ p l. pages p l ∙ sym (ap (λ (x : Work). usedPage x p) back);

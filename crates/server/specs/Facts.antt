@@ -1,6 +1,6 @@
 -- What numbers 1 to 6 tell, where none of them is due: all that the step's parts ask for.
-use Prim.Native.Nat.{ℕ, suc, _+_, _*_, _≤_, _<_}
-use mathlib.Core.Path.{_≡_, refl, sym, ap, _∙_}
+use Prim.Native.Nat.{ℕ, _+_, _*_, _≤_, _<_}
+use mathlib.Core.Path.{_≡_, refl, sym, _∙_}
 use mathlib.Core.Logic.{_≢_}
 use mathlib.Core.Bool.{true, false, _&&_}
 use mathlib.Core.List.{List, [], _∷_}
@@ -10,7 +10,7 @@ use lib.Dec.{leb}
 use borrow.Author.Tests.{leb-true, ne-eqb}
 use Rattle.sets.specs.Laws.{byEq, eqb-same, eqb-yes, eqb-no, and-l, and-r}
 use Rattle.cells.specs.Num.{AllBytes, bytes-all}
-use Rattle.line.specs.Messages.{Sent, Rec}
+use Rattle.line.specs.Messages.{Sent}
 use Rattle.line.specs.Server.{noWaiter, start, accept, serverStep}
 use Rattle.line.specs.Bounds.{step-128, step-8}
 use Rattle.message.specs.Layout.{messageLength, kindOf, stationOf, pageOf, requesterOf, transactionOf}
@@ -18,7 +18,6 @@ use Rattle.message.specs.Commit.{recordsRoom, serverRoom, recordAt, entriesOf}
 use Rattle.message.specs.Number.{upNumber}
 use Rattle.message.specs.Accepted.{fields-fit}
 use Rattle.record.specs.Check.{writeCount, readCount, writeCountFrom, readCountFrom}
-use Rattle.layout.specs.Record.{longestRecord}
 use Rattle.server_state.specs.Layout.{serverLength}
 use Rattle.message_meaning.specs.Meant.{upOf}
 use Rattle.message_meaning.specs.CommitRead.{u16-behind}
@@ -31,6 +30,7 @@ use Rattle.server_changes.specs.Changes.{noticeB}
 use Rattle.server_actions.specs.Actions.{acceptB}
 use Rattle.server_actions.specs.Pass.{serverStepB}
 use Rattle.server_actions.specs.Step.{ready, kindsOf, checkStepB}
+use Rattle.station_callbacks.specs.Callbacks.{flat}
 use Rattle.server_actions.specs.Posting.{from, counts, Room, Whole}
 use Rattle.server_accept.specs.Facts.{Packed, LastKept, Acceptable}
 use Rattle.server_meaning.specs.Meant.{meant, Is}
@@ -38,8 +38,9 @@ use Rattle.server_meaning.specs.Tests.{last-at}
 use Rattle.server_meaning.specs.Changes.{notice-is}
 use Rattle.server_meaning.specs.Waiting.{leave-is}
 use Rattle.server_meaning.specs.Commit.{unpack-is}
-use Rattle.step_meaning.specs.Relation.{AllSent, AllRecs, Serves}
+use Rattle.step_meaning.specs.Relation.{AllSent, Serves}
 use Rattle.step_meaning.specs.Pass.{sent-length}
+use Rattle.line_bytes.specs.Served as Served
 use Rattle.line_bytes.specs.Stays as Stays
 use Rattle.server_pass.specs.Sane.{Sane, after}
 
@@ -120,12 +121,6 @@ every-whole [] (x ∷ xs) h = absurd h
 every-whole (m ∷ ms) [] h = absurd h
 every-whole (m ∷ ms) (x ∷ xs) h = (h .0 .length-is, every-whole ms xs (h .1))
 
-recs-length : (bs : List (List ℕ)) (rs : List Rec) → AllRecs bs rs → length bs ≡ length rs
-recs-length [] [] h = refl
-recs-length [] (r ∷ rs) h = absurd h
-recs-length (b ∷ bs) [] h = absurd h
-recs-length (b ∷ bs) (r ∷ rs) h = ap suc (recs-length bs rs (h .1))
-
 module _ (m s : List ℕ) (v : valid s ≡ true) (bs : AllBytes s) (bm : AllBytes m) (ok : checkStepB m s ≡ 0) where
   is : Is s (meant s)
   is = Stays.is m s bm bs v ok
@@ -142,20 +137,20 @@ module _ (m s : List ℕ) (v : valid s ≡ true) (bs : AllBytes s) (bm : AllByte
   pub sane-accepted : Sane ((acceptB m (from s)) .state)
   sane-accepted = after accepted
 
-  -- "128 messages and 36,992 record bytes": for every valid state, also one that no run reaches
+  -- "128 messages" and 7,040 record bytes: for every valid state, also one that no run reaches
   pub step-room : (o q : List ℕ) → ready s o q ≡ true → Room o q (counts 0 0) (serverStepB m s)
   step-room o q e =
       let y = serverStepB m s in
       let z = serverStep (stationOf m) (upOf m) (meant s) in
       let n : length (y .sent) ≤ 128 = rw (sent-length (y .sent) (z .sent) (stepped .sent)) (step-128 (stationOf m) (upOf m) (meant s)) in
-      let k : length (y .recs) ≤ 8 =
-      rw (recs-length (y .recs) (z .recs) (stepped .recs)) (step-8 (stationOf m) (upOf m) (meant s) (readable (kindsOf s) m taken .station)) in
+      let k : length (flat (y .recs)) ≤ recordsRoom =
+      Served.records-fit (y .recs) (z .recs) (stepped .recs) (step-8 (stationOf m) (upOf m) (meant s) (readable (kindsOf s) m taken .station)) (Stays.archives m s bm bs v ok) in
       record { messages = few n (messages-fit s o q e); records = short k (records-fit s o q e) }
     where
       few : {n l : ℕ} → n ≤ 128 → serverRoom ≤ l → (0 + n) * messageLength ≤ l
       few a b = omega arith
 
-      short : {n l : ℕ} → n ≤ 8 → recordsRoom ≤ l → 0 + n * longestRecord ≤ l
+      short : {n l : ℕ} → n ≤ recordsRoom → recordsRoom ≤ l → 0 + n ≤ l
       short a b = omega arith
 
   pub step-whole : Whole ((serverStepB m s) .sent)

@@ -52,7 +52,7 @@ module _ (m s o q : List ℕ) (e : ready s o q ≡ true) (ok : checkStepB m s �
     accept-sane = rw (state-of o q (counts 0 0) (acceptB m (from s)) f) (sane-accepted m s v bs bm ok)
 
     pub settle-room : Room o₁ q₁ b (settleB 64 (from s₁))
-    settle-room = room-next o q (counts 0 0) (acts-settle 64) (acceptB m (from s)) (acts-accept m .short s) f room
+    settle-room = room-next o q (counts 0 0) (acts-settle 64) (acceptB m (from s)) f room
 
     pub settle-posted : {d : Posted} → d ≡ post o₁ q₁ b (settleB 64 (from s₁)) → d ≡ post o q (counts 0 0) (serverStepB m s)
     settle-posted g = posted-then (acts-settle 64) o q (counts 0 0) (acceptB m (from s)) f g ∙ ap (post o q (counts 0 0)) (sym settles)

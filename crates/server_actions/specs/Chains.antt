@@ -2,13 +2,13 @@
 use Prim.Native.Nat.{ℕ, _+_, _*_, _/_, _≤_}
 use mathlib.Core.Path.{_≡_, sym, ap, _∙_}
 use mathlib.Core.Bool.{true, false}
-use mathlib.Core.List.{List, [], _∷_}
+use mathlib.Core.List.{List, [], _∷_, append-nil}
 use native.Mathlib.Omega.{arith}
 use lib.ListN.{length}
 use lib.Seq.{sets}
 use Rattle.set_record.specs.Record.{recordFrom, Filled, filled, recordFilled}
 use Rattle.message.specs.Layout.{messageLength}
-use Rattle.layout.specs.Record.{longestRecord}
+use Rattle.layout.specs.Record.{bytesOf}
 use Rattle.server_state.specs.Layout.{latestOf, lastOf, workNumber, kindOf, readSetFrom, readValuesFrom, writtenSetFrom, writtenValuesFrom}
 use Rattle.station_state.specs.Layout.{hasBit}
 use Rattle.server_tests.specs.Tests.{writtenPagesB}
@@ -16,6 +16,7 @@ use Rattle.server_sets.specs.Sets.{informedSet}
 use Rattle.server_changes.specs.Changes.{finishB, leaveB, listB, unlistB, writeB}
 use Rattle.server_actions.specs.Actions.{serving, pageB, abortedB, committedB, invalidateB, recordB, sendPageB, abortB, informTo, installB}
 use Rattle.server_actions.specs.declared.Counts.{Counts}
+use Rattle.station_callbacks.specs.Callbacks.{flat}
 use Rattle.server_actions.specs.Posting.{from, counts, Posted, posted, post, post-none, post-one, post-both, posted-then, Room, room-first, room-next, acts-turns}
 use Rattle.server_actions.specs.Parts.{turns-informs, installedB, acts-installed, install-is}
 use Rattle.server_actions.specs.Informs.{informOneB, informSetTo, informs-are}
@@ -26,6 +27,11 @@ pub archive-chain : (q : List ℕ) (c : Counts) (i : ℕ) (s : List ℕ) {n t ki
     → (q₁ ≡ sets q (c .records) (recordB i s)) × (counts (c .messages) (c .records + k) ≡ counts (c .messages) (c .records + length (recordB i s)))
 archive-chain q c i s en et ek e =
     (ap (λ (p : Filled). p .out) e ∙ rw (en, et, ek), ap (λ (p : Filled). counts (c .messages) (c .records + p .count)) e ∙ rw (en, et, ek))
+
+-- .. has room where its bytes do
+pub archive-room : (base i : ℕ) (s : List ℕ) (l : ℕ) {n t kind : ℕ} → n ≡ lastOf s → t ≡ workNumber s i → kind ≡ kindOf s i → base + length (recordB i s) ≤ l
+    → base + length (bytesOf (recordFrom s (readSetFrom i) (readValuesFrom i) (writtenSetFrom i) (writtenValuesFrom i) n t i kind)) ≤ l
+archive-room base i s l en et ek fits = rw (en, et, ek) fits
 
 module _ (o q : List ℕ) (c : Counts) where
   pub one-fits : (t m : List ℕ) (ms rs : List (List ℕ)) → Room o q c (serving t (m ∷ ms) rs) → c .messages * messageLength + messageLength ≤ length o
@@ -85,9 +91,9 @@ module _ (o q : List ℕ) (c : Counts) where
   -- A RECORD AND 21
 
   module _ (i : ℕ) (s : List ℕ) where
-    pub installed-fits : Room o q c (installedB i (from s)) → (c .messages * messageLength + messageLength ≤ length o) × (c .records + longestRecord ≤ length q)
-    unfolding installedB
-    installed-fits r = (omega (arith, r .messages), omega (arith, r .records))
+    pub installed-fits : Room o q c (installedB i (from s)) → (c .messages * messageLength + messageLength ≤ length o) × (c .records + length (recordB i (writeB i s)) ≤ length q)
+    unfolding installedB flat
+    installed-fits r = (omega (arith, r .messages), omega (arith, rw append-nil at (r .records)))
 
     pub installed-chain : {t n : ℕ} {s₁ s₂ s₃ o₁ q₁ : List ℕ} {e r : Counts} → t ≡ workNumber s i → s₁ ≡ writeB i s
         → (q₁ ≡ sets q (c .records) (recordB i s₁)) × (e ≡ counts (c .messages) (c .records + length (recordB i s₁)))
@@ -106,7 +112,7 @@ module _ (o q : List ℕ) (c : Counts) where
       pub install-next : Room o q c (installB i (from s)) → Room o₁ q₁ b (informTo i d (from s₁) 8)
       install-next r =
           rw ed
-          (room-next o q c (acts-turns (turns-informs i (writtenPagesB s i)) 8) (installedB i (from s)) (acts-installed i .short s) e (rw (← install-is i (from s)) r))
+          (room-next o q c (acts-turns (turns-informs i (writtenPagesB s i)) 8) (installedB i (from s)) e (rw (← install-is i (from s)) r))
 
       pub install-chain : {p : Posted} → p ≡ post o₁ q₁ b (informTo i d (from s₁) 8) → p ≡ post o q c (installB i (from s))
       install-chain f =

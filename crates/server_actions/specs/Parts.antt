@@ -1,20 +1,14 @@
 -- Each action of the server adds to what was sent and archived, and depends on the state alone.
-use Prim.Native.Nat.{ℕ, _-_, _/_, _^_, _≤_}
+use Prim.Native.Nat.{ℕ, _-_, _/_, _^_}
 use mathlib.Core.Path.{_≡_, refl}
 use mathlib.Core.Bool.{Bool, not, _&&_, cond}
 use mathlib.Core.List.{List, [], _∷_}
-use native.Mathlib.Omega.{arith}
-use lib.ListN.{length}
 use lib.Dec.{eqb}
 use Rattle.sets.specs.Base.{snoc}
-use Rattle.entries.specs.Entries.{entries-count}
-use Rattle.record_meaning.specs.Layout.{length-bytesOf}
 use Rattle.message.specs.Layout.{stationOf, pageOf, requesterOf, transactionOf, pagesOf, setOf}
 use Rattle.message.specs.Layout as Message
-use Rattle.layout.specs.Record.{longestRecord}
 use Rattle.station_state.specs.Layout.{hasBit}
-use Rattle.set_record.specs.Record.{valuesAt}
-use Rattle.server_state.specs.Layout.{lastOf, latestOf, workNumber, askedOf, wholeOf, wantOf, requestOf, calledOf, pendOf, lockingB, readSetFrom, writtenSetFrom, readValuesFrom, writtenValuesFrom}
+use Rattle.server_state.specs.Layout.{lastOf, latestOf, workNumber, askedOf, wholeOf, wantOf, requestOf, calledOf, pendOf, lockingB}
 use Rattle.server_tests.specs.Tests.{openCallB, openAskB, faultB, blockedB, shutB, shutOutB, concernedSet, hinderedB, unavailableB, writtenPagesB, informedB}
 use Rattle.server_changes.specs.Changes.{noticeB, finishB, leaveB, joinReadB, joinWriteB, joinCommitB, unpackB, listB, unlistB, markBusyB, answeredB, loosenB, askedB, calledB, lockPageB, lockObjectB, writeB}
 use Rattle.server_actions.specs.Actions.{Serving, serving, onState, send, pageB, deescalateB, callbackB, committedB, abortedB, invalidateB, recordB, sendPageB, abortB, informB, informTo, installB, commitNowB, addressOf, noticedB, onReadB, onWriteB, onCommitB, onAbortB, onPurgeB, onBusyB, onDoneB, onWrittenSetB, acceptB}
@@ -41,13 +35,6 @@ pub turns-informs : (i d : ℕ) → Turns (informTo i d) (informB i d)
 unfolding informTo
 turns-informs i d = record { none = λ x. refl; next = λ x n. refl; acts = acts-inform i d }
 
--- no record has more than 512 entries
-pub record-short : (i : ℕ) (s : List ℕ) → length (recordB i s) ≤ longestRecord
-record-short i s =
-    let r = entries-count (valuesAt s (readSetFrom i) (readValuesFrom i)) in
-    let w = entries-count (valuesAt s (writtenSetFrom i) (writtenValuesFrom i)) in
-    rw length-bytesOf (omega (arith, r, w))
-
 -- an installation as far as its 21
 unfoldable pub installedB : ℕ → Serving → Serving
 installedB i x =
@@ -63,7 +50,7 @@ acts-installed i =
     let y = serving (finishB i (leaveB i (writeB i s))) (x .sent) (snoc (x .recs) (recordB i (writeB i s))) in
     send y (committedB i (workNumber s i) (lastOf (finishB i (leaveB i (writeB i s))))))
     (λ s.
-    acts-then (acts-archive (recordB i (writeB i s)) (record-short i (writeB i s)))
+    acts-then (acts-archive (recordB i (writeB i s)))
     (acts-then (acts-state (λ t. finishB i (leaveB i (writeB i s)))) (acts-send (committedB i (workNumber s i) (lastOf (finishB i (leaveB i (writeB i s))))))))
 
 pub install-is : (i : ℕ) (x : Serving) → installB i x ≡ informTo i (writtenPagesB (x .state) i) (installedB i x) 8

@@ -12,7 +12,6 @@ use Rattle.lists.specs.Stores.{sets-join}
 use Rattle.sets.specs.Base.{snoc}
 use Rattle.sets.specs.Laws.{byB}
 use Rattle.message.specs.Layout.{messageLength}
-use Rattle.layout.specs.Record.{longestRecord}
 use Rattle.station_callbacks.specs.Callbacks.{flat}
 use Rattle.server_actions.specs.Actions.{Serving, serving, onState, send}
 use Rattle.server_actions.specs.declared.Counts.{Counts}
@@ -25,14 +24,9 @@ from s = serving s [] []
 abbrev pub behind : Serving → Serving → Serving
 behind x y = serving (y .state) (x .sent ++ y .sent) (x .recs ++ y .recs)
 
--- no record is longer than the longest
-abbrev pub Short : Serving → Type 0
-Short x = length (flat (x .recs)) ≤ length (x .recs) * longestRecord
-
 -- what f does depends on the state alone, and adds to what was sent and archived
 pub record Acts (f : Serving → Serving) : Type 0 where
   pub grows : (x : Serving) → f x ≡ behind x (f (from (x .state)))
-  pub short : (s : List ℕ) → Short (f (from s))
 
 pub flat-append : (a b : List (List ℕ)) → flat (a ++ b) ≡ flat a ++ flat b
 unfolding flat
@@ -42,37 +36,27 @@ flat-append (x ∷ a) b = rw (flat-append a b) (sym (append-assoc x (flat a) (fl
 behind-behind : (x y z : Serving) → behind (behind x y) z ≡ behind x (behind y z)
 behind-behind x y z = rw (append-assoc (x .sent) (y .sent) (z .sent), append-assoc (x .recs) (y .recs) (z .recs))
 
-short-behind : (x y : Serving) → Short x → Short y → Short (behind x y)
-short-behind x y a b = rw (flat-append (x .recs) (y .recs), length-append (flat (x .recs)) (flat (y .recs)), length-append (x .recs) (y .recs)) (omega arith)
-
 -- HOW ACTIONS ARE MADE
 
 pub acts-not : Acts (λ x. x)
-unfolding flat
-acts-not = record { grows = λ x. rw (append-nil (x .sent), append-nil (x .recs)); short = λ s. omega arith }
+acts-not = record { grows = λ x. rw (append-nil (x .sent), append-nil (x .recs)) }
 
 pub acts-state : (f : List ℕ → List ℕ) → Acts (λ x. onState x (f (x .state)))
-unfolding flat
-acts-state f = record { grows = λ x. rw (append-nil (x .sent), append-nil (x .recs)); short = λ s. omega arith }
+acts-state f = record { grows = λ x. rw (append-nil (x .sent), append-nil (x .recs)) }
 
 pub acts-send : (m : List ℕ) → Acts (λ x. send x m)
-unfolding flat
-acts-send m = record { grows = λ x. rw (append-nil (x .recs)); short = λ s. omega arith }
+acts-send m = record { grows = λ x. rw (append-nil (x .recs)) }
 
-pub acts-archive : (r : List ℕ) → length r ≤ longestRecord → Acts (λ x. serving (x .state) (x .sent) (snoc (x .recs) r))
-unfolding flat
-acts-archive r h = record { grows = λ x. rw (append-nil (x .sent)); short = λ s. rw (append-nil r) (omega arith) }
+pub acts-archive : (r : List ℕ) → Acts (λ x. serving (x .state) (x .sent) (snoc (x .recs) r))
+acts-archive r = record { grows = λ x. rw (append-nil (x .sent)) }
 
 pub acts-cond : (c : List ℕ → Bool) {f g : Serving → Serving} → Acts f → Acts g → Acts (λ x. cond (c (x .state)) (f x) (g x))
 acts-cond c {f} {g} a b =
-    record {
-      grows = λ x. byB (c (x .state)) (λ e. rw e (a .grows x)) (λ e. rw e (b .grows x));
-      short = λ s. byB (c s) (λ e. rw e (a .short s)) (λ e. rw e (b .short s));
-    }
+    record { grows = λ x. byB (c (x .state)) (λ e. rw e (a .grows x)) (λ e. rw e (b .grows x)) }
 
 -- where the state before is told
 pub acts-with : (g : List ℕ → Serving → Serving) → ((s : List ℕ) → Acts (g s)) → Acts (λ x. g (x .state) x)
-acts-with g h = record { grows = λ x. h (x .state) .grows x; short = λ s. h s .short s }
+acts-with g h = record { grows = λ x. h (x .state) .grows x }
 
 pub acts-then : {f g : Serving → Serving} → Acts f → Acts g → Acts (λ x. g (f x))
 acts-then {f} {g} a b =
@@ -82,7 +66,6 @@ acts-then {f} {g} a b =
           let y = f (from (x .state)) in
           b .grows (f x) ∙ ap (λ (z : Serving). behind z (g (from (z .state)))) (a .grows x)
           ∙ behind-behind x y (g (from (y .state))) ∙ ap (behind x) (sym (b .grows y));
-      short = λ s. let y = f (from s) in rw (b .grows y) (short-behind y (g (from (y .state))) (a .short s) (b .short (y .state)));
     }
 
 -- THE LENT BYTES
@@ -183,13 +166,16 @@ module _ {g : Serving → Serving} (b : Acts g) (o q : List ℕ) (c : Counts) (y
 -- the bytes lent have room for all that is sent and archived
 pub record Room (o q : List ℕ) (c : Counts) (y : Serving) : Type 0 where
   pub messages : (c .messages + length (y .sent)) * messageLength ≤ length o
-  pub records : c .records + length (y .recs) * longestRecord ≤ length q
+  pub records : c .records + length (flat (y .recs)) ≤ length q
+
+flat-length : (x y : Serving) → length (flat (x .recs ++ y .recs)) ≡ length (flat (x .recs)) + length (flat (y .recs))
+flat-length x y = rw (flat-append (x .recs) (y .recs), length-append (flat (x .recs)) (flat (y .recs)))
 
 module _ (o q : List ℕ) (c : Counts) where
   room-behind : (x y : Serving) → Room o q c (behind x y) → Room o q c x
   room-behind x y r =
       let n = length-append (x .sent) (y .sent) in
-      let k = length-append (x .recs) (y .recs) in
+      let k = flat-length x y in
       record { messages = omega (arith, n, r .messages); records = omega (arith, k, r .records) }
 
   -- for the whole, so for what comes first
@@ -197,10 +183,10 @@ module _ (o q : List ℕ) (c : Counts) where
   room-first {g} b y r = room-behind y (g (from (y .state))) (rw (← b .grows y) r)
 
   -- .. and for the rest
-  pub room-next : {g : Serving → Serving} → Acts g → (y : Serving) → Short y → {s₁ o₁ q₁ : List ℕ} {c₁ : Counts} → posted s₁ o₁ q₁ c₁ ≡ post o q c y
+  pub room-next : {g : Serving → Serving} → Acts g → (y : Serving) → {s₁ o₁ q₁ : List ℕ} {c₁ : Counts} → posted s₁ o₁ q₁ c₁ ≡ post o q c y
       → Room o q c (g y) → Room o₁ q₁ c₁ (g (from s₁))
   unfolding post
-  room-next {g} b y h {s₁} {o₁} {q₁} {c₁} e r =
+  room-next {g} b y {s₁} {o₁} {q₁} {c₁} e r =
       let z = g (from (y .state)) in
       let es : s₁ ≡ y .state = ap (λ (p : Posted). p .state) e in
       let eo : o₁ ≡ mailed o (c .messages) (y .sent) = ap (λ (p : Posted). p .messages) e in
@@ -210,10 +196,10 @@ module _ (o q : List ℕ) (c : Counts) where
       let lo : length o₁ ≡ length o = rw eo (length-mailed o (c .messages) (y .sent)) in
       let lq : length q₁ ≡ length q = rw eq (length-sets q (c .records) (flat (y .recs))) in
       let n = length-append (y .sent) (z .sent) in
-      let k = length-append (y .recs) (z .recs) in
+      let k = flat-length y z in
       let w : Room o q c (behind y z) = rw (← b .grows y) r in
       rw es
-      (record { messages = omega (arith, em, lo, n, w .messages); records = omega (arith, er, lq, h, k, w .records) })
+      (record { messages = omega (arith, em, lo, n, w .messages); records = omega (arith, er, lq, k, w .records) })
 
   pub message-fits : (y : Serving) → Room o q c y → (n : ℕ) → n < length (y .sent) → (c .messages + n) * messageLength + messageLength ≤ length o
   message-fits y r n h = omega (arith, h, r .messages)
@@ -227,7 +213,7 @@ pub record Turns (f g : Serving → ℕ → Serving) : Type 0 where
   pub acts : (n : ℕ) → Acts (λ x. g x n)
 
 pub acts-same : {f g : Serving → Serving} → ((x : Serving) → f x ≡ g x) → Acts g → Acts f
-acts-same h a = record { grows = λ x. h x ∙ a .grows x ∙ ap (behind x) (sym (h (from (x .state)))); short = λ s. rw (h (from s)) (a .short s) }
+acts-same h a = record { grows = λ x. h x ∙ a .grows x ∙ ap (behind x) (sym (h (from (x .state)))) }
 
 pub acts-turns : {f g : Serving → ℕ → Serving} → Turns f g → (n : ℕ) → Acts (λ x. f x n)
 acts-turns t zero = acts-same (t .none) acts-not
@@ -246,7 +232,7 @@ module _ {f g : Serving → ℕ → Serving} (t : Turns f g) (o q : List ℕ) (c
   module _ (n k : ℕ) {s₁ o₁ q₁ : List ℕ} {c₁ : Counts} (e : posted s₁ o₁ q₁ c₁ ≡ post o q c (f (from s) k)) where
     pub turn-room : k < n → Room o q c (f (from s) n) → Room o₁ q₁ c₁ (g (from s₁) k)
     turn-room h r =
-        room-next o q c (t .acts k) (f (from s) k) (acts-turns t k .short s) e
+        room-next o q c (t .acts k) (f (from s) k) e
         (rw (← t .next (from s) k) (room-fewer (n - suc k) (suc k) n (omega arith) r))
 
     pub turn-posted : {d : Posted} → d ≡ post o₁ q₁ c₁ (g (from s₁) k) → d ≡ post o q c (f (from s) (k + 1))

@@ -15,7 +15,7 @@ use Rattle.server_state.specs.Layout.{kindFrom}
 use Rattle.server_actions.specs.Actions.{Serving}
 use Rattle.server_actions.specs.Pass.{serverStepB}
 
--- number 1: "128 messages and 36,992 record bytes (server)"
+-- number 1: "128 messages", "the server's record buffer 7,040"
 unfoldable pub ready : List ℕ → List ℕ → List ℕ → Bool
 ready s o q = valid s && leb serverRoom (length o) && leb recordsRoom (length q)
 

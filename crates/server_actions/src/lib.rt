@@ -5,7 +5,6 @@ ghost use Prim.Native.Nat.{_+_, _*_, _≤_, _<_};
 ghost use lib.ListN.{length, take, drop};
 ghost use lib.Seq.{sets};
 ghost use Rattle.message.specs.Layout.{messageLength};
-ghost use Rattle.layout.specs.Record.{longestRecord};
 ghost use Rattle.server_state.specs.Layout.{serverLength, lastOf};
 ghost use Rattle.server_actions.specs.Actions.{pageB, callbackB, recordB, sendPageB, abortB, informTo, installB};
 ghost use Rattle.server_actions.specs.Posting.{from as Posting·from, counts, posted, post, Room};
@@ -139,7 +138,7 @@ fn inform_all(s: &mut [u8], o: &mut [u8], q: &mut [u8], c: Counts, i: usize, d: 
 
 // The record of i's entry, with the last commit number.
 fn archive(s: &[u8], q: &mut [u8], c: Counts, i: usize) -> Counts
-    requires { ⌜ (length (now s) ≡ serverLength) × (i < 8) × (c .records + longestRecord ≤ length (now q)) ⌝ }
+    requires { ⌜ (length (now s) ≡ serverLength) × (i < 8) × (c .records + length (recordB i (now s)) ≤ length (now q)) ⌝ }
     ensures { λ r. ⌜ (now (q .exit) ≡ sets (now (q .entry)) (c .records) (recordB i (now (s .entry)))) × (r ≡ counts (c .messages) (c .records + length (recordB i (now (s .entry))))) ⌝ }
 {
     let n = le::get_u32(s, LAST);

@@ -66,7 +66,7 @@ module _ (o q : List ℕ) (c : Counts) (s : List ℕ) where
 
     pub round-breaks : b .messages ≡ c .messages → Room o q c (roundB (from s)) → Room o₁ q₁ b (brokenB (from s₁))
     unfolding roundB
-    round-breaks n r = room-next o q c acts-broken (passedB (from s)) (acts-passed .short s) e (rw (rests n) at r)
+    round-breaks n r = room-next o q c acts-broken (passedB (from s)) e (rw (rests n) at r)
 
     pub round-broken : b .messages ≡ c .messages → {d : Posted} → d ≡ post o₁ q₁ b (brokenB (from s₁)) → d ≡ post o q c (roundB (from s))
     unfolding roundB

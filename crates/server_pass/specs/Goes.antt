@@ -75,7 +75,7 @@ module _ (s o q : List ℕ) (b : Counts) where
             fuel = n;
             left = λ _. lower (falls h m) l;
             goal-is = posted-then (acts-settle n) o q b (roundB (from s)) f refl ∙ ap (post o q b) (sym is);
-            room = room-next o q b (acts-settle n) (roundB (from s)) (acts-round .short s) f (rw is at r);
+            room = room-next o q b (acts-settle n) (roundB (from s)) f (rw is at r);
           }
         where
           lower : {a c : ℕ} → a + 1 ≤ c → c < suc n → a < n
@@ -88,7 +88,7 @@ module _ (s o q : List ℕ) (b : Counts) where
             fuel = n;
             left = λ x. absurd (false≢true x);
             goal-is = sym (post-none o₁ q₁ e s₁) ∙ f ∙ ap (post o q b) (sym is);
-            room = room-next o q b acts-not (roundB (from s)) (acts-round .short s) f (rw is at r);
+            room = room-next o q b acts-not (roundB (from s)) f (rw is at r);
           }
 
       next : Goes (not (eqb (e .messages) (b .messages))) s₁ o₁ q₁ e (post o q b (settleB (suc n) (from s)))

@@ -59,8 +59,6 @@ acts-moved {f} {g} {h} a b c =
       grows =
           λ x. rw (moved-same a x)
           (byB (movedB (from (x .state)) (f (from (x .state)))) (λ e. rw e (acts-then a b .grows x)) (λ e. rw e (acts-then a c .grows x)));
-      short =
-          λ s. byB (movedB (from s) (f (from s))) (λ e. rw e (acts-then a b .short s)) (λ e. rw e (acts-then a c .short s));
     }
 
 pub acts-passed : Acts passedB

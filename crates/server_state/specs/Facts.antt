@@ -14,9 +14,10 @@ use Rattle.le.specs.Width.{numAt}
 use Rattle.le.specs.Laws.{u64At-is}
 use Rattle.lists.specs.Tests.{allTo, allTo-at, allTo-of, and-l, and-r}
 use Rattle.sets.specs.Laws.{byB}
-use Rattle.station_state.specs.Layout.{hasBit, noneIn}
+use Rattle.limits.specs.Limit.{limit}
+use Rattle.station_state.specs.Layout.{hasBit, countIn, noneIn}
 use Rattle.server_state.specs.Layout.{counterLimit, kindFrom, wantFrom, calledFrom, unfinishedFrom, serverLength, ageOf, arrivalOf, agesOf, arrivalsOf, workNumber, latestOf, askedOf, lockFrom, lockOf, wholeOf, readSetFrom, writtenSetFrom, kindOf, wantOf, requestOf, calledOf, pendOf, busyOf, unfinishedOf}
-use Rattle.server_state.specs.Valid.{mostAt, most, rangesOk, countersOk, wordOf, onlyIn, blankOk, commitOk, requestOk, waiterOk, entryOk, owesAt, callsOk, agedOk, stationOk, holderOk, holderAt, besideAt, pageOk, askedAt, apartAt, apartOk, valid, kindsOk}
+use Rattle.server_state.specs.Valid.{mostAt, most, rangesOk, countersOk, wordOf, onlyIn, blankOk, fewOk, commitOk, requestOk, waiterOk, entryOk, owesAt, callsOk, agedOk, stationOk, holderOk, holderAt, besideAt, pageOk, askedAt, apartAt, apartOk, valid, kindsOk}
 
 -- TESTS
 
@@ -60,6 +61,8 @@ pub record Work (s : List ℕ) (i : ℕ) : Type 0 where
   pub validates : kindOf s i ≡ 1
   pub request-is : requestOf s i ≡ 0
   pub latest-is : workNumber s i ≡ latestOf s i
+  pub reads-few : countIn s (readSetFrom i) ≤ limit
+  pub writes-few : countIn s (writtenSetFrom i) ≤ limit
 
 -- the entry of one that waits
 pub record Waiter (s : List ℕ) (i : ℕ) : Type 0 where
@@ -113,10 +116,17 @@ module _ (s : List ℕ) (i : ℕ) where
       record { arrival-is = eqb-true _ _ (u .0); request-is = eqb-true _ _ (u .1); nothing-read = u .2; nothing-written = u .3 }
 
   commit-of : commitOk s i ≡ true → Work s i
-  unfolding commitOk
+  unfolding commitOk fewOk
   commit-of h =
-      let u = all-3 (eqb (kindOf s i) 1) (eqb (requestOf s i) 0) (eqb (workNumber s i) (latestOf s i)) h in
-      record { validates = eqb-true _ _ (u .0); request-is = eqb-true _ _ (u .1); latest-is = eqb-true _ _ (u .2) }
+      let u = all-4 (eqb (kindOf s i) 1) (eqb (requestOf s i) 0) (eqb (workNumber s i) (latestOf s i)) (fewOk s i) h in
+      let reads = leb (countIn s (readSetFrom i)) limit in
+      record {
+        validates = eqb-true _ _ (u .0);
+        request-is = eqb-true _ _ (u .1);
+        latest-is = eqb-true _ _ (u .2);
+        reads-few = leb-true _ _ (and-l reads _ (u .3));
+        writes-few = leb-true _ _ (and-r reads _ (u .3));
+      }
 
   abbrev reads : Bool
   reads = onlyIn s (readSetFrom i) (requestOf s i) && noneIn s (writtenSetFrom i)

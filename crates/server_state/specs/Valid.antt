@@ -9,7 +9,8 @@ use lib.Dec.{eqb, ltb, leb}
 use Rattle.lists.specs.Tests.{allTo}
 use lib.Bits.{bitOr}
 use Rattle.le.specs.Le.{u64At, setU64}
-use Rattle.station_state.specs.Layout.{hasBit, noneIn}
+use Rattle.limits.specs.Limit.{limit}
+use Rattle.station_state.specs.Layout.{hasBit, countIn, noneIn}
 use Rattle.server_state.specs.Layout.{counterLimit, nextAgeFrom, nextArrivalFrom, kindFrom, wantFrom, calledFrom, unfinishedFrom, serverLength, ageOf, arrivalOf, agesOf, arrivalsOf, workNumber, latestOf, askedOf, lockOf, wholeOf, readSetFrom, writtenSetFrom, kindOf, wantOf, requestOf, calledOf, pendOf, busyOf, unfinishedOf}
 
 -- a byte is at most n
@@ -45,9 +46,13 @@ onlyIn s at a =
 unfoldable pub blankOk : List ℕ → ℕ → Bool
 blankOk s i = eqb (arrivalOf s i) 0 && eqb (requestOf s i) 0 && noneIn s (readSetFrom i) && noneIn s (writtenSetFrom i)
 
+-- document 02, wish 1: "48 distinct reads and 48 distinct writes", so that the record has room
+unfoldable pub fewOk : List ℕ → ℕ → Bool
+fewOk s i = leb (countIn s (readSetFrom i)) limit && leb (countIn s (writtenSetFrom i)) limit
+
 -- a validating commit, of the latest transaction
 unfoldable pub commitOk : List ℕ → ℕ → Bool
-commitOk s i = eqb (kindOf s i) 1 && eqb (requestOf s i) 0 && eqb (workNumber s i) (latestOf s i)
+commitOk s i = eqb (kindOf s i) 1 && eqb (requestOf s i) 0 && eqb (workNumber s i) (latestOf s i) && fewOk s i
 
 -- a locking station's read or write, of the object requested
 unfoldable pub requestOk : List ℕ → ℕ → Bool

@@ -4,7 +4,7 @@ ghost use Prim.Native.Nat.{_+_, _≤_, _<_};
 ghost use lib.ListN.{length, replicate};
 ghost use Rattle.lists.specs.Tests.{allTo};
 ghost use Rattle.server_state.specs.Layout.{serverLength, otherB};
-ghost use Rattle.server_state.specs.Valid.{mostAt, most as Valid·most, rangesOk, countersOk, wordOf, onlyIn, blankOk, commitOk, requestOk, waiterOk, entryOk, owesAt, callsOk, agedOk, stationOk, holderOk, holderAt, besideAt, pageOk, askedAt, apartAt, apartOk, valid as Valid·valid, kindsOk, kindsTo, freshened, freshOf};
+ghost use Rattle.server_state.specs.Valid.{mostAt, most as Valid·most, rangesOk, countersOk, wordOf, onlyIn, blankOk, fewOk, commitOk, requestOk, waiterOk, entryOk, owesAt, callsOk, agedOk, stationOk, holderOk, holderAt, besideAt, pageOk, askedAt, apartAt, apartOk, valid as Valid·valid, kindsOk, kindsTo, freshened, freshOf};
 ghost use Rattle.server_state.specs.Eights.{groupFree, groupOk};
 ghost use Rattle.server_state.specs.Ages.{agedOf};
 use station_state::NUMBER_WIDTH;
@@ -159,6 +159,15 @@ fn blank_ok(s: &[u8], i: usize) -> bool
         & station_state::none_in(s, WRITTEN_SET + i * SET_ROW)
 }
 
+// Whether the commit that station i waits with has no more reads and writes than one transaction may have.
+fn few_ok(s: &[u8], i: usize) -> bool
+    requires { ⌜ (length (now s) ≡ serverLength) × (i < 8) ⌝ }
+    ensures { λ r. ⌜ r ≡ fewOk (now (s .entry)) i ⌝ }
+{
+    (station_state::count_in(s, READ_SET + i * SET_ROW) <= limits::LIMIT)
+        & (station_state::count_in(s, WRITTEN_SET + i * SET_ROW) <= limits::LIMIT)
+}
+
 // Whether station i may wait with a commit.
 fn commit_ok(s: &[u8], i: usize) -> bool
     requires { ⌜ (length (now s) ≡ serverLength) × (i < 8) ⌝ }
@@ -167,6 +176,7 @@ fn commit_ok(s: &[u8], i: usize) -> bool
     (s[KIND + i] == 1)
         & (s[REQUEST + i] == 0)
         & (le::get_u32(s, WORK + i * NUMBER_WIDTH) == le::get_u32(s, LATEST + i * NUMBER_WIDTH))
+        & few_ok(s, i)
 }
 
 // Whether it may wait with a read or a write: of the object requested.

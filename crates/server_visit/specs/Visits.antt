@@ -173,7 +173,7 @@ module _ (o q : List ℕ) (c : Counts) where
 
     module _ {s₁ o₁ q₁ : List ℕ} {b : Counts} (e : posted s₁ o₁ q₁ b ≡ post o q c (callOnceB i (from s))) where
       pub proceed-next : Room o q c (proceedB w i (from s)) → Room o₁ q₁ b (afterCallsB w i (from s₁))
-      proceed-next r = room-next o q c (acts-afterCalls w i) (callOnceB i (from s)) (acts-callOnce i .short s) e (rw proceeds at r)
+      proceed-next r = room-next o q c (acts-afterCalls w i) (callOnceB i (from s)) e (rw proceeds at r)
 
       pub proceed-chain : {d : Posted} → d ≡ post o₁ q₁ b (afterCallsB w i (from s₁)) → d ≡ post o q c (proceedB w i (from s))
       proceed-chain f = posted-then (acts-afterCalls w i) o q c (callOnceB i (from s)) e f ∙ ap (post o q c) (sym proceeds)

@@ -12,12 +12,12 @@ use Rattle.le.specs.Le.{u64At, setU64}
 use Rattle.le.specs.Width.{bytes, length-bytes}
 use Rattle.sets.specs.Base.{Val, none, some}
 use Rattle.cells.specs.Le.{setU64-is}
-use Rattle.cells.specs.Loops.{rank}
+use Rattle.cells.specs.Loops.{rank, rank-size}
 use Rattle.layout.specs.Record.{headerLength, valueLength, entryLength, Entry, Record, entries, header, addresses, values, bytesOf}
-use Rattle.entries.specs.Entries.{entryIf, entriesFrom, entriesOf}
+use Rattle.entries.specs.Entries.{entryIf, entriesFrom, entriesOf, from-snoc}
 use Rattle.record.specs.Stores.{length-header}
 use Rattle.record_meaning.specs.Layout.{addresses-append, values-append, length-addresses, length-bytesOf}
-use Rattle.station_state.specs.Layout.{member}
+use Rattle.station_state.specs.Layout.{member, countIn}
 use Rattle.set_record.specs.Record.{valuesAt, recordFrom, filled, recordFilled}
 use Rattle.set_record.specs.Stores.{entryOne, entriesTo, valuesFor, bothFor}
 
@@ -37,18 +37,6 @@ part-filled h s x a k e fits ex =
     put-part h x s a k whole e fits
 
 -- THE LIST OF A SET'S ADDRESSES
-
--- the entries of one address more: it comes last
-from-snoc : (n a : ℕ) (f : ℕ → Val) → entriesFrom (suc n) a f ≡ entriesFrom n a f ++ entryIf (a + n) (f (a + n)) []
-unfolding entriesFrom
-from-snoc zero a f = ap (λ (b : ℕ). entryIf b (f b) []) (omega arith)
-from-snoc (suc n) a f =
-    ap (entryIf a (f a)) (from-snoc n (suc a) f ∙ ap (λ (b : ℕ). entriesFrom n (suc a) f ++ entryIf b (f b) []) (omega arith))
-    ∙ behind (f a) (entriesFrom n (suc a) f) (entryIf (a + suc n) (f (a + suc n)) [])
-  where
-    behind : (v : Val) (es fs : List Entry) → entryIf a v (es ++ fs) ≡ entryIf a v es ++ fs
-    behind none es fs = refl
-    behind (some x) es fs = refl
 
 -- an address behind the addresses, if so
 entry-step : (o t : List ℕ) (i a v : ℕ) (l : List Entry) (b : Bool) → t ≡ sets o i (addresses l)
@@ -84,6 +72,11 @@ module _ (s : List ℕ) (at from : ℕ) where
 
   length-all : length (entriesOf (valuesAt s at from)) ≡ rank (member s at) 256
   length-all = rw (← below-all) (length-below 256)
+
+  -- as many entries as the set has members
+  pub length-counted : length (entriesOf (valuesAt s at from)) ≡ countIn s at
+  unfolding countIn
+  length-counted = length-all ∙ rank-size (member s at) 256
 
   listed-below : (o : List ℕ) (i n : ℕ) → entriesTo o s at i n ≡ sets o i (addresses (below n))
   unfolding entriesTo entryOne
@@ -201,6 +194,10 @@ module _ (s : List ℕ) (ra rv wa wv commit transaction station kind n k : ℕ) 
 
   record-length : length (bytesOf whole) ≡ headerLength + entryLength * k
   record-length = length-bytesOf whole ∙ rw (reads-are, writes-are) (omega arith)
+
+  -- where the record fits, its header and its entries do
+  pub record-room : (base l : ℕ) → base + length (bytesOf whole) ≤ l → base + headerLength + entryLength * k ≤ l
+  record-room base l fits = omega (arith, record-length, fits)
 
   -- header, addresses and values, each behind the one before; as `put_record` calls, the header is put into a part
   pub record-filled : (o : List ℕ) (base : ℕ) (l : List ℕ) {x o₂ : List ℕ} → l ≡ addresses (entries whole)

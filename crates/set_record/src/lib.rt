@@ -10,7 +10,7 @@ ghost use Rattle.station_state.specs.Layout.{setRow, member as Layout·member};
 ghost use Rattle.set_record.specs.Record.{recordFrom, filled, recordFilled};
 ghost use Rattle.set_record.specs.Stores.{entryOne, entriesTo, valuesFor, bothFor};
 ghost use Rattle.set_record.specs.Spans.{memberFrom, spanTo};
-ghost use Rattle.layout.specs.Record.{headerLength, valueLength, entryLength, mostEntries, longestRecord};
+ghost use Rattle.layout.specs.Record.{headerLength, valueLength, entryLength, mostEntries, longestRecord, bytesOf};
 
 // Lists address a as entry i, if the set from `at` has it: how many entries there are then.
 fn list_address(list: &mut [u8], s: &[u8], at: usize, i: usize, a: usize) -> usize
@@ -125,7 +125,7 @@ pub fn put_record(
     station: u32,
     kind: u32,
 ) -> usize
-    requires { ⌜ (reads + setRow ≤ length (now s)) × («read_values» + 256 * valueLength ≤ length (now s)) × (writes + setRow ≤ length (now s)) × («written_values» + 256 * valueLength ≤ length (now s)) × (base + longestRecord ≤ length (now out)) × (station < 256) × (kind < 256) ⌝ }
+    requires { ⌜ (reads + setRow ≤ length (now s)) × («read_values» + 256 * valueLength ≤ length (now s)) × (writes + setRow ≤ length (now s)) × («written_values» + 256 * valueLength ≤ length (now s)) × (base + length (bytesOf (recordFrom (now s) reads «read_values» writes «written_values» commit transaction station kind)) ≤ length (now out)) × (station < 256) × (kind < 256) ⌝ }
     ensures { λ r. ⌜ (filled (now (out .exit)) r ≡ recordFilled (now (out .entry)) base (recordFrom (now (s .entry)) reads «read_values» writes «written_values» commit transaction station kind)) × (r ≤ longestRecord) ⌝ }
 {
     // room for the addresses of both sets

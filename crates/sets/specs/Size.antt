@@ -1,13 +1,38 @@
 -- How many members a set has below n.
-use mathlib.Core.Path.{_≡_}
-use mathlib.Core.Bool.{Bool, true, false, cond}
+use mathlib.Core.Path.{_≡_, refl}
+use mathlib.Core.Bool.{Bool, true, false, _||_, cond, or-false}
 use Prim.Native.Nat.{ℕ, zero, suc, _+_, _≤_, _<_}
+use native.Mathlib.Nat.{add-zero, add-suc}
 use native.Mathlib.Omega.{arith}
-use Rattle.sets.specs.Laws.{byB, byEq, eqb-yes, eqb-no}
+use lib.Dec.{eqb}
+use Rattle.sets.specs.Laws.{byB, byEq, eqb-same, eqb-yes, eqb-no}
 
 unfoldable pub size : ℕ → (ℕ → Bool) → ℕ
 size zero f = 0
 size (suc n) f = cond (f n) 1 0 + size n f
+
+-- sets that agree
+pub size-same : (n : ℕ) (f g : ℕ → Bool) → ((i : ℕ) → i < n → f i ≡ g i) → size n f ≡ size n g
+unfolding size
+size-same zero f g h = refl
+size-same (suc n) f g h = rw (size-same n f g (λ i l. h i (omega arith)), h n (omega arith))
+
+-- the first m, and the n behind them
+pub size-join : (m n : ℕ) (f : ℕ → Bool) → size (m + n) f ≡ size m f + size n (λ i. f (m + i))
+unfolding size
+size-join m zero f = rw (add-zero m) (omega arith)
+size-join m (suc n) f = rw (add-suc m n, size-join m n f) (omega arith)
+
+pub size-first : (n : ℕ) (f : ℕ → Bool) → size (suc n) f ≡ cond (f 0) 1 0 + size n (λ i. f (suc i))
+unfolding size
+size-first zero f = refl
+size-first (suc n) f = omega (arith, size-first n f)
+
+-- nothing in it
+pub size-empty : (n : ℕ) (f : ℕ → Bool) → ((i : ℕ) → f i ≡ false) → size n f ≡ 0
+unfolding size
+size-empty zero f h = refl
+size-empty (suc n) f h = rw (size-empty n f h, h n)
 
 -- at most n
 pub size-most : (n : ℕ) (f : ℕ → Bool) → size n f ≤ n
@@ -44,3 +69,26 @@ size-less (suc n) f g j h b u v =
     (λ q.
     let less = rest (omega (arith, eqb-no j n q)) in
     byB (f n) (λ t. rw (t, h n (omega arith) t) (omega arith)) (λ t. rw t (omega arith)))
+
+-- with one member more it is at most one more
+pub size-joined : (n : ℕ) (f : ℕ → Bool) (a : ℕ) → size n (λ i. f i || eqb i a) ≤ size n f + 1
+unfolding size
+size-joined zero f a = omega arith
+size-joined (suc n) f a =
+    byEq n a
+    (λ q.
+    let rest : size n (λ i. f i || eqb i a) ≡ size n f =
+    size-same n (λ i. f i || eqb i a) f (λ i l. byEq i a (λ k. absurd (omega (arith, eqb-yes i a k, eqb-yes n a q))) (λ k. rw (k, or-false))) in
+    byB (f n) (λ t. rw (q, t) (omega arith)) (λ t. rw (q, t) (omega arith)))
+    (λ q. let rest = size-joined n f a in byB (f n) (λ t. rw (q, t) (omega arith)) (λ t. rw (q, t) (omega arith)))
+
+-- and just one more, if it was none
+pub size-new : (n : ℕ) (f : ℕ → Bool) (a : ℕ) → a < n → f a ≡ false → size n (λ i. f i || eqb i a) ≡ size n f + 1
+size-new n f a l e =
+    let most = size-joined n f a in
+    let least : size n f + 1 ≤ size n (λ i. f i || eqb i a) = size-less n f (λ i. f i || eqb i a) a (λ i k t. rw t) l e (rw (e, eqb-same a)) in
+    omega (arith, most, least)
+
+-- a member stays one
+pub size-old : (n : ℕ) (f : ℕ → Bool) (a : ℕ) → f a ≡ true → size n (λ i. f i || eqb i a) ≡ size n f
+size-old n f a e = size-same n (λ i. f i || eqb i a) f (λ i l. byEq i a (λ q. rw (q, eqb-yes i a q, e)) (λ q. rw (q, or-false)))

@@ -1,5 +1,5 @@
 -- The stores, one behind the other, leave the commit's bytes.
-use Prim.Native.Nat.{ℕ, zero, suc, _+_, _*_}
+use Prim.Native.Nat.{ℕ, zero, suc, _+_, _*_, _≤_}
 use mathlib.Core.Path.{_≡_, refl, sym, ap, _∙_}
 use mathlib.Core.List.{List, _++_, append-assoc, append-nil}
 use native.Mathlib.Omega.{arith}
@@ -9,12 +9,14 @@ use Rattle.lists.specs.Stores.{sets-join}
 use Rattle.le.specs.Le.{setU32}
 use Rattle.le.specs.Width.{bytes, length-bytes}
 use Rattle.le.specs.Laws.{setU32-is}
-use Rattle.layout.specs.Record.{bytesOf}
+use Rattle.layout.specs.Record.{recordLength, bytesOf}
+use Rattle.record_meaning.specs.Layout.{length-bytesOf}
 use Rattle.message.specs.Layout.{upMessage}
 use Rattle.message.specs.Stores.{length-up}
-use Rattle.station_state.specs.Layout.{readValueFrom, writtenValueFrom, number, station, kind, readSetFrom, writtenSetFrom}
+use Rattle.station_state.specs.Layout.{readValueFrom, writtenValueFrom, number, station, kind, readSetFrom, writtenSetFrom, countIn}
 use Rattle.station_pages.specs.Pages.{usedPagesB}
 use Rattle.set_record.specs.Record.{recordFrom, Filled, filled, recordFilled}
+use Rattle.set_record.specs.Filled.{length-counted}
 use Rattle.station_commit.specs.Commit.{recordSent, versionSent, versionsSent, commitBytes, commitFilled}
 use Rattle.station_commit.specs.Stores.{versionsTo}
 use Rattle.message.specs.Commit.{versionsAt, versionWidth, recordAt}
@@ -46,6 +48,22 @@ versions-are c s (suc n) = one (versions-are c s n) (versions-snoc s n 0)
         ∙ ap (λ (q : ℕ). sets c versionsAt (versionsSent s n 0 ++ bytes versionWidth (versionSent s q))) (omega arith))
 
 -- THE COMMIT
+
+record-behind : (s : List ℕ) → length (commitBytes s) ≡ recordAt + length (bytesOf (recordSent s))
+unfolding commitBytes
+record-behind s = simp (length-append, length-up, length-versions) (omega arith)
+
+-- its length follows from how much was read and written
+pub commit-length : (s : List ℕ) → length (commitBytes s) ≡ recordAt + recordLength (countIn s readSetFrom) (countIn s writtenSetFrom)
+commit-length s = record-behind s ∙ rw (length-bytesOf (recordSent s), length-counted s readSetFrom readValueFrom, length-counted s writtenSetFrom writtenValueFrom)
+
+-- where it fits, its parts do
+pub commit-parts : (s : List ℕ) (l : ℕ) → length (commitBytes s) ≤ l → recordAt ≤ l
+commit-parts s l fits = omega (arith, record-behind s, fits)
+
+pub record-fits : (s : List ℕ) (l : ℕ) {t w y : ℕ} → t ≡ number s → w ≡ station s → y ≡ kind s → length (commitBytes s) ≤ l
+    → recordAt + length (bytesOf (recordFrom s readSetFrom readValueFrom writtenSetFrom writtenValueFrom 0 t w y)) ≤ l
+record-fits s l et ew ey fits = rw (et, ew, ey) (omega (arith, record-behind s, fits))
 
 -- message, versions and record, each behind the one before
 pub commit-filled : (s c : List ℕ) {t u w y r : ℕ} {c₁ c₂ c₃ : List ℕ} → t ≡ number s → u ≡ usedPagesB s → w ≡ station s → y ≡ kind s

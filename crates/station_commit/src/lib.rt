@@ -2,10 +2,10 @@
 ghost use mathlib.Core.Path.{_≡_};
 ghost use Prim.Native.Nat.{_≤_, _<_};
 ghost use lib.ListN.{length};
-ghost use Rattle.station_commit.specs.Commit.{versionSent, filled, commitFilled};
+ghost use Rattle.station_commit.specs.Commit.{versionSent, commitBytes, filled, commitFilled};
 ghost use Rattle.station_commit.specs.Stores.{versionsTo};
 ghost use Rattle.station_state.specs.Layout.{stateLength};
-ghost use Rattle.message.specs.Commit.{recordAt, commitRoom};
+ghost use Rattle.message.specs.Commit.{recordAt};
 use station_state::KIND;
 use station_state::NUMBER;
 use station_state::NUMBER_WIDTH;
@@ -44,7 +44,7 @@ fn put_versions(c: &mut [u8], s: &[u8])
 
 // The bytes of the commit, from the start of `c`: how many they are.
 pub fn put_commit(s: &[u8], c: &mut [u8]) -> usize
-    requires { ⌜ (length (now s) ≡ stateLength) × (commitRoom ≤ length (now c)) ⌝ }
+    requires { ⌜ (length (now s) ≡ stateLength) × (length (commitBytes (now s)) ≤ length (now c)) ⌝ }
     ensures { λ r. ⌜ filled (now (c .exit)) r ≡ commitFilled (now (s .entry)) (now (c .entry)) ⌝ }
 {
     let t = le::get_u32(s, NUMBER);

@@ -1,5 +1,5 @@
 -- What the checks tell that were passed, and how a call's refusals and results stand in the lent bytes.
-use Prim.Native.Nat.{ℕ, _≤_, _<_}
+use Prim.Native.Nat.{ℕ, _+_, _≤_, _<_}
 use mathlib.Core.Path.{_≡_, refl, sym, ap, _∙_}
 use mathlib.Core.Bool.{Bool, true, false, not, _&&_, _||_, cond}
 use mathlib.Core.Logic.{_≢_}
@@ -8,17 +8,18 @@ use native.Mathlib.Omega.{arith}
 use lib.ListN.{length}
 use lib.Seq.{sets}
 use lib.Dec.{eqb, ltb, leb}
-use borrow.Author.Tests.{eqb-true, leb-true, eq-eqb, ne-eqb}
+use borrow.Author.Tests.{eqb-true, eqb-false, leb-true, eq-eqb, ne-eqb, not-true}
 use Rattle.sets.specs.Base.{turned}
 use Rattle.sets.specs.Laws.{byB, eqb-no, ltb-yes, not-no}
 use Rattle.lists.specs.Tests.{and-l, and-r}
-use Rattle.station_state.specs.Layout.{stateLength, number, station, wait, cached, hasBit, requestedB}
+use Rattle.station_state.specs.Layout.{stateLength, number, station, opened, wait, cached, hasBit, requestedB}
 use Rattle.station_state.specs.Valid.{valid}
-use Rattle.station_state.specs.Facts.{valid-ranged}
+use Rattle.station_state.specs.Facts.{Ranged, valid-ranged}
 use Rattle.station_state.specs.Changes.{forCommitB}
 use Rattle.station_pages.specs.Pages.{usedPageB}
 use Rattle.message.specs.Stores.{length-up}
-use Rattle.station_commit.specs.Commit.{Filled, filled, commitFilled}
+use Rattle.station_commit.specs.Commit.{Filled, filled, commitBytes, commitFilled}
+use Rattle.station_commit.specs.Filled.{commit-length}
 use Rattle.station_callbacks.specs.Callbacks.{sends, flat, Posted, posted, post, closeB, closePosted, undoB}
 use Rattle.station_callbacks.specs.Posting.{Whole, close-post}
 use Rattle.station_answer.specs.declared.Answer.the-variants.{Refused, Waits, Aborted}
@@ -26,7 +27,7 @@ use Rattle.station_answer.specs.declared.Said.{Said}
 use Rattle.station_answer.specs.Did.{Did, doesAll, refuses, said, outcome, delivered, handed, Delivered}
 use Rattle.station_answer.specs.Handed.{hand-all}
 use Rattle.station_answer.specs.Ask.{lockingB, openB}
-use Rattle.station_owner.specs.Owner.{ready, called, unlessB, checkBeginB, checkOpenB, checkAddressB, checkPurgeB, commitCalled, abortsB}
+use Rattle.station_owner.specs.Owner.{ready, called, unlessB, checkBeginB, openThenB, checkOpenB, checkAddressB, checkPurgeB, commitCalled, abortsB}
 use Rattle.message.specs.Commit.{stationRoom, commitRoom}
 
 -- state and output passed
@@ -35,6 +36,7 @@ pub record Ready (s o c : List ℕ) : Type 0 where
   pub own : station s ≤ 7
   pub messages-fit : stationRoom ≤ length o
   pub commit-fits : commitRoom ≤ length c
+  pub ranged : Ranged s
 
 pub ready-is : (s o c : List ℕ) → ready s o c ≡ true → Ready s o c
 unfolding ready
@@ -47,6 +49,7 @@ ready-is s o c h =
       own = v .station-fits;
       messages-fit = leb-true _ _ (and-r (valid s) (leb stationRoom (length o)) t);
       commit-fits = leb-true _ _ (and-r two (leb commitRoom (length c)) h);
+      ranged = v;
     }
 
 -- a number that is 0 was not turned back
@@ -62,9 +65,42 @@ begin-passed s e =
     let c = passed (eqb (number s) 4294967295) 11 0 (λ q. absurd (omega arith)) (b .1) in
     eqb-no _ _ (c .0)
 
-pub address-passed : (a : ℕ) (s : List ℕ) → checkAddressB a s ≡ 0 → a < 256
+-- 7 and 8
+pub open-passed : (s : List ℕ) (n : ℕ) → openThenB s n ≡ 0 → opened s ≢ 0
+unfolding openThenB
+open-passed s n e =
+    let a = passed (not (eqb (wait s) 0)) 7 _ (λ q. absurd (omega arith)) e in
+    let b = passed (not (openB s)) 8 n (λ q. absurd (omega arith)) (a .1) in
+    eqb-false _ _ (not-true (eqb (opened s) 0) (not-no (openB s) (b .0)))
+
+-- 15, behind the others
+pub check-first : (a : ℕ) (long : Bool) (s : List ℕ) {n : ℕ} → n ≡ checkAddressB a false s → n ≢ 0 → n ≡ checkAddressB a long s
+unfolding checkAddressB openThenB
+check-first a long s {n} e z =
+    byB (ltb a 256)
+    (λ l.
+    byB (eqb (wait s) 0)
+    (λ w. byB (openB s) (λ o. absurd (z (rw (l, w, o) at e))) (λ o. rw (l, w, o) (rw (l, w, o) at e)))
+    (λ w. rw (l, w) (rw (l, w) at e)))
+    (λ l. rw l (rw l at e))
+
+pub check-last : (a : ℕ) (long : Bool) (s : List ℕ) {n : ℕ} → n ≡ checkAddressB a false s → n ≡ 0 → checkAddressB a long s ≡ turned long 15 0
+unfolding checkAddressB openThenB
+check-last a long s {n} e z =
+    let none : checkAddressB a false s ≡ 0 = sym e ∙ z in
+    let l = passed (not (ltb a 256)) 4 _ (λ q. absurd (omega arith)) none in
+    let w = passed (not (eqb (wait s) 0)) 7 _ (λ q. absurd (omega arith)) (l .1) in
+    let o = passed (not (openB s)) 8 0 (λ q. absurd (omega arith)) (w .1) in
+    rw (l .0, w .0, o .0)
+
+-- the commit of an open transaction has room where number 1 was passed
+pub commit-room : (s o c : List ℕ) → Ready s o c → opened s ≢ 0 → length (commitBytes s) ≤ length c
+commit-room s o c r n =
+    omega (arith, commit-length s, r .commit-fits, r .ranged .reads-few n .most, r .ranged .writes-few n .most)
+
+pub address-passed : (a : ℕ) (long : Bool) (s : List ℕ) → checkAddressB a long s ≡ 0 → a < 256
 unfolding checkAddressB
-address-passed a s e = ltb-yes _ _ (not-no (ltb a 256) ((passed (not (ltb a 256)) 4 _ (λ q. absurd (omega arith)) e) .0))
+address-passed a long s e = ltb-yes _ _ (not-no (ltb a 256) ((passed (not (ltb a 256)) 4 _ (λ q. absurd (omega arith)) e) .0))
 
 pub purge-passed : (p : ℕ) (s : List ℕ) → checkPurgeB p s ≡ 0 → p < 32
 unfolding checkPurgeB

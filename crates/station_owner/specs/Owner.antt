@@ -7,8 +7,9 @@ use lib.ListN.{length}
 use lib.Seq.{sets}
 use lib.Dec.{eqb, ltb, leb}
 use Rattle.sets.specs.Base.{turned}
+use Rattle.limits.specs.Limit.{limit}
 use Rattle.message.specs.Layout.{upMessage}
-use Rattle.station_state.specs.Layout.{copyOf, readValue, writtenValue, number, cached, whole, station, wait, unavailableFrom, readSetFrom, writtenSetFrom, locksFrom, hasBit, member, requestedB}
+use Rattle.station_state.specs.Layout.{copyOf, readValue, writtenValue, number, cached, whole, station, wait, unavailableFrom, readSetFrom, writtenSetFrom, locksFrom, hasBit, member, countIn, requestedB}
 use Rattle.station_state.specs.Valid.{valid}
 use Rattle.station_state.specs.Changes.{beginB, recordReadB, writeLocalB, forReadB, forWriteB, forCommitB}
 use Rattle.station_pages.specs.Pages.{usedPageB, dropPagesB}
@@ -20,7 +21,7 @@ use Rattle.station_answer.specs.Did.{Did, does, doesAll, refuses, said, Outcome
 use Rattle.station_answer.specs.Ask.{lockingB, openB}
 use Rattle.message.specs.Commit.{stationRoom, commitRoom}
 
--- number 1: "output is under .. 8 messages and 4,864 commit bytes (station)"
+-- number 1: "output is under .. 8 messages", "a commit and the station's buffer for it 1,120"
 unfoldable pub ready : List ℕ → List ℕ → List ℕ → Bool
 ready s o c = valid s && leb stationRoom (length o) && leb commitRoom (length c)
 
@@ -36,13 +37,23 @@ unlessB n d s = cond (eqb n 0) d (refuses n s)
 unfoldable pub checkBeginB : List ℕ → ℕ
 checkBeginB s = turned (not (eqb (wait s) 0)) 7 (turned (openB s) 9 (turned (eqb (number s) 4294967295) 11 0))
 
--- 7 Waiting, 8 Closed
-unfoldable pub checkOpenB : List ℕ → ℕ
-checkOpenB s = turned (not (eqb (wait s) 0)) 7 (turned (not (openB s)) 8 0)
+-- 7 Waiting, 8 Closed, then others
+unfoldable pub openThenB : List ℕ → ℕ → ℕ
+openThenB s others = turned (not (eqb (wait s) 0)) 7 (turned (not (openB s)) 8 others)
 
--- 4 Range, 7 Waiting, 8 Closed
-unfoldable pub checkAddressB : ℕ → List ℕ → ℕ
-checkAddressB a s = turned (not (ltb a 256)) 4 (checkOpenB s)
+abbrev pub checkOpenB : List ℕ → ℕ
+checkOpenB s = openThenB s 0
+
+-- 15 Long: "the owner's 49th recorded read or 49th written object"
+unfoldable pub longReadB : ℕ → List ℕ → Bool
+longReadB a s = not (member s readSetFrom a || member s writtenSetFrom a) && leb limit (countIn s readSetFrom)
+
+unfoldable pub longWriteB : ℕ → List ℕ → Bool
+longWriteB a s = not (member s writtenSetFrom a) && leb limit (countIn s writtenSetFrom)
+
+-- 4 Range, 7 Waiting, 8 Closed, 15 Long
+unfoldable pub checkAddressB : ℕ → Bool → List ℕ → ℕ
+checkAddressB a long s = turned (not (ltb a 256)) 4 (openThenB s (turned long 15 0))
 
 -- 4 Range, 7 Waiting ("a purge counts only for the requested page"), 10 Kept
 unfoldable pub checkPurgeB : ℕ → List ℕ → ℕ
@@ -77,7 +88,7 @@ readAsB a s =
     (cond (member s readSetFrom a) (does (Value (readValue s a)) s []) (readHereB a s))
 
 unfoldable pub ownReadB : ℕ → List ℕ → Did
-ownReadB a s = unlessB (checkAddressB a s) (readAsB a s) s
+ownReadB a s = unlessB (checkAddressB a (longReadB a s) s) (readAsB a s) s
 
 -- "A locking station writes locally under its lock on object or page, else sends 2. A validating station writes locally on a
 -- cached page, else sends 1."
@@ -94,7 +105,7 @@ unfoldable pub writeAsB : ℕ → ℕ → List ℕ → Did
 writeAsB a v s = cond (mayWriteB a s) (does Written (writeLocalB a v s) []) (writeAskB a v s)
 
 unfoldable pub ownWriteB : ℕ → ℕ → List ℕ → Did
-ownWriteB a v s = unlessB (checkAddressB a s) (writeAsB a v s) s
+ownWriteB a v s = unlessB (checkAddressB a (longWriteB a s) s) (writeAsB a v s) s
 
 -- "Commit sends 3 and waits for 21 or 22.": the commit's bytes from the start of c
 abbrev pub commits : List ℕ → List ℕ → List ℕ → Outcome

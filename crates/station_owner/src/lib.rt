@@ -1,11 +1,12 @@
 // The operations of a station's owner, on a lent state and lent output.
 ghost use mathlib.Core.Path.{_≡_};
+ghost use mathlib.Core.Bool.{false};
 ghost use Prim.Native.Nat.{_+_, _*_, _≤_, _<_};
 ghost use lib.ListN.{length};
 ghost use lib.Seq.{sets};
 ghost use Rattle.station_answer.specs.Did.{said, outcome, delivered, handed};
 ghost use Rattle.station_callbacks.specs.Callbacks.{sends, posted, post};
-ghost use Rattle.station_owner.specs.Owner.{ready as Owner·ready, called, commitCalled, checkBeginB, checkOpenB, checkAddressB, checkPurgeB, requestB, shownB, readHereB, mayWriteB, asksB, abortsB, ownBeginB, readAsB, ownReadB, writeAsB, ownWriteB, ownAbortB, ownPurgeB};
+ghost use Rattle.station_owner.specs.Owner.{ready as Owner·ready, called, commitCalled, checkBeginB, checkOpenB, longReadB, longWriteB, checkAddressB, checkPurgeB, requestB, shownB, readHereB, mayWriteB, asksB, abortsB, ownBeginB, readAsB, ownReadB, writeAsB, ownWriteB, ownAbortB, ownPurgeB};
 ghost use Rattle.station_state.specs.Layout.{stateLength};
 ghost use Rattle.message.specs.Commit.{stationRoom};
 use station_answer::Answer;
@@ -69,14 +70,65 @@ fn check_open(s: &[u8]) -> u32
     0
 }
 
+// What a read and a write are both refused for: 4, 7 and 8.
 fn check_address(a: u32, s: &[u8]) -> u32
     requires { ⌜ length (now s) ≡ stateLength ⌝ }
-    ensures { λ r. ⌜ r ≡ checkAddressB a (now (s .entry)) ⌝ }
+    ensures { λ r. ⌜ r ≡ checkAddressB a false (now (s .entry)) ⌝ }
 {
     if a >= 256 {
         return 4;
     }
     check_open(s)
+}
+
+// Whether a would be one recorded read too many.
+fn long_read(a: usize, s: &[u8]) -> bool
+    requires { ⌜ (length (now s) ≡ stateLength) × (a < 256) ⌝ }
+    ensures { λ r. ⌜ r ≡ longReadB a (now (s .entry)) ⌝ }
+{
+    if station_state::member(s, READ_SET, a) | station_state::member(s, WRITTEN_SET, a) {
+        return false;
+    }
+    limits::LIMIT <= station_state::count_in(s, READ_SET)
+}
+
+// Whether a would be one written object too many.
+fn long_write(a: usize, s: &[u8]) -> bool
+    requires { ⌜ (length (now s) ≡ stateLength) × (a < 256) ⌝ }
+    ensures { λ r. ⌜ r ≡ longWriteB a (now (s .entry)) ⌝ }
+{
+    if station_state::member(s, WRITTEN_SET, a) {
+        return false;
+    }
+    limits::LIMIT <= station_state::count_in(s, WRITTEN_SET)
+}
+
+fn check_read(a: u32, s: &[u8]) -> u32
+    requires { ⌜ length (now s) ≡ stateLength ⌝ }
+    ensures { λ r. ⌜ r ≡ checkAddressB a (longReadB a (now (s .entry))) (now (s .entry)) ⌝ }
+{
+    let n = check_address(a, s);
+    if n != 0 {
+        return n;
+    }
+    if long_read(a as usize, s) {
+        return 15;
+    }
+    0
+}
+
+fn check_write(a: u32, s: &[u8]) -> u32
+    requires { ⌜ length (now s) ≡ stateLength ⌝ }
+    ensures { λ r. ⌜ r ≡ checkAddressB a (longWriteB a (now (s .entry))) (now (s .entry)) ⌝ }
+{
+    let n = check_address(a, s);
+    if n != 0 {
+        return n;
+    }
+    if long_write(a as usize, s) {
+        return 15;
+    }
+    0
 }
 
 fn check_purge(p: u32, s: &[u8]) -> u32
@@ -181,7 +233,7 @@ pub fn read(address: u32, s: &mut [u8], o: &mut [u8], c: &mut [u8]) -> Said
     if !ready(s, o, c) {
         return refuse(1);
     }
-    let n = check_address(address, s);
+    let n = check_read(address, s);
     if n != 0 {
         return refuse(n);
     }
@@ -230,7 +282,7 @@ pub fn write(address: u32, value: u64, s: &mut [u8], o: &mut [u8], c: &mut [u8])
     if !ready(s, o, c) {
         return refuse(1);
     }
-    let n = check_address(address, s);
+    let n = check_write(address, s);
     if n != 0 {
         return refuse(n);
     }

@@ -1,17 +1,19 @@
 -- What number 1 tells of a state that passes.
-use Prim.Native.Nat.{ℕ, _≤_}
+use Prim.Native.Nat.{ℕ, _+_, _≤_}
 use mathlib.Core.Path.{_≡_, refl, sym}
 use mathlib.Core.List.{List}
 use mathlib.Core.Logic.{_≢_}
-use mathlib.Core.Bool.{Bool, true, false, not, _&&_, _||_, cond}
+use mathlib.Core.Bool.{Bool, true, false, not, _&&_, _||_, cond, false≢true}
 use lib.ListN.{length}
-use lib.Dec.{eqb, leb}
-use borrow.Author.Tests.{eqb-true, eqb-false, leb-true, le-leb, eq-eqb, ne-eqb, not-true, not-false}
+use lib.Dec.{eqb, ltb, leb}
+use borrow.Author.Tests.{eqb-true, eqb-false, ltb-true, leb-true, le-leb, eq-eqb, ne-eqb, not-true, not-false}
 use native.Mathlib.Omega.{arith}
+use Rattle.limits.specs.Limit.{limit}
+use Rattle.sets.specs.Laws.{byB}
 use Rattle.lists.specs.Tests.{and-l, and-r, and-both}
-use Rattle.station_state.specs.Layout.{keptFrom, readSetFrom, writtenSetFrom, locksFrom, stateLength, keptOf, number, whole, station, kind, opened, wait, address, member, noneIn}
+use Rattle.station_state.specs.Layout.{keptFrom, readSetFrom, writtenSetFrom, locksFrom, stateLength, keptOf, number, whole, station, kind, opened, wait, address, member, countIn, noneIn}
 use Rattle.station_state.specs.Sets.{none-numbers}
-use Rattle.station_state.specs.Valid.{fieldsOk, ownKept, closedOk, firstOk, worksOk, locklessOk, holdsOk, valid}
+use Rattle.station_state.specs.Valid.{fieldsOk, ownKept, closedOk, firstOk, fewIn, limitedOk, worksOk, locklessOk, holdsOk, valid}
 
 -- no transaction is open
 pub record Closed (s : List ℕ) : Type 0 where
@@ -25,6 +27,11 @@ pub record Lockless (s : List ℕ) : Type 0 where
   pub no-object : noneIn s locksFrom ≡ true
   pub nothing-kept : noneIn s keptFrom ≡ true
 
+-- a set within the limit, with what is out
+pub record Few (s : List ℕ) (at : ℕ) (out : Bool) : Type 0 where
+  pub most : countIn s at ≤ limit
+  pub room : out ≡ true → member s at (address s) ≡ false → countIn s at + 1 ≤ limit
+
 pub record Ranged (s : List ℕ) : Type 0 where
   pub size : length s ≡ stateLength
   pub station-fits : station s ≤ 7
@@ -35,6 +42,8 @@ pub record Ranged (s : List ℕ) : Type 0 where
   pub not-own : keptOf s (station s) ≡ 0
   pub closed : opened s ≡ 0 → Closed s
   pub first : opened s ≢ 0 → wait s ≡ 1 → (member s readSetFrom (address s) ≡ false) × (member s writtenSetFrom (address s) ≡ false)
+  pub reads-few : opened s ≢ 0 → Few s readSetFrom (eqb (wait s) 1)
+  pub writes-few : opened s ≢ 0 → Few s writtenSetFrom (eqb (wait s) 2)
   pub lockless : (eqb (kind s) 0 && not (eqb (opened s) 0)) ≡ false → Lockless s
 
 all-3 : (a b c : Bool) → a && b && c ≡ true → (a ≡ true) × (b ≡ true) × (c ≡ true)
@@ -65,8 +74,21 @@ lockless-of s h =
     let u = all-3 (eqb (whole s) 0) (noneIn s locksFrom) (noneIn s keptFrom) h in
     record { no-page = eqb-true _ _ (u .0); no-object = u .1; nothing-kept = u .2 }
 
+few-of : (s : List ℕ) (at : ℕ) (out : Bool) → fewIn s at out ≡ true → Few s at out
+unfolding fewIn
+few-of s at out h =
+    byB (out && not (member s at (address s)))
+    (λ e.
+    let l = ltb-true (countIn s at) limit (rw e at h) in
+    record { most = omega (arith, l); room = λ o m. omega (arith, l) })
+    (λ e.
+    record {
+      most = leb-true (countIn s at) limit (rw e at h);
+      room = λ o m. absurd (false≢true (sym (rw (o, m) at e)));
+    })
+
 pub valid-ranged : (s : List ℕ) → valid s ≡ true → Ranged s
-unfolding valid fieldsOk ownKept worksOk firstOk holdsOk
+unfolding valid fieldsOk ownKept worksOk firstOk limitedOk holdsOk
 valid-ranged s h =
     let sized = eqb (length s) stateLength in
     let front = sized && leb (station s) 7 in
@@ -79,7 +101,10 @@ valid-ranged s h =
     let hf : front ≡ true = and-l front (fields && others && works && holds) h in
     let u = all-4 fields others works holds (and-r front (fields && others && works && holds) h) in
     let f = all-4 (leb (kind s) 1) (leb (opened s) 1) (leb (wait s) 3) counted (u .0) in
-    let later = not (eqb (wait s) 1) || firstOk s in
+    let later = (not (eqb (wait s) 1) || firstOk s) && limitedOk s in
+    let works-are : opened s ≢ 0 → later ≡ true = λ n. passed (eqb (opened s) 0) (closedOk s) later (ne-eqb _ _ n) (u .2) in
+    let few : opened s ≢ 0 → limitedOk s ≡ true = λ n. and-r (not (eqb (wait s) 1) || firstOk s) (limitedOk s) (works-are n) in
+    let reads = fewIn s readSetFrom (eqb (wait s) 1) in
     record {
       size = eqb-true _ _ (and-l sized (leb (station s) 7) hf);
       station-fits = leb-true _ _ (and-r sized (leb (station s) 7) hf);
@@ -90,9 +115,11 @@ valid-ranged s h =
       not-own = eqb-true _ _ (not-false (eqb (keptOf s (station s)) 0) (not-true (not (eqb (keptOf s (station s)) 0)) (u .1)));
       closed = λ e. closed-of s (taken (eqb (opened s) 0) (closedOk s) later (eq-eqb _ _ e) (u .2));
       first = λ n e.
-          let one : firstOk s ≡ true = or-else (not (eqb (wait s) 1)) (firstOk s) (rw (eq-eqb (wait s) 1 e)) (passed (eqb (opened s) 0) (closedOk s) later (ne-eqb _ _ n) (u .2)) in
+          let one : firstOk s ≡ true = or-else (not (eqb (wait s) 1)) (firstOk s) (rw (eq-eqb (wait s) 1 e)) (and-l (not (eqb (wait s) 1) || firstOk s) (limitedOk s) (works-are n)) in
           let a = not (member s readSetFrom (address s)) in
           (not-true (member s readSetFrom (address s)) (and-l a _ one), not-true (member s writtenSetFrom (address s)) (and-r a _ one));
+      reads-few = λ n. few-of s readSetFrom (eqb (wait s) 1) (and-l reads _ (few n));
+      writes-few = λ n. few-of s writtenSetFrom (eqb (wait s) 2) (and-r reads _ (few n));
       lockless = λ e. lockless-of s (passed own-in true (locklessOk s) e (u .3));
     }
 

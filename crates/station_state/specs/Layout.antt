@@ -5,6 +5,7 @@ use mathlib.Core.Bool.{Bool, not, _&&_, _||_}
 use lib.ListN.{getD}
 use lib.Bits.{bitAnd}
 use lib.Dec.{eqb}
+use Rattle.sets.specs.Size.{size}
 use Rattle.le.specs.Le.{u32At, u64At}
 use Rattle.cells.specs.Cells.{Region, region}
 
@@ -233,6 +234,10 @@ hasBit x k = not (eqb (bitAnd x (2 ^ k)) 0)
 -- address a in the object sets from `at`
 unfoldable pub member : List ℕ → ℕ → ℕ → Bool
 member s at a = hasBit (getD s (at + a / 8) 0) (a % 8)
+
+-- how many addresses the object sets from `at` have
+unfoldable pub countIn : List ℕ → ℕ → ℕ
+countIn s at = size 256 (member s at)
 
 -- the object sets from `at` have nothing: a row's bytes, eight at a time
 unfoldable pub noneIn : List ℕ → ℕ → Bool

@@ -4,16 +4,19 @@ use mathlib.Core.Path.{_≡_, refl, sym, ap, _∙_}
 use mathlib.Core.Bool.{Bool, true, false, not, _&&_}
 use mathlib.Core.List.{List}
 use native.Mathlib.Omega.{arith}
+use lib.Count.{ones, ones-le}
 use lib.Dec.{eqb}
 use lib.ListN.{getD}
 use borrow.Author.Tests.{eqb-true, eq-eqb}
 use Rattle.lists.specs.Tests.{and-l, and-r}
+use Rattle.sets.specs.Size.{size, size-join, size-same}
 use Rattle.le.specs.Le.{u32At, u64At}
 use Rattle.le.specs.Width.{numAt}
 use Rattle.le.specs.Laws.{u64At-is}
 use Rattle.cells.specs.Num.{AllBytes, num-lt}
 use Rattle.cells.specs.Bits.{tb, tb-zero, tb-test, tb-tells}
-use Rattle.station_state.specs.Layout.{hasBit, member, noneIn}
+use Rattle.cells.specs.Loops.{ones-size}
+use Rattle.station_state.specs.Layout.{hasBit, member, countIn, noneIn}
 
 -- BITS OF A NUMBER'S BYTES
 
@@ -86,6 +89,48 @@ module _ (s : List ℕ) (h : AllBytes s) (at : ℕ) where
       let here : member s at (k * 64 + b) ≡ tb (u64At s (at + k * 8)) b = rw (page, bit) at (word-bit (k * 64 + b)) in
       let there : member s at (k * 64 + b) ≡ tb (w k) b = rw (page, bit) at (e (k * 64 + b) (omega arith)) in
       sym here ∙ there)
+
+  -- how many: those of each word
+  word-count : (k : ℕ) → size 64 (λ b. member s at (k * 64 + b)) ≡ ones (u64At s (at + k * 8))
+  word-count k =
+      let width : u64At s (at + k * 8) < 2 ^ 64 = rw (u64At-is s (at + k * 8)) (num-lt 8 s (at + k * 8) h) in
+      rw (ones-size 64 (u64At s (at + k * 8)) width)
+      (size-same 64 (λ b. member s at (k * 64 + b)) (tb (u64At s (at + k * 8)))
+      (λ b l.
+      let page : (k * 64 + b) / 64 ≡ k = omega arith in
+      let bit : (k * 64 + b) % 64 ≡ b = omega arith in
+      rw (page, bit) at (word-bit (k * 64 + b))))
+
+  words-count : (n : ℕ) → size (suc n * 64) (member s at) ≡ size (n * 64) (member s at) + ones (u64At s (at + n * 8))
+  words-count n =
+      let next : suc n * 64 ≡ n * 64 + 64 = omega arith in
+      rw (next, size-join (n * 64) 64 (member s at), word-count n)
+
+  none-count : size (0 * 64) (member s at) ≡ 0
+  unfolding size
+  none-count = refl
+
+  pub count-words : countIn s at ≡ ones (u64At s at) + ones (u64At s (at + 8)) + ones (u64At s (at + 16)) + ones (u64At s (at + 24))
+  unfolding countIn
+  count-words =
+      let first : ones (u64At s (at + 0 * 8)) ≡ ones (u64At s at) = ap (λ (p : ℕ). ones (u64At s p)) (omega arith) in
+      omega (arith, words-count 3, words-count 2, words-count 1, words-count 0, none-count, first)
+
+  -- as the code adds them up
+  word-few : (p : ℕ) {x : ℕ} → x ≡ u64At s p → ones x ≤ 64
+  word-few p e = rw e (ones-le 64 (u64At s p) (rw (u64At-is s p) (num-lt 8 s p h)))
+
+  pub two-fit : (p q : ℕ) {x y : ℕ} → x ≡ u64At s p → y ≡ u64At s q → ones x + ones y < 2 ^ 32
+  two-fit p q d e = omega (arith, word-few p d, word-few q e)
+
+  pub three-fit : (p q r : ℕ) {x y z : ℕ} → x ≡ u64At s p → y ≡ u64At s q → z ≡ u64At s r → ones x + ones y + ones z < 2 ^ 32
+  three-fit p q r d e f = omega (arith, word-few p d, word-few q e, word-few r f)
+
+  pub four-fit : (p q r t : ℕ) {x y z w : ℕ} → x ≡ u64At s p → y ≡ u64At s q → z ≡ u64At s r → w ≡ u64At s t → ones x + ones y + ones z + ones w < 2 ^ 32
+  four-fit p q r t d e f g = omega (arith, word-few p d, word-few q e, word-few r f, word-few t g)
+
+  pub count-added : {x y z w : ℕ} → x ≡ u64At s at → y ≡ u64At s (at + 8) → z ≡ u64At s (at + 16) → w ≡ u64At s (at + 24) → ones x + ones y + ones z + ones w ≡ countIn s at
+  count-added d e f g = rw (d, e, f, g) (sym count-words)
 
 -- four words as one test
 pub words-of : (s : List ℕ) (at : ℕ) → noneIn s at ≡ true → (k : ℕ) → k < 4 → u64At s (at + k * 8) ≡ 0

@@ -4,8 +4,9 @@ use Prim.Native.Nat.{ℕ, _+_, _*_}
 use mathlib.Core.List.{List}
 use mathlib.Core.Bool.{Bool, true, not, _&&_, _||_, cond}
 use lib.ListN.{length, set, replicate}
-use lib.Dec.{eqb, leb}
-use Rattle.station_state.specs.Layout.{keptFrom, readSetFrom, writtenSetFrom, locksFrom, stationFrom, kindFrom, stateLength, keptOf, number, whole, station, kind, opened, wait, address, member, noneIn}
+use lib.Dec.{eqb, ltb, leb}
+use Rattle.limits.specs.Limit.{limit}
+use Rattle.station_state.specs.Layout.{keptFrom, readSetFrom, writtenSetFrom, locksFrom, stationFrom, kindFrom, stateLength, keptOf, number, whole, station, kind, opened, wait, address, member, countIn, noneIn}
 
 -- "a field out of range": transactions are numbered from 1
 unfoldable pub fieldsOk : List ℕ → Bool
@@ -23,8 +24,16 @@ closedOk s = eqb (wait s) 0 && noneIn s readSetFrom && noneIn s writtenSetFrom
 unfoldable pub firstOk : List ℕ → Bool
 firstOk s = not (member s readSetFrom (address s)) && not (member s writtenSetFrom (address s))
 
+-- document 02, wish 1: the sets from `at` are within the limit; if the object waited for is out and not among them, there is room for it
+unfoldable pub fewIn : List ℕ → ℕ → Bool → Bool
+fewIn s at out = cond (out && not (member s at (address s))) (ltb (countIn s at) limit) (leb (countIn s at) limit)
+
+-- "48 distinct reads and 48 distinct writes", a waiting read or write counted as recorded
+unfoldable pub limitedOk : List ℕ → Bool
+limitedOk s = fewIn s readSetFrom (eqb (wait s) 1) && fewIn s writtenSetFrom (eqb (wait s) 2)
+
 unfoldable pub worksOk : List ℕ → Bool
-worksOk s = cond (eqb (opened s) 0) (closedOk s) (not (eqb (wait s) 1) || firstOk s)
+worksOk s = cond (eqb (opened s) 0) (closedOk s) ((not (eqb (wait s) 1) || firstOk s) && limitedOk s)
 
 -- no lock, and no callback kept (eight transactions of four bytes)
 unfoldable pub locklessOk : List ℕ → Bool

@@ -4,8 +4,8 @@ ghost use mathlib.Core.Path.{_≡_};
 ghost use mathlib.Core.Logic.{_≢_};
 ghost use Prim.Native.Nat.{_+_, _^_, _≤_, _<_};
 ghost use lib.ListN.{length, replicate};
-ghost use Rattle.station_state.specs.Layout.{pageSetWidth, setRow, stateLength, station as Layout·station, opened, number, hasBit, member as Layout·member, noneIn, requestedB};
-ghost use Rattle.station_state.specs.Valid.{fieldsOk, ownKept, closedOk, firstOk, worksOk, locklessOk, holdsOk, valid as Valid·valid, freshened, freshOf};
+ghost use Rattle.station_state.specs.Layout.{pageSetWidth, setRow, stateLength, station as Layout·station, opened, number, hasBit, member as Layout·member, countIn, noneIn, requestedB};
+ghost use Rattle.station_state.specs.Valid.{fieldsOk, ownKept, closedOk, firstOk, fewIn, limitedOk, worksOk, locklessOk, holdsOk, valid as Valid·valid, freshened, freshOf};
 ghost use Rattle.station_state.specs.Changes.{addTo, pageOn, pageOff, clearTo, copyTo, beginB, recordReadB, writeLocalB, idleB, forReadB, forWriteB, forCommitB, loosenB, keepB, unkeepB, closedB};
 
 // Widths: of a value, of a transaction's number or a version, of a page set. An object set has one byte.
@@ -106,6 +106,17 @@ pub fn none_in(s: &[u8], at: usize) -> bool
         & (le::get_u64(s, at + 24) == 0)
 }
 
+// How many addresses the object sets from `at` have: the bits of four words.
+pub fn count_in(s: &[u8], at: usize) -> u32
+    requires { ⌜ at + setRow ≤ length (now s) ⌝ }
+    ensures { λ r. ⌜ r ≡ countIn (now (s .entry)) at ⌝ }
+{
+    u64::count_ones(le::get_u64(s, at))
+        + u64::count_ones(le::get_u64(s, at + 8))
+        + u64::count_ones(le::get_u64(s, at + 16))
+        + u64::count_ones(le::get_u64(s, at + 24))
+}
+
 // Whether a read or a write of an object of page p is out.
 pub fn requested(s: &[u8], p: usize) -> bool
     requires { ⌜ length (now s) ≡ stateLength ⌝ }
@@ -151,15 +162,35 @@ fn first_ok(s: &[u8]) -> bool
     !member(s, READ_SET, a) & !member(s, WRITTEN_SET, a)
 }
 
+// Whether the sets from `at` are within the limit, with the object waited for, if that is out.
+fn few_in(s: &[u8], at: usize, out: bool) -> bool
+    requires { ⌜ (length (now s) ≡ stateLength) × (at + setRow ≤ length (now s)) ⌝ }
+    ensures { λ r. ⌜ r ≡ fewIn (now (s .entry)) at out ⌝ }
+{
+    let a = s[ADDRESS] as usize;
+    if out & !member(s, at, a) {
+        return count_in(s, at) < limits::LIMIT;
+    }
+    count_in(s, at) <= limits::LIMIT
+}
+
+// Whether the transaction is within the limit.
+fn limited_ok(s: &[u8]) -> bool
+    requires { ⌜ length (now s) ≡ stateLength ⌝ }
+    ensures { λ r. ⌜ r ≡ limitedOk (now (s .entry)) ⌝ }
+{
+    few_in(s, READ_SET, s[WAIT] == 1) & few_in(s, WRITTEN_SET, s[WAIT] == 2)
+}
+
 // Of an open transaction.
 fn works_ok(s: &[u8]) -> bool
     requires { ⌜ (length (now s) ≡ stateLength) × (opened (now s) ≢ 0) ⌝ }
     ensures { λ r. ⌜ r ≡ worksOk (now (s .entry)) ⌝ }
 {
     if s[WAIT] != 1 {
-        return true;
+        return limited_ok(s);
     }
-    first_ok(s)
+    first_ok(s) & limited_ok(s)
 }
 
 // Whether there is no lock, and no callback kept.

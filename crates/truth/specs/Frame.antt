@@ -10,7 +10,7 @@ use Rattle.sets.specs.Base.{upd, snoc, Val, none, some, any, turned}
 use Rattle.sets.specs.Laws.{byB, byEq, eqb-same, eqb-yes, eqb-no, ltb-yes, ltb-no, and-l, and-r, or-yes, or-no, not-yes, not-no}
 use Rattle.line.specs.All.{All, all-append}
 use Rattle.line.specs.Messages.{pageOf, locking, Work, Up, ReadRequest, WriteRequest, Commit, Abort, Purge, Busy, Done, WrittenSet, Lock, NoLock, ObjectLock, WholeLock, Down, Page, Deescalate, Callback, Committed, Aborted, Invalidate, Sent, To, Nothing, Begun, Value, Waits, Written, AbortedFor, Purged, Refused}
-use Rattle.line.specs.Station.{Station, Did, does, didStation, unless, setKept, setNum, setOpened, setWait, Wait, Idle, ForRead, ForWrite, ForCommit, waiting, forRead, forWrite, forCommit, requested, Kept, NotKept, KeptCall, live, usedAt, usedPage, shown, mayWrite, workOf, ended, fits, fitsPage, checkBegin, checkOpen, checkAddress, checkPurge, dropPages, recordRead, writeLocal, doCallback, doKept, doAllKept, closed, close, undo, ownBegin, readLocal, readAsk, readAs, ownRead, writeAsk, ownWrite, ownCommit, ownAbort, ownPurge, arrive, takeLock, answerWait, onPage, onDeescalate, onCallback, onCommitted, onAborted, onInvalidate, onDown, stationStep, inUse, touched, ignored}
+use Rattle.line.specs.Station.{Station, Did, does, didStation, unless, setKept, setNum, setOpened, setWait, Wait, Idle, ForRead, ForWrite, ForCommit, waiting, forRead, forWrite, forCommit, requested, Kept, NotKept, KeptCall, live, usedAt, usedPage, shown, mayWrite, workOf, ended, fits, fitsPage, checkBegin, openThen, checkOpen, longRead, longWrite, checkAddress, checkPurge, dropPages, recordRead, writeLocal, doCallback, doKept, doAllKept, closed, close, undo, ownBegin, readLocal, readAsk, readAs, ownRead, writeAsk, ownWrite, ownCommit, ownAbort, ownPurge, arrive, takeLock, answerWait, onPage, onDeescalate, onCallback, onCommitted, onAborted, onInvalidate, onDown, stationStep, inUse, touched, ignored}
 use Rattle.line.specs.Server.{Server, Serving, onServer, send, setListed, wrotePage, informed, write, archive, inform, informFrom, install, badNumber, unlocked, lockOn, unexpected, notice, finish, leave, serveNow, joinRead, joinWrite, joinCommit, commitNow, unlist, openCall, markBusy, answered, openAsk, loosen, accept, concerned, callsFrom}
 use Rattle.line.specs.Line.{Op, Begin, Read, Write, Commits, Aborts, Purges, perform, sentTo}
 use Rattle.line.specs.Laws.{sentTo-snoc}
@@ -213,15 +213,16 @@ passed true n rest z e = absurd (false≢true (sym z ∙ e))
 passed false n rest z e = (refl, e)
 
 module _ (s : Station) where
-  active : eqb (checkOpen s) 0 ≡ true → Active s
-  active e =
-      let u = passed (waiting (s .wait)) 7 (turned (not (s .opened)) 8 0) refl e in
-      record { idle = u .0; opened = not-no (s .opened) (passed (not (s .opened)) 8 0 refl (u .1) .0) }
+  active : (n : ℕ) → eqb (openThen s n) 0 ≡ true → Active s
+  active n e =
+      let u = passed (waiting (s .wait)) 7 (turned (not (s .opened)) 8 n) refl e in
+      record { idle = u .0; opened = not-no (s .opened) (passed (not (s .opened)) 8 n refl (u .1) .0) }
 
-  in-reach : (a : ℕ) → eqb (checkAddress a s) 0 ≡ true → (a < 256) × Active s
-  in-reach a e =
-      let u = passed (not (ltb a 256)) 4 (checkOpen s) refl e in
-      (ltb-yes a 256 (not-no (ltb a 256) (u .0)), active (u .1))
+  in-reach : (a : ℕ) (long : Bool) → eqb (checkAddress a long s) 0 ≡ true → (a < 256) × Active s
+  in-reach a long e =
+      let n = turned long 15 0 in
+      let u = passed (not (ltb a 256)) 4 (openThen s n) refl e in
+      (ltb-yes a 256 (not-no (ltb a 256) (u .0)), active n (u .1))
 
   module _ (P : Op → Did → Type 0) (k : Owns s P) where
     unless-owns : (op : Op) (n : ℕ) (d : Did) → (eqb n 0 ≡ true → P op d) → P op (unless n d s)
@@ -240,12 +241,12 @@ module _ (s : Station) where
         (λ e.
         let u = passed (waiting (s .wait)) 7 _ refl e in
         k .begins (u .0) (passed (s .opened) 9 _ refl (u .1) .0))
-    performs (Read a) = unless-owns (Read a) (checkAddress a s) _ (λ e. let u = in-reach a e in reads-owns a (u .0) (u .1) (s .wr a) (s .rd a) refl refl)
+    performs (Read a) = unless-owns (Read a) (checkAddress a (longRead a s) s) _ (λ e. let u = in-reach a (longRead a s) e in reads-owns a (u .0) (u .1) (s .wr a) (s .rd a) refl refl)
     performs (Write a v) =
-        unless-owns (Write a v) (checkAddress a s) _
-        (λ e. let u = in-reach a e in if-did (P (Write a v)) (mayWrite a s) (λ q. k .writes-here a v (u .0) (u .1) q) (λ q. k .writes-ask a v (u .0) (u .1) q))
-    performs Commits = unless-owns Commits (checkOpen s) _ (λ e. k .commits (active e))
-    performs Aborts = unless-owns Aborts (checkOpen s) _ (λ e. k .aborts (active e))
+        unless-owns (Write a v) (checkAddress a (longWrite a s) s) _
+        (λ e. let u = in-reach a (longWrite a s) e in if-did (P (Write a v)) (mayWrite a s) (λ q. k .writes-here a v (u .0) (u .1) q) (λ q. k .writes-ask a v (u .0) (u .1) q))
+    performs Commits = unless-owns Commits (checkOpen s) _ (λ e. k .commits (active 0 e))
+    performs Aborts = unless-owns Aborts (checkOpen s) _ (λ e. k .aborts (active 0 e))
     performs (Purges p) =
         unless-owns (Purges p) (checkPurge p s) _
         (λ e.

@@ -1,5 +1,5 @@
 -- `server_actions::archive` meets its contract.
-use Rattle.server_actions.specs.Chains.{archive-chain}
+use Rattle.server_actions.specs.Chains.{archive-chain, archive-room}
 use borrow.Author.Needs.{needs}
 use Rattle.server_actions.proofs.archive.Statement.{statement}
 use Rattle.server_actions.proofs.archive.Tie as tie
@@ -53,7 +53,7 @@ cast-put-record : tie.Need-cast-put-record
 cast-put-record c = search needs
 
 put-record-requires : tie.Need-put-record-requires
-put-record-requires c κs = search needs
+put-record-requires c κs = (search needs, search needs, search needs, search needs, archive-room _ _ _ _ (c .before .before .before .before .get-u32 .ensures) (c .before .before .before .get-u322 .ensures) (c .before .wide .ensures .0) (c .before .before .before .before .before .before .before .pre .2), search needs, search needs)
 
 add-t10 : tie.Need-add-t10
 add-t10 c = search needs

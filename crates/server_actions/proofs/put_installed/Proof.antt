@@ -23,7 +23,7 @@ write-requires : tie.Need-write-requires
 write-requires c κs = search needs
 
 archive-requires : tie.Need-archive-requires
-archive-requires c κs = (search needs, search needs, installed-fits _ _ _ _ _ (c .before .before .before .before .before .before .before .before .before .before .before .pre .3) .1)
+archive-requires c κs = (search needs, search needs, rw (c .before .before .before .before .write .ensures) (installed-fits _ _ _ _ _ (c .before .before .before .before .before .before .before .before .before .before .before .pre .3) .1))
 
 leave-requires : tie.Need-leave-requires
 leave-requires c κs = search needs

@@ -35,9 +35,12 @@ add-get-u32-2 c = search needs
 get-u32-requires-2 : tie.Need-get-u32-requires-2
 get-u32-requires-2 c κs = search needs
 
+few-ok-requires : tie.Need-few-ok-requires
+few-ok-requires c κs = search needs
+
 returns : tie.Need-returns
 unfolding commitOk
-returns c = simp (sym (c .before .get-u32 .ensures), sym (c .get-u322 .ensures))
+returns c = simp (sym (c .before .before .get-u32 .ensures), sym (c .before .get-u322 .ensures), sym (c .few-ok .ensures))
 
 pub commit-ok-spec : {M : Type 1} → statement M
 commit-ok-spec =
@@ -53,4 +56,5 @@ commit-ok-spec =
     mul-get-u32-2
     add-get-u32-2
     get-u32-requires-2
+    few-ok-requires
     returns)

@@ -1,6 +1,7 @@
 -- `station_commit::put_commit` meets its contract. Each call is a run of stores, and `commit-filled` joins them.
 use borrow.Author.Needs.{needs}
-use Rattle.station_commit.specs.Filled.{commit-filled}
+use native.Mathlib.Omega.{arith}
+use Rattle.station_commit.specs.Filled.{commit-filled, commit-parts, record-fits}
 use Rattle.station_commit.proofs.put_commit.Statement.{statement}
 use Rattle.station_commit.proofs.put_commit.Tie as tie
 
@@ -14,10 +15,10 @@ used-pages-requires : tie.Need-used-pages-requires
 used-pages-requires c κs = search needs
 
 put-up-requires : tie.Need-put-up-requires
-put-up-requires c κs = search needs
+put-up-requires c κs = let front = commit-parts (c .before .before .before .before .before .before .args .s .now) _ (c .before .before .before .before .before .before .pre .1) in omega (arith, front)
 
 put-versions-requires : tie.Need-put-versions-requires
-put-versions-requires c κs = search needs
+put-versions-requires c κs = let front = commit-parts (c .before .before .before .before .before .before .before .before .before .before .args .s .now) _ (c .before .before .before .before .before .before .before .before .before .before .pre .1) in (search needs, omega (arith, front))
 
 shared-slice-read-wide : tie.Need-shared-slice-read-wide
 shared-slice-read-wide c = search needs
@@ -32,7 +33,7 @@ wide-requires-2 : tie.Need-wide-requires-2
 wide-requires-2 c κs = search needs
 
 put-record-requires : tie.Need-put-record-requires
-put-record-requires c κs = search needs
+put-record-requires c κs = let fits = record-fits _ _ (c .before .before .before .before .before .before .before .before .before .before .before .before .before .before .before .get-u32 .ensures) (c .before .before .before .wide .ensures .0) (c .before .wide2 .ensures .0) (c .before .before .before .before .before .before .before .before .before .before .before .before .before .before .before .before .before .before .pre .1) in (search needs, search needs, search needs, search needs, omega (arith, fits), search needs, search needs)
 
 add-result : tie.Need-add-result
 add-result c = search needs

@@ -1,7 +1,7 @@
 -- `station_owner::commit` meets its contract.
 use borrow.Author.Tests.{not-true, not-false}
 use mathlib.Core.Path.{sym, _∙_}
-use Rattle.station_owner.specs.Facts.{ready-is, commit-1, commit-n, commit-ok}
+use Rattle.station_owner.specs.Facts.{ready-is, open-passed, commit-room, commit-1, commit-n, commit-ok}
 use borrow.Author.Needs.{needs}
 use Rattle.station_owner.proofs.commit.Statement.{statement}
 use Rattle.station_owner.proofs.commit.Tie as tie
@@ -43,7 +43,7 @@ returns-2 : tie.Need-returns-2
 returns-2 c = commit-n _ _ _ (sym (c .before .before .before .before .before .ready .ensures) ∙ not-false (c .before .before .before .before .before .ready .result) (c .before .before .before .before .if1 .left)) (c .before .before .check-open .ensures) (c .before .if2 .taken) (c .refuse2 .ensures)
 
 put-commit-requires : tie.Need-put-commit-requires
-put-commit-requires c κs = ((ready-is _ _ _ (sym (c .before .before .before .before .before .before .ready .ensures) ∙ not-false (c .before .before .before .before .before .before .ready .result) (c .before .before .before .before .before .if1 .left))) .size, (ready-is _ _ _ (sym (c .before .before .before .before .before .before .ready .ensures) ∙ not-false (c .before .before .before .before .before .before .ready .result) (c .before .before .before .before .before .if1 .left))) .commit-fits)
+put-commit-requires c κs = ((ready-is _ _ _ (sym (c .before .before .before .before .before .before .ready .ensures) ∙ not-false (c .before .before .before .before .before .before .ready .result) (c .before .before .before .before .before .if1 .left))) .size, commit-room _ _ _ (ready-is _ _ _ (sym (c .before .before .before .before .before .before .ready .ensures) ∙ not-false (c .before .before .before .before .before .before .ready .result) (c .before .before .before .before .before .if1 .left))) (open-passed _ 0 (sym (c .before .before .before .check-open .ensures) ∙ c .before .before .if2 .left)))
 
 for-commit-requires : tie.Need-for-commit-requires
 for-commit-requires c κs = (ready-is _ _ _ (sym (c .before .before .before .before .before .before .before .before .before .before .ready .ensures) ∙ not-false (c .before .before .before .before .before .before .before .before .before .before .ready .result) (c .before .before .before .before .before .before .before .before .before .if1 .left))) .size

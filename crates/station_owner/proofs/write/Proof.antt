@@ -25,8 +25,8 @@ same-length-3 c = search needs
 returns : tie.Need-returns
 returns c = call-1 _ _ _ _ (sym (c .before .before .ready .ensures) ∙ not-true (c .before .before .ready .result) (c .before .if1 .taken)) (c .refuse .ensures)
 
-check-address-requires : tie.Need-check-address-requires
-check-address-requires c κs = (ready-is _ _ _ (sym (c .before .before .ready .ensures) ∙ not-false (c .before .before .ready .result) (c .before .if1 .left))) .size
+check-write-requires : tie.Need-check-write-requires
+check-write-requires c κs = (ready-is _ _ _ (sym (c .before .before .ready .ensures) ∙ not-false (c .before .before .ready .result) (c .before .if1 .left))) .size
 
 refuse-requires-2 : tie.Need-refuse-requires-2
 refuse-requires-2 c κs = search needs
@@ -42,10 +42,10 @@ same-length-6 c = search needs
 
 returns-2 : tie.Need-returns-2
 unfolding ownWriteB
-returns-2 c = call-n _ _ _ _ _ (sym (c .before .before .before .before .before .ready .ensures) ∙ not-false (c .before .before .before .before .before .ready .result) (c .before .before .before .before .if1 .left)) (c .before .before .check-address .ensures) (c .before .if2 .taken) (c .refuse2 .ensures)
+returns-2 c = call-n _ _ _ _ _ (sym (c .before .before .before .before .before .ready .ensures) ∙ not-false (c .before .before .before .before .before .ready .result) (c .before .before .before .before .if1 .left)) (c .before .before .check-write .ensures) (c .before .if2 .taken) (c .refuse2 .ensures)
 
 write-as-requires : tie.Need-write-as-requires
-write-as-requires c κs = ((ready-is _ _ _ (sym (c .before .before .before .before .before .before .ready .ensures) ∙ not-false (c .before .before .before .before .before .before .ready .result) (c .before .before .before .before .before .if1 .left))) .size, (ready-is _ _ _ (sym (c .before .before .before .before .before .before .ready .ensures) ∙ not-false (c .before .before .before .before .before .before .ready .result) (c .before .before .before .before .before .if1 .left))) .messages-fit, address-passed _ _ (sym (c .before .before .before .check-address .ensures) ∙ c .before .before .if2 .left))
+write-as-requires c κs = ((ready-is _ _ _ (sym (c .before .before .before .before .before .before .ready .ensures) ∙ not-false (c .before .before .before .before .before .before .ready .result) (c .before .before .before .before .before .if1 .left))) .size, (ready-is _ _ _ (sym (c .before .before .before .before .before .before .ready .ensures) ∙ not-false (c .before .before .before .before .before .before .ready .result) (c .before .before .before .before .before .if1 .left))) .messages-fit, address-passed _ _ _ (sym (c .before .before .before .check-write .ensures) ∙ c .before .before .if2 .left))
 
 same-length-7 : tie.Need-same-length-7
 same-length-7 c = search needs
@@ -58,7 +58,7 @@ same-length-9 c = search needs
 
 returns-3 : tie.Need-returns-3
 unfolding ownWriteB
-returns-3 c = call-ok _ _ _ _ _ (sym (c .before .before .before .before .before .before .before .before .before .before .before .ready .ensures) ∙ not-false (c .before .before .before .before .before .before .before .before .before .before .before .ready .result) (c .before .before .before .before .before .before .before .before .before .before .if1 .left)) (c .before .before .before .before .before .before .before .before .check-address .ensures) (c .before .before .before .before .before .before .before .if2 .left) (c .before .before .before .before .write-as .ensures)
+returns-3 c = call-ok _ _ _ _ _ (sym (c .before .before .before .before .before .before .before .before .before .before .before .ready .ensures) ∙ not-false (c .before .before .before .before .before .before .before .before .before .before .before .ready .result) (c .before .before .before .before .before .before .before .before .before .before .if1 .left)) (c .before .before .before .before .before .before .before .before .check-write .ensures) (c .before .before .before .before .before .before .before .if2 .left) (c .before .before .before .before .write-as .ensures)
 
 pub write-spec : {M : Type 1} → statement M
 write-spec =
@@ -70,7 +70,7 @@ write-spec =
     same-length-2
     same-length-3
     returns
-    check-address-requires
+    check-write-requires
     refuse-requires-2
     same-length-4
     same-length-5

@@ -1,0 +1,31 @@
+-- `station_state::limited_ok` meets its contract.
+use Rattle.station_state.specs.Valid.{limitedOk}
+use borrow.Author.Needs.{needs}
+use Rattle.station_state.proofs.limited_ok.Statement.{statement}
+use Rattle.station_state.proofs.limited_ok.Tie as tie
+
+shared-slice-read-few-in : tie.Need-shared-slice-read-few-in
+shared-slice-read-few-in c = search needs
+
+few-in-requires : tie.Need-few-in-requires
+few-in-requires c κs = search needs
+
+shared-slice-read-few-in-2 : tie.Need-shared-slice-read-few-in-2
+shared-slice-read-few-in-2 c = search needs
+
+few-in-requires-2 : tie.Need-few-in-requires-2
+few-in-requires-2 c κs = search needs
+
+returns : tie.Need-returns
+unfolding limitedOk
+returns c = cc
+
+pub limited-ok-spec : {M : Type 1} → statement M
+limited-ok-spec =
+    tie.close
+    (tie.spec
+    shared-slice-read-few-in
+    few-in-requires
+    shared-slice-read-few-in-2
+    few-in-requires-2
+    returns)
