@@ -45,6 +45,7 @@ static const char *words_of(uint32_t number)
         [WAX_SHORT] = "the archive ends inside a record",
         [WAX_SEQUENCE] = "a commit number is not one more than the last",
         [WAX_REPLAY] = "a read differs from what the records before it leave",
+        [WAX_LONG] = "one read or write more than a transaction may have",
     };
 
     return number < sizeof words / sizeof words[0] && words[number] != NULL ? words[number] : "no number of this call";

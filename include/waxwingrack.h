@@ -45,7 +45,7 @@ extern "C" {
 #define WAX_LENGTH   UINT32_C(2)   /* a message has a wrong length */
 #define WAX_KIND     UINT32_C(3)   /* this end does not take messages of that kind */
 #define WAX_RANGE    UINT32_C(4)   /* a number lies outside its range */
-#define WAX_RECORD   UINT32_C(5)   /* the record's layout is broken, or it disagrees with its message */
+#define WAX_RECORD   UINT32_C(5)   /* the record's layout is broken, or it disagrees with its message; a commit is too long */
 #define WAX_UNEXPECTED UINT32_C(6) /* a message that fits neither station, kind nor what is out */
 #define WAX_WAITING  UINT32_C(7)   /* a request or commit is out */
 #define WAX_CLOSED   UINT32_C(8)   /* no transaction is open */
@@ -55,6 +55,7 @@ extern "C" {
 #define WAX_SHORT    UINT32_C(12)  /* the bytes end inside a record */
 #define WAX_SEQUENCE UINT32_C(13)  /* the commit number is not one more than the last */
 #define WAX_REPLAY   UINT32_C(14)  /* a read differs from the value left by earlier records */
+#define WAX_LONG     UINT32_C(15)  /* one read or write more than a transaction may have */
 #define WAX_TARIFF   UINT32_C(17)  /* a tariff's table breaks its rules */
 #define WAX_BEYOND   UINT32_C(18)  /* a value or a fee above 2^63 - 1 */
 #define WAX_SHARE    UINT32_C(19)  /* a share of the server's turns is not 1 to 4 */
@@ -65,9 +66,11 @@ extern "C" {
 /* Limits and sizes. */
 #define WAX_HEADER_LENGTH  16   /* bytes before the addresses */
 #define WAX_ENTRY_LENGTH   9    /* bytes of an entry: address and value */
-#define WAX_MOST_READS     256
+#define WAX_MOST_READS     256  /* of a record */
 #define WAX_MOST_WRITES    256
 #define WAX_LONGEST_RECORD 4624 /* WAX_RECORD_LENGTH(256, 256) */
+#define WAX_LIMIT          48   /* the most objects that one transaction reads, and the most that it writes */
+#define WAX_LONGEST_SENT   880  /* WAX_RECORD_LENGTH(WAX_LIMIT, WAX_LIMIT): no record that a server leaves is longer */
 #define WAX_ADDRESSES      256  /* 32 pages of 8 objects */
 #define WAX_STATIONS       8
 #define WAX_FIELDS         7    /* numbers that wax_archive_read gives */
@@ -359,7 +362,7 @@ uint32_t wax_counts_entry(const uint8_t *file, size_t length, size_t at, uint32_
  */
 #define WAX_MESSAGE_LENGTH   112
 #define WAX_COMMIT_HEAD      240  /* message and 32 versions; the record comes behind */
-#define WAX_COMMIT_LENGTH    4864 /* WAX_COMMIT_HEAD + WAX_LONGEST_RECORD */
+#define WAX_COMMIT_LENGTH    1120 /* of the longest: WAX_COMMIT_HEAD + WAX_LONGEST_SENT */
 #define WAX_STATION_LENGTH   6713
 #define WAX_STATION_MESSAGES 896  /* 8 messages */
 
@@ -397,11 +400,15 @@ uint32_t wax_station_fresh(uint32_t station, uint32_t kind, uint8_t *state, size
  * The owner's operations. Each can answer WAX_BUFFER: the state is not one, or messages, commit or told is too short.
  *
  *   begin   WAX_WAITING, WAX_OPEN, WAX_SPENT                tells WAX_BEGUN
- *   read    WAX_RANGE (address above 255), WAX_WAITING, WAX_CLOSED    tells WAX_VALUE or WAX_WAITS
+ *   read    WAX_RANGE (address above 255), WAX_WAITING, WAX_CLOSED, WAX_LONG    tells WAX_VALUE or WAX_WAITS
  *   write   the same                                        tells WAX_WRITTEN or WAX_WAITS
  *   commit  WAX_WAITING, WAX_CLOSED                         tells WAX_WAITS
  *   abort   WAX_WAITING, WAX_CLOSED                         tells WAX_ABORTED, value 0
  *   purge   WAX_RANGE (page above 31), WAX_WAITING (it is the requested page), WAX_KEPT    tells WAX_PURGED
+ *
+ * WAX_LONG is for an object that the transaction would be the first time to read, or to write, where it has recorded WAX_LIMIT
+ * reads, or written WAX_LIMIT objects. What it has read or written before it may read and write again. The transaction stays
+ * open: its owner commits what there is, or aborts.
  */
 uint32_t wax_station_begin(uint8_t *state, size_t state_length, uint8_t *messages, size_t messages_length,
                            uint8_t *commit, size_t commit_length, uint64_t *told, size_t told_length);
@@ -458,7 +465,7 @@ uint32_t wax_up_check(const uint8_t *kinds, size_t kinds_length, const uint8_t *
  */
 #define WAX_SERVER_LENGTH   37072
 #define WAX_SERVER_MESSAGES 14336 /* 128 messages */
-#define WAX_SERVER_RECORDS  36992 /* 8 records of WAX_LONGEST_RECORD */
+#define WAX_SERVER_RECORDS  7040  /* 8 records of WAX_LONGEST_SENT */
 
 #define WAX_SERVED          2
 #define WAX_SERVED_MESSAGES 0

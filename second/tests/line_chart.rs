@@ -170,6 +170,14 @@ fn a_later_stretch() {
 }
 
 #[test]
+fn a_mark_says_where_the_drawing_begins() {
+    let marked = BUSY.replace("write 0 8 5\n", "write 0 8 5\n#>\n");
+    let drawn = draw(&marked).unwrap();
+    assert_eq!(drawn.svg, draw_from(BUSY, 6).unwrap().svg);
+    assert_ne!(drawn.svg, svg(BUSY));
+}
+
+#[test]
 fn what_is_under_way_all_along_is_not_drawn() {
     let script = "fresh 00000000\nbegin 0\nread 0 8\nbegin 1\nread 1 9\nserver 1\nstation 1\n";
     let svg = draw_from(script, 4).unwrap().svg;

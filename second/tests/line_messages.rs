@@ -228,14 +228,22 @@ fn validating_versions() {
     line.server_takes(&commit(2, &[(1, 1)], &reads), &[aborted(1, 1, 2)]);
 }
 
-/// "C10 n = m = 256 ...; n = 257: number 5", inside a commit.
+/// Document 02, wish 1: "The server gives number 5 to n or m above 48", so to C10's 256 and 257 inside a commit too.
 #[test]
 fn longest_commit() {
-    let all: Vec<(u8, u64)> = (0..=255).map(|address| (address, 0)).collect();
-    let longest = commit(u32::MAX, &[], &record(0, 2, 0).reads(&all));
-    assert_eq!(commit_number(&longest), 0);
-    let mut too_many = all.clone();
-    too_many.push((255, 0));
-    let broken = commit(u32::MAX, &[], &record(0, 2, 0).reads(&too_many));
-    assert_eq!(commit_number(&broken), 5);
+    let first = |n: u16| (0..n).map(|address| (address as u8, 0)).collect::<Vec<_>>();
+    let (most, more) = (first(48), first(49));
+    let longest = commit(0x3F, &[], &record(0, 2, 0).reads(&most).writes(&most));
+    assert_eq!(longest.hex().len(), 2 * 1_120);
+    // number 6, behind 5: a locking station writes what it has not locked
+    assert_eq!(commit_number(&longest), 6);
+    let reads = commit(0x3F, &[], &record(0, 2, 0).reads(&most));
+    assert_eq!(commit_number(&reads), 0);
+    for long in [record(0, 2, 0).reads(&more), record(0, 2, 0).writes(&more)] {
+        assert_eq!(commit_number(&commit(0x7F, &[], &long)), 5);
+    }
+    for n in [256, 257] {
+        let long = record(0, 2, 0).reads(&first(n));
+        assert_eq!(commit_number(&commit(u32::MAX, &[], &long)), 5);
+    }
 }

@@ -532,6 +532,48 @@ fn all_pages_asked_for() {
     line.archives("server 0", "none", &[committed(1, 1, 1)], &[record]);
 }
 
+/// An access of station 0, and what it waits for.
+fn served(line: &mut Line, command: &str) {
+    let reply = line.reply(command);
+    assert!(reply.starts_with("ok"), "{command}: {reply}");
+    if reply.contains("waits") {
+        line.run("server 0; station 0");
+    }
+}
+
+/// Document 02, wish 1: 48 reads and 48 writes pass, the next of either is 15, local or not; what was read or written
+/// before is no one more. 7 and 8 come first, and a read and a write that wait count.
+#[test]
+fn limit() {
+    for kinds in [LOCKING, "10000000"] {
+        let mut line = Line::fresh(kinds);
+        line.replies("read 0 8", "refused 8");
+        line.run("begin 0");
+        for address in 0..47 {
+            served(&mut line, &format!("read 0 {address}"));
+            served(&mut line, &format!("write 0 {address} 5"));
+        }
+        line.run("read 0 56");
+        line.replies("read 0 57", "refused 7");
+        line.run("server 0; station 0");
+        for beyond in ["read 0 57", "read 0 64", "read 0 255"] {
+            line.replies(beyond, "refused 15");
+        }
+        line.run("write 0 64 6");
+        line.replies("write 0 65 6", "refused 7");
+        line.run("server 0; station 0");
+        for beyond in ["write 0 65 6", "write 0 57 6", "write 0 72 6"] {
+            line.replies(beyond, "refused 15");
+        }
+        line.call("read 0 56", "value 0", &[]);
+        line.call("read 0 64", "value 6", &[]);
+        line.call("write 0 64 7", "written", &[]);
+        line.call("read 0 64", "value 7", &[]);
+        line.run("commit 0; server 0");
+        line.call("station 0", "committed 1", &[]);
+    }
+}
+
 /// Seven commits that waited for one lock are installed in one step, in the order of their arrival.
 #[test]
 fn seven_installs_in_one_step() {

@@ -7,7 +7,7 @@ use std::process;
 
 const USAGE: &str = "line_chart SCRIPT
   SCRIPT  commands of the text protocol, beginning with `fresh`; `#` lines before it are the chart's title,
-          those behind it are notes";
+          those behind it are notes; calls before a line `#>` are made and not drawn";
 
 fn main() {
     let options = Options::read(USAGE, &[], &[]);

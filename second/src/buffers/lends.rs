@@ -56,7 +56,7 @@ impl Lends for Server {
         }
     }
 
-    /// Up to 128 messages and 36,992 bytes.
+    /// Up to 128 messages and 7,040 bytes.
     fn sent(numbers: &[u64]) -> Option<[usize; 2]> {
         let numbers = numbers.first_chunk::<{ served::SERVED }>()?;
         let [messages, records] = numbers.map(|n| usize::try_from(n).unwrap_or(usize::MAX));

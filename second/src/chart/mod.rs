@@ -17,9 +17,9 @@ pub struct Drawn {
 }
 
 /// The chart of a script: time runs down, a row for each call, an arrow for each message from where it was sent to
-/// where it was taken.
+/// where it was taken. Calls before a line `#>` are made and not drawn.
 pub fn draw(script: &str) -> Result<Drawn, Fault> {
-    draw_from(script, 0)
+    draw_from(script, trace::hidden(script))
 }
 
 /// The same from a later call on: so many calls behind `fresh` are made and not drawn. What they sent comes from above

@@ -119,6 +119,19 @@ impl Display for Fault {
     }
 }
 
+/// What stands before the calls that are drawn, if not all are.
+const FROM_HERE: &str = "#>";
+
+/// How many calls stand behind `fresh` and before the mark.
+pub fn hidden(script: &str) -> usize {
+    let commands = |text: &str| {
+        let command = |line: &&str| !line.trim().is_empty() && !line.trim().starts_with('#');
+        text.lines().filter(command).count()
+    };
+    let mark = script.find(FROM_HERE);
+    mark.map_or(0, |mark| commands(&script[..mark]).saturating_sub(1))
+}
+
 /// Runs a script. Of its first calls so many are not drawn.
 pub fn run(script: &str, skipped: usize) -> Result<Trace, Fault> {
     let mut runner = Runner {
@@ -156,6 +169,9 @@ struct Runner {
 
 impl Runner {
     fn line(&mut self, line: &str) -> Result<(), String> {
+        if line.starts_with(FROM_HERE) {
+            return Ok(());
+        }
         if let Some(comment) = line.strip_prefix('#') {
             self.comment(comment.trim());
             return Ok(());

@@ -5,11 +5,10 @@ use super::message::{self, BEFORE_RECORD};
 use super::station::state;
 use super::station::{Done, Station};
 use super::world::World;
-use super::{Answer, Number};
+use super::{Answer, Number, LONGEST};
 use crate::numbers::OK;
-use crate::record::LONGEST;
 
-/// "8 messages and 4,864 commit bytes (station)"
+/// "8 messages", "a commit and the station's buffer for it 1,120"
 pub const MESSAGES: usize = 8 * message::LENGTH;
 pub const COMMIT: usize = BEFORE_RECORD + LONGEST;
 /// Answer, value, messages, commit bytes.

@@ -4,7 +4,7 @@ use super::little::{word, WORD};
 use super::places::Place;
 use super::sets::{address, object_of, page_bit, page_of, Addresses, PageSet};
 use super::sets::{ObjectSet, OBJECTS, PAGES, STATIONS};
-use super::{Cause, Kind, Number};
+use super::{Cause, Kind, Number, LIMIT};
 use crate::record::{self, Record};
 
 pub use super::places::message::{Field, LENGTH};
@@ -483,11 +483,16 @@ impl Commit {
             versions: versions_of(&before[LENGTH..]),
             record: Record::decode(record).map_err(|_| Number::Record)?,
         };
-        if commit.agrees(fields, kind) && commit.versions_fit(kind) {
+        if commit.is_short() && commit.agrees(fields, kind) && commit.versions_fit(kind) {
             Ok(commit)
         } else {
             Err(Number::Record)
         }
+    }
+
+    /// Document 02, wish 1: "The server gives number 5 to n or m above 48."
+    fn is_short(&self) -> bool {
+        self.record.reads.len() <= LIMIT && self.record.writes.len() <= LIMIT
     }
 
     fn agrees(&self, fields: &Fields, kind: Kind) -> bool {

@@ -1,6 +1,6 @@
 //! The whole line a second time: messages, stations, server, and the world they make together.
 //!
-//! Written from document 01 and its readings alone; "reading N" in a comment is a point of the readings.
+//! Written from document 01, document 02's wish 1 and their readings alone; "reading N" in a comment is a point of the readings.
 
 pub mod call;
 pub mod checks;
@@ -23,6 +23,8 @@ pub mod station;
 pub mod truth;
 pub mod world;
 
+use crate::record::{ENTRY, HEADER};
+
 /// Why a call on the line is turned back, by document 01's number.
 #[derive(Clone, Copy, Debug, PartialEq, Eq)]
 #[repr(u8)]
@@ -37,6 +39,8 @@ pub enum Number {
     Open = 9,
     Kept = 10,
     Spent = 11,
+    /// Document 02, wish 1: "the owner's 49th recorded read or 49th written object, checked after 8".
+    Long = 15,
 }
 
 impl Number {
@@ -52,11 +56,18 @@ impl Number {
             Number::Open,
             Number::Kept,
             Number::Spent,
+            Number::Long,
         ]
         .into_iter()
         .find(|one| *one as u32 == number)
     }
 }
+
+/// Document 02, wish 1: "Set the limit at 48 distinct reads and 48 distinct writes."
+pub const LIMIT: usize = 48;
+
+/// "Records are then at most 880 bytes"
+pub const LONGEST: usize = HEADER + ENTRY * 2 * LIMIT;
 
 /// "Stations 0 to 7, fixed for life as locking (0) or validating (1)".
 #[derive(Clone, Copy, Debug, PartialEq, Eq)]

@@ -4,11 +4,10 @@ use super::lent::BUFFER;
 use super::message;
 use super::server::{state, Server, Step};
 use super::sets::STATIONS;
-use super::{Kind, Number};
+use super::{Kind, Number, LONGEST};
 use crate::numbers::OK;
-use crate::record::LONGEST;
 
-/// "128 messages and 36,992 record bytes (server)"
+/// "128 messages", "the server's record buffer 7,040"
 pub const MESSAGES: usize = 128 * message::LENGTH;
 pub const RECORDS: usize = STATIONS * LONGEST;
 /// Messages, bytes of records.

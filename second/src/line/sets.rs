@@ -74,6 +74,20 @@ impl Addresses {
         self.0[page as usize]
     }
 
+    /// How many objects.
+    #[inline]
+    pub fn count(&self) -> usize {
+        let (words, _) = self.0.as_chunks();
+        let ones = |word: &[u8; 8]| u64::from_le_bytes(*word).count_ones() as usize;
+        words.iter().map(ones).sum()
+    }
+
+    /// The lowest of them, so many.
+    pub fn lowest(&self, count: usize) -> Addresses {
+        let members = (0..=u8::MAX).filter(|address| self.has(*address));
+        members.take(count).collect()
+    }
+
     /// Pages with a member.
     pub fn pages(&self) -> PageSet {
         let set_on = |(page, set): (usize, &ObjectSet)| PageSet::from(*set != 0) << page;

@@ -149,13 +149,14 @@ fn break_order(random: &mut Random, bytes: &mut [u8]) {
     }
 }
 
-/// "n = 257: number 5", the length fitting.
+/// "n = 257: number 5", and document 02's n = 49, the length fitting.
 fn one_too_many(random: &mut Random, bytes: &mut Vec<u8>) {
     let size = BEFORE_RECORD
         + random
             .pick(&[header::Field::Reads, header::Field::Writes])
             .start();
-    bytes[size..size + 2].copy_from_slice(&257u16.to_le_bytes());
+    let count: u16 = random.pick(&[49, 257]);
+    bytes[size..size + 2].copy_from_slice(&count.to_le_bytes());
     let claimed = record::claimed_length(&bytes[BEFORE_RECORD..]);
     bytes.resize(BEFORE_RECORD + claimed.unwrap_or(HEADER), 0);
 }

@@ -5,7 +5,7 @@ pub mod state;
 use super::message::{pages_of, Commit, Down, Grant, PageMessage, Up};
 use super::sets::{object_bit, object_of, page_bit, page_of, rising, Addresses};
 use super::sets::{ObjectSet, PageSet, OBJECTS, PAGES};
-use super::{Answer, Cause, Kind, Number};
+use super::{Answer, Cause, Kind, Number, LIMIT};
 use crate::record::Record;
 use std::collections::BTreeMap;
 
@@ -156,6 +156,10 @@ impl Station {
         if let Some(value) = transaction.seen(address) {
             return answered(Answer::Value(value));
         }
+        // document 02, wish 1: before "waits" too, since what is read then is recorded at the delivery
+        if transaction.reads.len() >= LIMIT {
+            return Err(Number::Long);
+        }
         if let Some(value) = self.available(address) {
             self.acting()?.reads.insert(address, value);
             return answered(Answer::Value(value));
@@ -164,7 +168,12 @@ impl Station {
     }
 
     pub fn write(&mut self, address: u8, value: u64) -> Answered {
-        let may_write = self.acting()?.may_write(address);
+        let transaction = self.acting()?;
+        // "49th written object": one written before is none more
+        if !transaction.writes.contains_key(&address) && transaction.writes.len() >= LIMIT {
+            return Err(Number::Long);
+        }
+        let may_write = transaction.may_write(address);
         let cached = self.cached[page_of(address) as usize].is_some();
         let local = match self.kind {
             Kind::Locking => may_write,

@@ -139,7 +139,7 @@ impl Line {
     }
 
     /// The reply of all.
-    fn reply(&mut self, command: &str) -> String {
+    pub fn reply(&mut self, command: &str) -> String {
         let mut replies = self.drivers.iter_mut().map(|driver| driver(command));
         let reply = replies.next().expect("one at least");
         for other in replies {

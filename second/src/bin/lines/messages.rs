@@ -10,6 +10,7 @@ use second::line::server::state::Field;
 use second::line::sets::{page_of, rising, PAGES, STATIONS};
 use second::line::spoil;
 use second::line::world::World;
+use second::line::LIMIT;
 use second::random::Random;
 use second::record::Record;
 
@@ -138,12 +139,12 @@ fn commit(random: &mut Random, state: &[u8], from: usize, transaction: u32) -> C
         ];
         holders.map(usize::from).contains(&(from + 1))
     };
-    let sizes = [0, 1, 1, 2, 3, 8, 256];
+    let sizes = [0, 1, 1, 2, 3, 8, LIMIT, LIMIT + 1, 256];
     let mut addresses = || {
         let count = random.pick(&sizes);
         let mut addresses: Vec<u8> = match count {
-            256 => (0..=u8::MAX).collect(),
-            _ => (0..count).map(|_| some_object(random, state)).collect(),
+            ..=8 => (0..count).map(|_| some_object(random, state)).collect(),
+            _ => (0..count).map(|address| address as u8).collect(),
         };
         addresses.sort_unstable();
         addresses.dedup();
@@ -153,6 +154,10 @@ fn commit(random: &mut Random, state: &[u8], from: usize, transaction: u32) -> C
     let mut writes = addresses();
     if kind == 0 && !random.one_in(8) {
         writes = (0..=u8::MAX).filter(own).collect();
+        // mostly no more than a transaction may have
+        if !random.one_in(8) {
+            writes.truncate(LIMIT);
+        }
     }
     let mut entries = |addresses: Vec<u8>| {
         let valued = addresses.into_iter();

@@ -8,6 +8,7 @@ use second::line::server::state::{Field, COUNTERS_END, LENGTH};
 use second::line::sets::{page_bit, Addresses};
 use second::line::sets::{OBJECTS, PAGES, STATIONS};
 use second::line::spoil;
+use second::line::LIMIT;
 use second::random::Random;
 use std::array;
 
@@ -163,7 +164,8 @@ fn enter(random: &mut Random, station: usize, state: &mut [u8]) {
     Field::Want.put_byte_of(state, station, want);
     let few = Addresses(array::from_fn(|_| {
         random.byte() & random.byte() & random.byte()
-    }));
+    }))
+    .lowest(LIMIT);
     let any = random.byte();
     let address = random.pick(&[8, 9, 10, 16, any]);
     let one = Addresses::one(address);
@@ -230,7 +232,7 @@ fn beside(random: &mut Random) -> Vec<u8> {
     state
 }
 
-/// Steps that do the most: eight installs of 256 reads and writes, and 74 messages.
+/// Steps that do the most: eight installs of 48 reads and writes, and 74 messages.
 pub fn limits(judge: &mut Judge) -> Agreed<()> {
     let mut random = Random::new(1);
     let purge = Up::Purge { page: 0 }.encode(0);
@@ -239,6 +241,11 @@ pub fn limits(judge: &mut Judge) -> Agreed<()> {
         judge.step(&purge, &state, room)?;
     }
     Ok(())
+}
+
+/// As many objects as one transaction may have: three on each of sixteen pages.
+fn most() -> Addresses {
+    Addresses([0b1000_0011; PAGES]).lowest(LIMIT)
 }
 
 /// Stations in their first transaction, of which those of a set wait with a commit.
@@ -256,7 +263,7 @@ fn committing(random: &mut Random, waiting: impl Fn(usize) -> bool) -> Vec<u8> {
             Field::Kind.put_byte_of(&mut state, station, 1);
             Field::Work.put_word(&mut state, station, 1);
             Field::Arrival.put_long(&mut state, station, station as u64);
-            Field::ReadSet.put_sets(&mut state, station, &Addresses([255; PAGES]));
+            Field::ReadSet.put_sets(&mut state, station, &most());
         }
     }
     for field in [Field::ReadValue, Field::WrittenValue] {
@@ -266,11 +273,11 @@ fn committing(random: &mut Random, waiting: impl Fn(usize) -> bool) -> Vec<u8> {
     state
 }
 
-/// Each has the versions that the one before it leaves: 36,992 bytes of records.
+/// Each has the versions that the one before it leaves: 7,040 bytes of records.
 fn eight_installs(random: &mut Random) -> Vec<u8> {
     let mut state = committing(random, |_| true);
     for station in 0..STATIONS {
-        Field::WrittenSet.put_sets(&mut state, station, &Addresses([255; PAGES]));
+        Field::WrittenSet.put_sets(&mut state, station, &most());
         Field::Listed.put_word(&mut state, station, u32::MAX);
         for page in 0..PAGES {
             Field::SentVersion.put_word(&mut state, PAGES * station + page, station as u32);

@@ -67,7 +67,7 @@ impl Tallies {
             (self.counts.steps_with_victims > 0, "two victims in a step"),
             (self.counts.longest_list == 8, "a full waiting list"),
             (self.long.claimed > 0, "a long line"),
-            (self.most_records == RECORDS, "36,992 bytes of records"),
+            (self.most_records == RECORDS, "7,040 bytes of records"),
             (self.most_messages >= 74, "74 messages in a step"),
         ]
         .map(|(reached, what)| (reached, what.to_string()));

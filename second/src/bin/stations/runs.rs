@@ -6,7 +6,7 @@ use crate::line::Line;
 use second::buffers::Difference;
 use second::line::call::{kinds, script, Call};
 use second::line::crossing::Crossing;
-use second::line::scripts;
+use second::line::scripts::{self, BEYOND};
 use second::line::shorten::shorten;
 use second::line::world::Reply;
 use second::line::Kind;
@@ -78,12 +78,13 @@ pub fn run(seed: u64, judge: &mut Judge) -> Result<(), Failed> {
     Ok(())
 }
 
-/// Lines that hold the most: the longest commit of either kind, and every callback kept, done by each of the ends.
+/// Lines that hold the most: the longest commit of either kind, one read or write more, and every callback kept, done by each of the ends.
 pub fn limits(judge: &mut Judge) -> Result<(), Failed> {
     for kinds in ["01010101", "10101010"] {
         let full = scripts::largest_transaction(kinds);
         for end in ["commit 0; purge 0 31", "abort 0; begin 0; read 0 255"] {
-            let calls = format!("{full}{end}; server 0; station 0; purge 0 31; begin 0; read 0 8");
+            let calls =
+                format!("{full}{BEYOND}{end}; server 0; station 0; purge 0 31; begin 0; read 0 8");
             replay(&scripts::calls(&calls), 1, judge)?;
         }
     }

@@ -6,6 +6,7 @@ use second::line::sets::{object_bit, page_bit, page_of, rising, Addresses};
 use second::line::sets::{OBJECTS, PAGES, STATIONS};
 use second::line::spoil;
 use second::line::station::state::{Field, LENGTH};
+use second::line::LIMIT;
 use second::random::Random;
 use std::array;
 
@@ -59,6 +60,11 @@ fn decoded(random: &mut Random) -> Vec<u8> {
         if random.one_in(2) {
             Field::Kept.put_word(&mut state, requester, 0);
         }
+    }
+    for field in [Field::ReadSet, Field::WrittenSet] {
+        let most = LIMIT - 1 + random.pick(&[0, 0, 0, 1, 1, 2]);
+        let few = field.sets(&state, 0).lowest(most);
+        field.put_sets(&mut state, 0, &few);
     }
     if Field::Open.byte(&state) == 0 {
         clear(&Field::OF_TRANSACTION, &mut state);

@@ -5,7 +5,7 @@ use crate::line::message::{pages_of, Commit, Up};
 use crate::line::places::Place;
 use crate::line::sets::{address, object_bit, page_bit, rising, Addresses, ADDRESSES};
 use crate::line::sets::{OBJECTS, PAGES, STATIONS};
-use crate::line::Kind;
+use crate::line::{Kind, LIMIT};
 use crate::record::Record;
 use std::array;
 
@@ -77,6 +77,8 @@ fn entry_fits(bytes: &[u8], station: usize) -> bool {
     let sets = |field: Field| &bytes[field.start() + PAGES * station..][..PAGES];
     let only = |field: Field| sets(field) == Addresses::one(request).0;
     let nothing = |field: Field| sets(field) == [0; PAGES];
+    // document 02, wish 1: else its record would not fit
+    let short = |field: Field| field.sets(bytes, station).count() <= LIMIT;
     let waits = || works(bytes, station) && arrival < Field::NextArrival.long(bytes, 0);
     let asks = || waits() && locks(bytes, station);
     match Field::Want.byte_of(bytes, station) {
@@ -88,6 +90,8 @@ fn entry_fits(bytes: &[u8], station: usize) -> bool {
                 && !locks(bytes, station)
                 && request == 0
                 && Field::Work.word(bytes, station) == Field::Latest.word(bytes, station)
+                && short(Field::ReadSet)
+                && short(Field::WrittenSet)
         }
     }
 }

@@ -5,7 +5,7 @@ use crate::line::little::WORD;
 use crate::line::places::Place;
 use crate::line::sets::{address, object_of, page_of, rising};
 use crate::line::sets::{OBJECTS, PAGES, STATIONS};
-use crate::line::Kind;
+use crate::line::{Kind, LIMIT};
 use std::array;
 use std::collections::BTreeMap;
 
@@ -67,14 +67,24 @@ fn holds_nothing(bytes: &[u8]) -> bool {
         && is_0::<{ STATIONS * WORD }>(bytes, Field::Kept)
 }
 
-/// "0 while no transaction is open"; "A read that is out is of an object that is in neither set"
+/// "0 while no transaction is open"; "A read that is out is of an object that is in neither set"; at most 48 in each set, with
+/// the object of a read or a write that is out
 fn transaction_fits(bytes: &[u8]) -> bool {
     if Field::Open.byte(bytes) == 0 {
         return is_closed(bytes);
     }
     let requested = Field::Address.byte(bytes);
     let seen = |field: &Field| field.sets(bytes, 0).has(requested);
-    Field::Wait.byte(bytes) != 1 || ![Field::ReadSet, Field::WrittenSet].iter().any(seen)
+    let first =
+        Field::Wait.byte(bytes) != 1 || ![Field::ReadSet, Field::WrittenSet].iter().any(seen);
+    first && is_short(bytes, Field::ReadSet, 1) && is_short(bytes, Field::WrittenSet, 2)
+}
+
+/// Document 02, wish 1: "48 distinct reads and 48 distinct writes", a waiting one counted as recorded.
+fn is_short(bytes: &[u8], field: Field, wait: u8) -> bool {
+    let set = field.sets(bytes, 0);
+    let out = Field::Wait.byte(bytes) == wait && !set.has(Field::Address.byte(bytes));
+    set.count() + usize::from(out) <= LIMIT
 }
 
 /// "0 while no transaction is open, and at a validating station"

@@ -7,6 +7,7 @@ use super::{
 use second::line::call::Call;
 use second::line::message::Up;
 use second::line::scripts::largest_transaction;
+use second::line::LIMIT;
 
 /// 6 in transaction 1, from this station to this requester.
 fn busy(station: u8, requester: u8) -> String {
@@ -81,7 +82,7 @@ pub fn works() -> Vec<Work> {
             &[21],
         ),
         work(
-            "3, 256 and 256: 21",
+            "3, 48 and 48: 21",
             3,
             "server 0",
             &[&large, "commit 0"],
@@ -95,7 +96,7 @@ pub fn works() -> Vec<Work> {
             &[21],
         ),
         work(
-            "3, validating, 256 and 256: 21",
+            "3, validating, 48 and 48: 21",
             3,
             "server 0",
             &[&large_validating, "commit 0"],
@@ -150,7 +151,7 @@ pub fn works() -> Vec<Work> {
         ),
         work("6, eight writes wait", 6, &idle, &[&waiters(8)], &[]),
         work(
-            "6, seven commits of 256 reads wait",
+            "6, seven commits of 48 reads wait",
             6,
             &idle,
             &[&seven_commits()],
@@ -192,7 +193,7 @@ fn waiters(many: usize) -> String {
 fn seven_commits() -> String {
     let reads: String = (1..8)
         .map(|s| {
-            let reads: String = (0..=u8::MAX)
+            let reads: String = (0..LIMIT)
                 .map(|address| format!("read {s} {address}; server {s}; station {s}; "))
                 .collect();
             format!("begin {s}; {reads}")

@@ -28,7 +28,7 @@ fn owners() -> Vec<Work> {
         ),
         work("write, requested", "write 0 8 6", &[FRESH, READ_8]),
         work("commit, 2 reads, 1 write", "commit 0", &[FRESH, SMALL]),
-        work("commit, 256 and 256", "commit 0", &[&large]),
+        work("commit, 48 and 48", "commit 0", &[&large]),
         work("abort, 2 reads, 1 write", "abort 0", &[FRESH, SMALL]),
         work("abort, 7 callbacks kept", "abort 0", &[&seven_kept()]),
         work(
@@ -82,7 +82,7 @@ fn steps() -> Vec<Work> {
             "station 0",
             &[FRESH, SMALL, COMMIT_SENT],
         ),
-        work("21, 256 and 256", 21, "station 0", &[&large, COMMIT_SENT]),
+        work("21, 48 and 48", 21, "station 0", &[&large, COMMIT_SENT]),
         work(
             "22 for a write, a callback kept",
             22,
