@@ -11,7 +11,7 @@ use borrow.Author.Tests.{ltb-false}
 use Rattle.sets.specs.Base.{upd, any}
 use Rattle.sets.specs.Laws.{byB, byEq, eqb-same, eqb-yes, eqb-no, any-no, any-yes}
 use Rattle.line.specs.Messages.{pageOf, address, lastNumber, locking, Work, Up, ReadRequest, WriteRequest, Commit, Abort, Purge, Busy, Done, WrittenSet}
-use Rattle.line.specs.Server.{Server, Serving, freshServer, Waiter, noWaiter, waiterPend, waiterBusy, waiterCalled, WantRead, WantWrite, WantCommit, isWant, waits, other, wants, wantsPage, lockOn, shut, hinders, badNumber, unexpected, notice, finish, join, leave, sendPage, abort, informed, write, archive, inform, informFrom, install, readWaiter, writeWaiter, commitWaiter, serveNow, joinRead, joinWrite, joinCommit, commitNow, unlist, openCall, markBusy, answered, openAsk, loosen, accept, ask, serveRead, concerned, call, grantPage, grantObject, installWaiter, start, serverStep}
+use Rattle.line.specs.Server.{Server, Serving, freshServer, Aged, aged, End, ByCommit, ByCause, ByMessage, keepsAge, Waiter, noWaiter, waiterPend, waiterBusy, waiterCalled, WantRead, WantWrite, WantCommit, isWant, waits, other, wants, wantsPage, lockOn, shut, hinders, badNumber, unexpected, notice, finish, join, leave, sendPage, abort, informed, write, archive, inform, informFrom, install, readWaiter, writeWaiter, commitWaiter, serveNow, joinRead, joinWrite, joinCommit, commitNow, unlist, openCall, markBusy, answered, openAsk, loosen, accept, ask, serveRead, concerned, call, grantPage, grantObject, installWaiter, start, serverStep}
 use Rattle.line.specs.Line.{Call, fresh, run}
 use Rattle.line.specs.Pass.{Atomic, Clear, if-keeps, step-keeps}
 use Rattle.sets.specs.Laws.{and-l, and-r, not-yes}
@@ -32,9 +32,13 @@ pub record Locks (kind : ℕ → ℕ) (fin : ℕ → Bool) (ol wl : ℕ → ℕ)
   -- 19 was sent for a present 18
   pub asked-held : (p : ℕ) → asked p ≡ true → wl p ≢ 0
 
--- ages of unfinished transactions
-pub record Ages (fin : ℕ → Bool) (age : ℕ → ℕ) (ages : ℕ) : Type 0 where
-  pub ages-apart : (i j : ℕ) → i < 8 → j < 8 → fin i ≡ false → fin j ≡ false → age i ≡ age j → i ≡ j
+-- a station's age ageCounts: its transaction is unfinished, or it keeps its age (wish 2)
+abbrev pub ageCounts : Bool → Bool → Bool
+ageCounts fin kept = not fin || kept
+
+-- ages of unfinished transactions, and kept ones
+pub record Ages (fin kept : ℕ → Bool) (age : ℕ → ℕ) (ages : ℕ) : Type 0 where
+  pub ages-apart : (i j : ℕ) → i < 8 → j < 8 → ageCounts (fin i) (kept i) ≡ true → ageCounts (fin j) (kept j) ≡ true → age i ≡ age j → i ≡ j
   pub ages-given : (i : ℕ) → i < 8 → age i < ages
 
 -- one station's entry in the waiting list
@@ -52,13 +56,13 @@ pub record Waiting (kind : ℕ → ℕ) (fin : ℕ → Bool) (arrivals : ℕ) (q
   pub entry : (i : ℕ) → i < 8 → Entry (kind i) (fin i) (queue i)
 
 -- over fields, so that an action that leaves them is seen to keep this
-pub record ApartOf (kind : ℕ → ℕ) (fin : ℕ → Bool) (ol wl : ℕ → ℕ) (asked : ℕ → Bool) (age : ℕ → ℕ) (ages arrivals : ℕ) (queue : ℕ → Waiter) : Type 0 where
+pub record ApartOf (kind : ℕ → ℕ) (fin kept : ℕ → Bool) (ol wl : ℕ → ℕ) (asked : ℕ → Bool) (age : ℕ → ℕ) (ages arrivals : ℕ) (queue : ℕ → Waiter) : Type 0 where
   pub locks : Locks kind fin ol wl asked
-  pub aged : Ages fin age ages
+  pub aged : Ages fin kept age ages
   pub waiting : Waiting kind fin arrivals queue
 
 abbrev pub Apart : Server → Type 0
-Apart s = ApartOf (s .kind) (s .fin) (s .ol) (s .wl) (s .asked) (s .age) (s .ages) (s .arrivals) (s .queue)
+Apart s = ApartOf (s .kind) (s .fin) (s .ageKept) (s .ol) (s .wl) (s .asked) (s .age) (s .ages) (s .arrivals) (s .queue)
 
 abbrev pub ApartIn : Serving → Type 0
 ApartIn x = Apart (x .server)
@@ -75,6 +79,10 @@ or-r false b e = e
 pub not-no : (b : Bool) → not b ≡ false → b ≡ true
 not-no true e = refl
 not-no false e = absurd (false≢true (sym e))
+
+or-right : (p q : Bool) → q ≡ true → (p || q) ≡ true
+or-right true q e = refl
+or-right false q e = e
 
 both : (b : Bool) → b ≡ true → b ≡ false → ⊥
 both b t f = false≢true (sym f ∙ t)
@@ -182,10 +190,10 @@ module _ {kind : ℕ → ℕ} {fin : ℕ → Bool} {ol wl : ℕ → ℕ} {asked 
 
 -- ages
 
-module _ {fin : ℕ → Bool} {age : ℕ → ℕ} {ages : ℕ} (l : Ages fin age ages) where
+module _ {fin kept : ℕ → Bool} {age : ℕ → ℕ} {ages : ℕ} (l : Ages fin kept age ages) where
   -- "each transaction gets a new age"
-  begun-ages : (i : ℕ) → Ages (upd fin i false) (upd age i ages) (ages + 1)
-  begun-ages i =
+  new-ages : (i : ℕ) → Ages (upd fin i false) kept (upd age i ages) (ages + 1)
+  new-ages i =
       record {
         ages-apart = λ j k b c p q r.
             byEq j i
@@ -198,14 +206,33 @@ module _ {fin : ℕ → Bool} {age : ℕ → ℕ} {ages : ℕ} (l : Ages fin age
         ages-given = λ j b. byEq j i (λ e. rw e (omega arith)) (λ e. rw e (omega (arith, l .ages-given j b)));
       }
 
-  ended-ages : (i : ℕ) → Ages (upd fin i true) age ages
-  ended-ages i =
+  -- wish 2: .. or the age that its station keeps, which differed from the others' already
+  kept-ages : (i : ℕ) → kept i ≡ true → Ages (upd fin i false) kept (upd age i (age i)) ages
+  kept-ages i t =
       record {
-        ages-apart = λ j k b c p q r.
-            byEq j i (λ e. absurd (false≢true (sym (rw e at p))))
-            (λ e. byEq k i (λ f. absurd (false≢true (sym (rw f at q)))) (λ f. l .ages-apart j k b c (rw e at p) (rw f at q) r));
+        ages-apart = λ j k b c p q r. l .ages-apart j k b c (counted j p) (counted k q) (sym (same j) ∙ r ∙ same k);
+        ages-given = λ j b. rw (same j) (l .ages-given j b);
+      }
+    where
+      same : (j : ℕ) → upd age i (age i) j ≡ age j
+      same j = byEq j i (λ e. rw (e, eqb-yes j i e) refl) (λ e. rw e refl)
+
+      counted : (j : ℕ) → ageCounts (upd fin i false j) (kept j) ≡ true → ageCounts (fin j) (kept j) ≡ true
+      counted j p = byEq j i (λ e. or-right (not (fin j)) (kept j) (rw (eqb-yes j i e) t)) (λ e. rw e at p)
+
+  begun-ages : (i : ℕ) → let g = aged (kept i) (age i) ages in Ages (upd fin i false) kept (upd age i (g .age)) (g .ages)
+  begun-ages i = byB (kept i) (λ e. rw e (kept-ages i e)) (λ e. rw e (new-ages i))
+
+  -- an end; who keeps its age behind it had an unfinished transaction
+  ended-ages : (i : ℕ) (k : Bool) → (k ≡ true → fin i ≡ false) → Ages (upd fin i true) (upd kept i k) age ages
+  ended-ages i k o =
+      record {
+        ages-apart = λ j h b c p q r. l .ages-apart j h b c (counted j p) (counted h q) r;
         ages-given = l .ages-given;
       }
+    where
+      counted : (j : ℕ) → ageCounts (upd fin i true j) (upd kept i k j) ≡ true → ageCounts (fin j) (kept j) ≡ true
+      counted j p = byEq j i (λ e. rw (eqb-yes j i e, o (rw e at p)) refl) (λ e. rw e at p)
 
 -- the waiting list
 
@@ -313,9 +340,9 @@ module _ (i : ℕ) (x : Serving) (h : ApartIn x) where
       if-keeps ApartIn (eqb t (x .server .latest i)) (λ e. h)
       (λ e. record { locks = begun-locks (h .locks) i; aged = begun-ages (h .aged) i; waiting = begun-waiting (h .waiting) i })
 
-  finish-apart : waits (x .server) i ≡ false → ApartIn (finish i x)
+  finish-apart : (e : End) → (keepsAge e ≡ true → x .server .fin i ≡ false) → waits (x .server) i ≡ false → ApartIn (finish i e x)
   unfolding finish
-  finish-apart n = record { locks = ended-locks (h .locks) i; aged = ended-ages (h .aged) i; waiting = ended-waiting (h .waiting) i n }
+  finish-apart e o n = record { locks = ended-locks (h .locks) i; aged = ended-ages (h .aged) i (keepsAge e) o; waiting = ended-waiting (h .waiting) i n }
 
   join-apart : (w : Waiter) → w .arrival ≡ x .server .arrivals → Entry (x .server .kind i) (x .server .fin i) w → ApartIn (join i w x)
   unfolding join
@@ -329,9 +356,14 @@ leave-waits : (i : ℕ) (x : Serving) → waits ((leave i x) .server) i ≡ fals
 unfolding leave
 leave-waits i x = rw (eqb-same i) refl
 
-abort-apart : (i c : ℕ) (x : Serving) → ApartIn x → ApartIn (abort i c x)
+left-fin : (i : ℕ) (x : Serving) → (leave i x) .server .fin ≡ x .server .fin
+unfolding leave
+left-fin i x = refl
+
+-- cause 1 comes to an unfinished transaction
+abort-apart : (i c : ℕ) (x : Serving) → (eqb c 1 ≡ true → x .server .fin i ≡ false) → ApartIn x → ApartIn (abort i c x)
 unfolding abort
-abort-apart i c x h = finish-apart i (leave i x) (leave-apart i x h) (leave-waits i x)
+abort-apart i c x o h = finish-apart i (leave i x) (leave-apart i x h) (ByCause c) (rw (left-fin i x) o) (leave-waits i x)
 
 inform-apart : (i : ℕ) (w : Work) (j : ℕ) (x : Serving) → ApartIn x → ApartIn (inform i w j x)
 unfolding inform
@@ -344,7 +376,7 @@ informs-apart (suc n) j i w x h = informs-apart n (suc j) i w (inform i w j x) (
 
 install-apart : (i : ℕ) (w : Work) (x : Serving) → ApartIn x → ApartIn (install i w x)
 unfolding install archive write
-install-apart i w x h = informs-apart 8 0 i w _ (finish-apart i (archive i w (write w (leave i x))) (leave-apart i x h) (leave-waits i x))
+install-apart i w x h = informs-apart 8 0 i w _ (finish-apart i (archive i w (write w (leave i x))) (leave-apart i x h) ByCommit (λ e. absurd (false≢true e)) (leave-waits i x))
 
 -- the pass
 
@@ -360,14 +392,10 @@ module _ (i : ℕ) (x : Serving) (b : i < 8) (h : ApartIn x) where
       let s : Server = x .server in
       let a : ℕ = s .queue i .req in
       let own : s .queue i .writes a ≡ true = h .waiting .entry i b .writes-own w in
-      let here : wants s i (address (pageOf a) (a % 8)) ≡ true = rw (on-page a) (or-yes (s .queue i .reads a) (s .queue i .writes a) own) in
+      let here : wants s i (address (pageOf a) (a % 8)) ≡ true = rw (on-page a) (or-right (s .queue i .reads a) (s .queue i .writes a) own) in
       let page : wantsPage s i (pageOf a) ≡ true = any-yes 8 (λ o. wants s i (address (pageOf a) o)) (a % 8) (omega arith) here in
       let none : shut s i (pageOf a) ≡ false = any-no 32 (shut s i) (c .unshut) (pageOf a) (omega arith) in
       other-no (s .wl (pageOf a)) g i (rw page at none) e
-    where
-      or-yes : (p q : Bool) → q ≡ true → (p || q) ≡ true
-      or-yes true q e = refl
-      or-yes false q e = e
 
   -- a page where nobody hinders has no other's lock
   unhindered : (p : ℕ) → any 8 (hinders (x .server) i p) ≡ false → (g a : ℕ) → pageOf a ≡ p → x .server .ol a ≡ suc g → g ≡ i
@@ -386,7 +414,7 @@ pub atomic-apart : Atomic ApartIn
 unfolding ask serveRead sendPage leave call grantObject grantPage installWaiter
 atomic-apart =
     record {
-      aborts = λ i c x b t k. abort-apart i c x k;
+      aborts = λ i c x b t k. abort-apart i c x (λ e. k .waiting .entry i b .waits-open t) k;
       asks = λ i h p x b t u k.
           record { locks = asked-locks (k .locks) p (λ z. omega (arith, z, t .held)); aged = k .aged; waiting = k .waiting };
       reads = λ i x b w c k. leave-apart i x k;
@@ -470,7 +498,7 @@ commit-entry s w o k =
 
 commitNow-apart : (i : ℕ) (w : Work) (x : Serving) → ApartIn x → ApartIn (commitNow i w x)
 unfolding commitNow
-commitNow-apart i w x h = if-keeps ApartIn (eqb (x .server .last) lastNumber) (λ e. abort-apart i 4 x h) (λ e. install-apart i w x h)
+commitNow-apart i w x h = if-keeps ApartIn (eqb (x .server .last) lastNumber) (λ e. abort-apart i 4 x (λ o. absurd (false≢true o)) h) (λ e. install-apart i w x h)
 
 pub accept-apart : (i : ℕ) (m : Up) (x : Serving) → i < 8 → unexpected i m (x .server) ≡ false → ApartIn x → ApartIn (accept i m x)
 unfolding accept joinRead joinWrite joinCommit serveNow sendPage unlist markBusy answered loosen
@@ -491,7 +519,7 @@ accept-apart i (Commit w) x b u h =
     let g : ApartIn y = notice-apart i x h t in
     if-keeps ApartIn (locking (x .server .kind i)) (λ e. commitNow-apart i w y g)
     (λ e. join-apart i y g (commitWaiter (y .server) w) refl (commit-entry (y .server) w (noticed-open i t x (or-l (badNumber (x .server) i t) _ u)) (rw (noticed-kind i t x) e)))
-accept-apart i (Abort t) x b u h = finish-apart i (notice i t x) (notice-apart i x h t) (rw (noticed-queue i t x) (good-number (x .server) i t (or-l (badNumber (x .server) i t) _ u) .idle))
+accept-apart i (Abort t) x b u h = finish-apart i (notice i t x) (notice-apart i x h t) ByMessage (λ e. absurd (false≢true e)) (rw (noticed-queue i t x) (good-number (x .server) i t (or-l (badNumber (x .server) i t) _ u) .idle))
 accept-apart i (Purge p) x b u h = h
 accept-apart i (Busy r t) x b u h =
     let q = x .server .queue in
@@ -518,11 +546,11 @@ pub apart-fresh : (k : ℕ → ℕ) → Apart (freshServer k)
 apart-fresh k =
     record {
       locks = record { whole-alone = λ g h a b p q. absurd (omega arith); object-open = λ h a e. absurd (omega arith); whole-open = λ h p e. absurd (omega arith); asked-held = λ p t. absurd (false≢true t) };
-      aged = record { ages-apart = λ i j b c p q r. absurd (false≢true (sym p)); ages-given = λ i b. omega arith };
+      aged = record { ages-apart = λ i j b c p q r. absurd (false≢true p); ages-given = λ i b. omega arith };
       waiting = record { arrivals-apart = λ i j b c p q r. absurd (false≢true p); arrivals-given = λ i b p. absurd (false≢true p); entry = λ i b. no-entry (k i) true };
     }
 
-apart-moves : Moves (λ s t u d. Apart s) (λ s t u d. Apart s)
+pub apart-moves : Moves (λ s t u d. Apart s) (λ s t u d. Apart s)
 apart-moves =
     record {
       rests = λ s t u d h. h;

@@ -13,7 +13,7 @@ use Rattle.sets.specs.Laws.{byB, byEq, eqb-same, eqb-yes, eqb-no, and-l, and-r}
 use Rattle.line.specs.Messages.{pageOf, lastNumber, locking, Work, Up, ReadRequest, WriteRequest, Commit, Abort, Purge, Busy, Done, WrittenSet, Down, Page, Deescalate, Callback, Committed, Aborted, Invalidate, To, Answer, Nothing, Begun, Value, Waits, Written, CommittedAs, AbortedFor, Purged, Refused, Empty}
 use Rattle.line.specs.Station.{Station, Did, didStation, does, unless, Wait, Idle, ForRead, ForWrite, ForCommit, forCommit, Kept, NotKept, KeptCall, usedAt, usedPage, shown, dropPages, mark, doCallback, doKept, doAllKept, closed, close, undo, checkBegin, checkOpen, longRead, longWrite, checkAddress, checkPurge, ownBegin, readLocal, readAsk, readAs, ownRead, mayWrite, writeAsk, writeLocal, ownWrite, ownCommit, ownAbort, ownPurge, ended, fits, answerWait, onPage, onDeescalate, onCallback, onCommitted, onAborted, onInvalidate, onDown, stationStep}
 use Rattle.line.specs.Line.{Op, Begin, Read, Write, Commits, Aborts, Purges, Call, Owner, ServerTakes, StationTakes, Broken, World, Reply, Acted, acted, replies, upReply, perform, tell, carryUp, ownerActs, isRefused, stationTakes, serverTakes, act}
-use Rattle.line.specs.Server.{Server, Serving, send, Waiter, concerned, callsFrom, noWaiter, isWant, waits, shut, unexpected, badNumber, notice, finish, join, leave, sendPage, abort, write, archive, informed, inform, informFrom, install, serveNow, joinRead, joinWrite, joinCommit, commitNow, unlist, openCall, markBusy, answered, openAsk, loosen, accept, ask, serveRead, call, grantObject, grantPage, installWaiter, start, serverStep}
+use Rattle.line.specs.Server.{Server, Serving, ByCommit, ByMessage, send, Waiter, concerned, callsFrom, noWaiter, isWant, waits, shut, unexpected, badNumber, notice, finish, join, leave, sendPage, abort, write, archive, informed, inform, informFrom, install, serveNow, joinRead, joinWrite, joinCommit, commitNow, unlist, openCall, markBusy, answered, openAsk, loosen, accept, ask, serveRead, call, grantObject, grantPage, installWaiter, start, serverStep}
 use Rattle.line.specs.Pass.{Atomic, step-keeps}
 use Rattle.line.specs.Fuel.{sumTo, nb, pagesCost, sum-le, sum-at, sum-1, nb-1, frees, lock-up, ask-less, marked}
 
@@ -191,7 +191,7 @@ informs-few (suc n) j i w x k e =
 install-sent : (i : ℕ) (w : Work) (x : Serving) → length ((install i w x) .sent) ≤ length (x .sent) + 1 + others 8 0 i (validates (x .server .kind))
 unfolding install finish archive write leave
 install-sent i w x =
-    let y : Serving = finish i (archive i w (write w (leave i x))) in
+    let y : Serving = finish i ByCommit (archive i w (write w (leave i x))) in
     let z : Serving = send y i (Committed (w .transaction) (y .server .last)) in
     omega (arith, informs-few 8 0 i w z (x .server .kind) refl, one-more (x .sent) (To i (Committed (w .transaction) (y .server .last))))
 
@@ -314,7 +314,7 @@ accept-total i (Commit w) s b u =
     byB (locking (s .kind i))
     (λ e. rw e (commit-total i (notice i (w .transaction) (start s)) b n w))
     (λ e. rw e (quiet-total (joinCommit i w (notice i (w .transaction) (start s))) n))
-accept-total i (Abort t) s b u = quiet-total (finish i (notice i t (start s))) (ap length (notice-sent i t (start s)))
+accept-total i (Abort t) s b u = quiet-total (finish i ByMessage (notice i t (start s))) (ap length (notice-sent i t (start s)))
 accept-total i (Purge p) s b u = quiet-total (unlist i (λ q. eqb q p) (start s)) refl
 accept-total i (Busy r t) s b u =
     byB (openCall s i r t) (λ e. rw e (quiet-total (markBusy i r (start s)) refl)) (λ e. rw e (quiet-total (start s) refl))
@@ -424,7 +424,7 @@ accept-records i (Commit w) s b =
     byB (locking (s .kind i))
     (λ e. rw e (commit-records i w (notice i (w .transaction) (start s)) b n))
     (λ e. rw e (quiet-records (joinCommit i w (notice i (w .transaction) (start s))) n))
-accept-records i (Abort t) s b = quiet-records (finish i (notice i t (start s))) (ap length (notice-recs i t (start s)))
+accept-records i (Abort t) s b = quiet-records (finish i ByMessage (notice i t (start s))) (ap length (notice-recs i t (start s)))
 accept-records i (Purge p) s b = quiet-records (unlist i (λ q. eqb q p) (start s)) refl
 accept-records i (Busy r t) s b =
     byB (openCall s i r t) (λ e. rw e (quiet-records (markBusy i r (start s)) refl)) (λ e. rw e (quiet-records (start s) refl))

@@ -13,25 +13,25 @@ use Rattle.line.specs.Fields.{Fields, recorded, noValues, noVersions, se
 use Rattle.line.specs.Rows.{Step, step, Row, row, seen, Holds, AllHold}
 
 -- "locking 0 and 2, validating 1"
-abbrev line : World
+abbrev pub line : World
 line = fresh (λ i. at (0 ∷ 1 ∷ 0 ∷ []) i 0)
 
 -- a step that only answers; one that sends; the server's, which answers nothing
-abbrev answers : Call → Answer → Step
+abbrev pub answers : Call → Answer → Step
 answers c a = step c a [] []
 
-abbrev sends : Call → Answer → List Fields → Step
+abbrev pub sends : Call → Answer → List Fields → Step
 sends c a m = step c a m []
 
-abbrev serves : ℕ → List Fields → Step
+abbrev pub serves : ℕ → List Fields → Step
 serves i m = step (ServerTakes i) Nothing m []
 
 -- the set of one page
-abbrev only : ℕ → ℕ
+abbrev pub only : ℕ → ℕ
 only p = 2 ^ p
 
 -- station i begins and reads object o of page 1, which is all zeros: 1, 16, value 0
-abbrev reads : ℕ → ℕ → List Step
+abbrev pub reads : ℕ → ℕ → List Step
 reads i o =
     answers (Owner i Begin) (Begun 1)
     ∷ sends (Owner i (Read (address 1 o))) Waits (readRequest i 1 o 1 ∷ [])
@@ -40,7 +40,7 @@ reads i o =
     ∷ []
 
 -- 0 writes 5 to 8 and has to ask
-abbrev asks : Step
+abbrev pub asks : Step
 asks = sends (Owner 0 (Write 8 5)) Waits (writeRequest 0 1 0 1 ∷ [])
 
 unfoldable pub C1 : Row

@@ -1,5 +1,5 @@
--- The two counters of the server. "Each transaction gets a new age, 2^63 being out of range": a new age goes with a new, higher number of one
--- of eight stations, and a station's numbers end at 4,294,967,295. An arrival is given at most once in a call.
+-- The two counters of the server. "Each transaction gets a new age, 2^63 being out of range": an age is given only with a new, higher number of
+-- one of eight stations (none where the station keeps its age), and a station's numbers end at 4,294,967,295. An arrival is given at most once in a call.
 use mathlib.Core.Path.{_≡_, refl}
 use mathlib.Core.Bool.{Bool, true, false, not, _&&_, false≢true, cond}
 use mathlib.Core.List.{List, [], _∷_, _++_}
@@ -10,7 +10,7 @@ use lib.ListN.{length}
 use Rattle.sets.specs.Base.{upd, Val, none, some, turned, any}
 use Rattle.sets.specs.Laws.{byB, byEq, eqb-same, eqb-yes, eqb-no}
 use Rattle.line.specs.Messages.{lastNumber, locking, Work, Lock, NoLock, ObjectLock, WholeLock, Up, ReadRequest, WriteRequest, Commit, Abort, Purge, Busy, Done, WrittenSet, Down, Page, Deescalate, Callback, Committed, Aborted, Invalidate}
-use Rattle.line.specs.Server.{Server, Serving, badNumber, unexpected, notice, finish, join, leave, sendPage, abort, informed, write, archive, inform, informFrom, install, serveNow, joinRead, joinWrite, joinCommit, commitNow, unlist, openCall, markBusy, answered, openAsk, loosen, accept, ask, serveRead, call, grantPage, grantObject, installWaiter, start, serverStep}
+use Rattle.line.specs.Server.{Server, Serving, aged, badNumber, unexpected, notice, finish, join, leave, sendPage, abort, informed, write, archive, inform, informFrom, install, serveNow, joinRead, joinWrite, joinCommit, commitNow, unlist, openCall, markBusy, answered, openAsk, loosen, accept, ask, serveRead, call, grantPage, grantObject, installWaiter, start, serverStep}
 use Rattle.line.specs.Station as S
 use Rattle.line.specs.Station.{Station, Did, unless, Wait, Idle, ForRead, ForWrite, ForCommit, waiting, Kept, NotKept, KeptCall, shown, mayWrite, usedAt, usedPage, forCommit, live, ended, fits, checkBegin, checkOpen, longRead, longWrite, checkAddress, checkPurge, dropPages, recordRead, writeLocal, mark, doCallback, doKept, doAllKept, closed, close, undo, ownBegin, readLocal, readAsk, readAs, ownRead, writeAsk, ownWrite, ownCommit, ownAbort, ownPurge, arrive, takeLock, answerWait, onPage, onDeescalate, onCallback, onCommitted, onAborted, onInvalidate, onDown, stationStep}
 use Rattle.line.specs.Line.{World, Op, Begin, Read, Write, Commits, Aborts, Purges, Call, fresh, perform, act, run}
@@ -30,6 +30,11 @@ named (Purge p) = 0
 named (Busy r t) = 0
 named (Done r t d) = 0
 named (WrittenSet p t set) = 0
+
+-- kept or new: the counter moves by one at the most
+aged-few : (b : Bool) (a m : ℕ) → (n : ℕ) × (n ≤ 1) × ((aged b a m) .ages ≡ m + n)
+aged-few true a m = (0, omega arith, omega arith)
+aged-few false a m = (1, omega arith, refl)
 
 -- the server's step: the pass leaves latest numbers, ages and arrivals
 
@@ -68,18 +73,21 @@ module _ (P : (ℕ → ℕ) → ℕ → ℕ → Type 0) where
       }
 
   -- a number that is noticed anew is above the latest
-  notice-has : (i t : ℕ) (x : Serving) → badNumber (x .server) i t ≡ false → Has P x → (x .server .latest i < t → P (upd (x .server .latest) i t) (x .server .ages + 1) (x .server .arrivals)) → Has P (notice i t x)
+  notice-has : (i t : ℕ) (x : Serving) → badNumber (x .server) i t ≡ false → Has P x → ((n : ℕ) → n ≤ 1 → x .server .latest i < t → P (upd (x .server .latest) i t) (x .server .ages + n) (x .server .arrivals)) → Has P (notice i t x)
   unfolding notice
   notice-has i t x u h k =
-      if-keeps (Has P) (eqb t (x .server .latest i)) (λ e. h)
-      (λ e. k (omega (arith, good-number (x .server) i t u .next, eqb-no t (x .server .latest i) e)))
+      let s : Server = x .server in
+      if-keeps (Has P) (eqb t (s .latest i)) (λ e. h)
+      (λ e.
+      let g = aged-few (s .ageKept i) (s .age i) (s .ages) in
+      rw (g .2) (k (g .0) (g .1) (omega (arith, good-number s i t u .next, eqb-no t (s .latest i) e))))
 
--- what a step may do to them: nothing, or note a higher number with one age more; and with either, one arrival more
+-- what a step may do to them: nothing, or note a higher number with at most one age more; and with either, one arrival more
 pub record Counts (P : (ℕ → ℕ) → ℕ → ℕ → Type 0) (i t : ℕ) (L : ℕ → ℕ) (A N : ℕ) : Type 0 where
   pub stays : P L A N
   pub joins : P L A (N + 1)
-  pub begins : L i < t → P (upd L i t) (A + 1) N
-  pub begins-joins : L i < t → P (upd L i t) (A + 1) (N + 1)
+  pub begins : (n : ℕ) → n ≤ 1 → L i < t → P (upd L i t) (A + n) N
+  pub begins-joins : (n : ℕ) → n ≤ 1 → L i < t → P (upd L i t) (A + n) (N + 1)
 
 module _ (P : (ℕ → ℕ) → ℕ → ℕ → Type 0) where
   accept-has : (i : ℕ) (m : Up) (x : Serving) → unexpected i m (x .server) ≡ false → Counts P i (named m) (x .server .latest) (x .server .ages) (x .server .arrivals) → Has P (accept i m x)
@@ -112,7 +120,7 @@ arrival-moves n =
       rests = λ s t u d h. omega arith;
       owner = λ i op s t u d h. omega arith;
       server = λ i m l s t u d b e v h.
-          step-counts (λ L A N. N ≤ suc n) i m s v (record { stays = omega arith; joins = omega arith; begins = λ k. omega arith; begins-joins = λ k. omega arith });
+          step-counts (λ L A N. N ≤ suc n) i m s v (record { stays = omega arith; joins = omega arith; begins = λ n a k. omega arith; begins-joins = λ n a k. omega arith });
       station = λ i m l s t u d e h. omega arith;
     }
 
@@ -283,8 +291,8 @@ taken-numbers {t = t} {u = u} i m l e h =
     }
 
 -- .. and notices its number
-noticed-numbers : {latest : ℕ → ℕ} {ages : ℕ} {t : ℕ → Station} {u : ℕ → List Up} (i n : ℕ) → i < 8 → n ≤ t i .num → latest i < n → Numbers latest ages t u → Numbers (upd latest i n) (ages + 1) t u
-noticed-numbers {latest} {t = t} i n b c k h =
+noticed-numbers : {latest : ℕ → ℕ} {ages : ℕ} {t : ℕ → Station} {u : ℕ → List Up} (i n : ℕ) → i < 8 → n ≤ t i .num → (a : ℕ) → a ≤ 1 → latest i < n → Numbers latest ages t u → Numbers (upd latest i n) (ages + a) t u
+noticed-numbers {latest} {t = t} i n b c a q k h =
     let up : (j : ℕ) → latest j ≤ upd latest i n j = λ j. byEq j i (λ e. rw (e, eqb-yes j i e) (omega arith)) (λ e. rw e (omega arith)) in
     let more : latest i + 1 ≤ upd latest i n i = rw (eqb-same i) (omega arith) in
     record {
@@ -303,7 +311,7 @@ numbers-moves =
           let c : named m ≤ t i .num = rw e at (h .under-way i) .0 in
           let g = taken-numbers i m l e h in
           step-counts (λ L A N. Numbers L A t (upd u i l)) i m s v
-          (record { stays = g; joins = g; begins = λ k. noticed-numbers i (named m) b c k g; begins-joins = λ k. noticed-numbers i (named m) b c k g });
+          (record { stays = g; joins = g; begins = λ a q k. noticed-numbers i (named m) b c a q k g; begins-joins = λ a q k. noticed-numbers i (named m) b c a q k g });
       station = λ i m l s t u d e h. station-numbers i (stationStep m (t i)) (step-numbered (t i) (h .begun i) m) h;
     }
 

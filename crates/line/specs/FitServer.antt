@@ -11,7 +11,7 @@ use borrow.Author.Tests.{ltb-true}
 use Rattle.sets.specs.Base.{upd, any}
 use Rattle.sets.specs.Laws.{byB, byEq, eqb-same, eqb-yes, and-l, and-r, not-yes}
 use Rattle.line.specs.Messages.{lastNumber, locking, Work, Up, ReadRequest, WriteRequest, Commit, Abort, Purge, Busy, Done, WrittenSet, Down, Sent, To, Rec}
-use Rattle.line.specs.Server.{Server, Serving, freshServer, Waiter, noWaiter, waiterPend, waiterBusy, waiterCalled, Want, NoWant, WantRead, WantWrite, WantCommit, isWant, waits, wrotePage, unexpected, badNumber, notice, finish, join, leave, sendPage, abort, informed, write, archive, inform, informFrom, install, readWaiter, writeWaiter, commitWaiter, serveNow, joinRead, joinWrite, joinCommit, commitNow, unlist, openCall, markBusy, answered, openAsk, loosen, accept, ask, serveRead, concerned, callsFrom, call, grantPage, grantObject, installWaiter, start, serverStep}
+use Rattle.line.specs.Server.{Server, Serving, freshServer, Waiter, noWaiter, waiterPend, waiterBusy, waiterCalled, Want, NoWant, WantRead, WantWrite, WantCommit, isWant, waits, wrotePage, unexpected, badNumber, notice, finish, join, leave, sendPage, abort, informed, write, archive, inform, informFrom, install, readWaiter, writeWaiter, commitWaiter, serveNow, joinRead, joinWrite, joinCommit, commitNow, unlist, openCall, markBusy, answered, openAsk, loosen, accept, ask, serveRead, concerned, callsFrom, call, grantPage, grantObject, installWaiter, start, serverStep, End, ByCommit, ByCause, ByMessage}
 use Rattle.line.specs.Pass.{Atomic, if-keeps, step-keeps}
 use Rattle.line.specs.All.{All, all-append}
 use Rattle.line.specs.Apart.{ApartIn, or-l, good-number, atomic-apart, accept-apart, apart-fresh}
@@ -208,9 +208,9 @@ module _ (i : ℕ) (x : Serving) where
   unfolding notice
   noticed-latest t = byEq t (x .server .latest i) (λ q. rw q (sym (eqb-yes t (x .server .latest i) q))) (λ q. rw (q, eqb-same i) refl)
 
-  finish-forms : FormsIn x → FormsIn (finish i x)
+  finish-forms : (e : End) → FormsIn x → FormsIn (finish i e x)
   unfolding finish
-  finish-forms h = ended-forms h i
+  finish-forms e h = ended-forms h i
 
   leave-forms : FormsIn x → FormsIn (leave i x)
   unfolding leave
@@ -220,7 +220,7 @@ module _ (i : ℕ) (x : Serving) where
 module _ (i c : ℕ) (x : Serving) where
   abort-forms : FormsIn x → FormsIn (abort i c x)
   unfolding abort
-  abort-forms h = finish-forms i (leave i x) (leave-forms i x h)
+  abort-forms h = finish-forms i (leave i x) (ByCause c) (leave-forms i x h)
 
   abort-sent : i < 8 → x .server .latest i ≢ 0 → SentIn x → SentIn (abort i c x)
   unfolding abort finish leave
@@ -261,7 +261,7 @@ informs-recs (suc n) j i w x h = informs-recs n (suc j) i w (inform i w j x) (in
 module _ (i : ℕ) (w : Work) (x : Serving) where
   install-forms : FormsIn x → FormsIn (install i w x)
   unfolding install archive write
-  install-forms h = informs-forms 8 0 i w _ (finish-forms i (archive i w (write w (leave i x))) (leave-forms i x h))
+  install-forms h = informs-forms 8 0 i w _ (finish-forms i (archive i w (write w (leave i x))) ByCommit (leave-forms i x h))
 
   install-sent : i < 8 → w .transaction ≢ 0 → SentIn x → SentIn (install i w x)
   unfolding install archive write finish leave
@@ -402,7 +402,7 @@ accept-forms i (Commit w) x b n u h =
     let g : FormsIn y = noticed-forms i t x (n .0) (or-l (badNumber (x .server) i t) _ u) h in
     if-keeps FormsIn (locking (x .server .kind i)) (λ e. commitNow-forms i w y g)
     (λ e. join-forms i _ y (commit-form (y .server .kind) i (y .server .latest i) (y .server) w (sym (noticed-latest i x t)) (n .1)) g)
-accept-forms i (Abort t) x b n u h = finish-forms i (notice i t x) (noticed-forms i t x n (or-l (badNumber (x .server) i t) _ u) h)
+accept-forms i (Abort t) x b n u h = finish-forms i (notice i t x) ByMessage (noticed-forms i t x n (or-l (badNumber (x .server) i t) _ u) h)
 accept-forms i (Purge p) x b n u h = h .forms
 accept-forms i (Busy r t) x b n u h =
     if-keeps FormsIn (openCall (x .server) i r t)

@@ -9,6 +9,7 @@ pub mod Truth
 pub mod Fields
 pub mod Rows
 pub mod Cases
+pub mod KeptCases
 -- a step is its actions, ends, and is at rest then
 pub mod Laws
 pub mod Pass
@@ -24,6 +25,8 @@ pub mod Counters
 pub mod Says
 pub mod Kept
 pub mod Ordered
+-- wish 2: what a kept age is for
+pub mod KeptAges
 -- number 1 asks it, every call keeps it, and what is sent fits
 pub mod Fit
 pub mod FitServer

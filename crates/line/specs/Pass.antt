@@ -3,13 +3,14 @@
 use mathlib.Core.Path.{_≡_, refl, sym, ap, _∙_}
 use mathlib.Core.Bool.{Bool, true, false, not, _&&_, _||_, false≢true, cond}
 use mathlib.Core.List.{List, [], _∷_}
+use mathlib.Core.Logic.{_≢_}
 use Prim.Native.Nat.{ℕ, zero, suc, _+_, _≤_, _<_}
 use lib.Dec.{eqb, ltb}
 use native.Mathlib.Omega.{arith}
-use Rattle.sets.specs.Base.{any}
+use Rattle.sets.specs.Base.{any, turned}
 use Rattle.line.specs.Messages.{Up}
-use Rattle.line.specs.Server.{isWant, firstFrom, youngest, edges, lockedAt, locked, blockedAt, other, wants, wantsPage, waits, blocks, Server, Serving, Want, NoWant, WantRead, WantWrite, WantCommit, abort, ask, askFrom, holder, call, callOnce, serveRead, grantObject, grantPage, grant, hinders, installWaiter, blocked, shut, fault, allAnswered, afterCalls, proceed, gates, visit, pass, order, victim, moved, settle, fuel, accept, start, serverStep}
-use Rattle.line.specs.Messages.{pageOf, address}
+use Rattle.line.specs.Server.{isWant, firstFrom, youngest, edges, lockedAt, locked, stale, blockedAt, other, wants, wantsPage, waits, blocks, Server, Serving, Want, NoWant, WantRead, WantWrite, WantCommit, abort, ask, askFrom, holder, call, callOnce, serveRead, grantObject, grantPage, grant, hinders, installWaiter, blocked, shut, fault, allAnswered, afterCalls, proceed, gates, visit, pass, order, victim, moved, settle, fuel, accept, start, serverStep}
+use Rattle.line.specs.Messages.{pageOf, address, lastNumber}
 use Rattle.sets.specs.Laws.{byB, byEq, eqb-same, eqb-yes, any-ext, not-yes, and-l, and-r}
 use Rattle.sets.specs.Reach.{onCycle}
 
@@ -29,15 +30,79 @@ pub record Shut (i h p : ℕ) (x : Serving) : Type 0 where
   pub page : shut (x .server) i p ≡ true
   pub held : x .server .wl p ≡ suc h
 
+-- P is kept by an action of the pass, with its own guard
+
+abbrev pub KeptByAsks : (Serving → Type 0) → Type 0
+KeptByAsks P = (i h p : ℕ) (x : Serving) → p < 32 → Shut i h p x → x .server .asked p ≡ false → P x → P (ask h p x)
+
+abbrev pub KeptByReads : (Serving → Type 0) → Type 0
+KeptByReads P = (i : ℕ) (x : Serving) → i < 8 → x .server .queue i .want ≡ WantRead → Clear i x → P x → P (serveRead i x)
+
+abbrev pub KeptByCalls : (Serving → Type 0) → Type 0
+KeptByCalls P = (i : ℕ) (x : Serving) → i < 8 → waits (x .server) i ≡ true → x .server .queue i .called ≡ false → (x .server .queue i .want ≡ WantRead → ⊥) → Clear i x → P x → P (call i x)
+
+abbrev pub KeptByObjects : (Serving → Type 0) → Type 0
+KeptByObjects P = (i : ℕ) (x : Serving) → i < 8 → x .server .queue i .want ≡ WantWrite → Ready i x → P x → P (grantObject i x)
+
+abbrev pub KeptByPages : (Serving → Type 0) → Type 0
+KeptByPages P = (i : ℕ) (x : Serving) → i < 8 → x .server .queue i .want ≡ WantWrite → Ready i x → any 8 (hinders (x .server) i (pageOf (x .server .queue i .req))) ≡ false → P x → P (grantPage i x)
+
+abbrev pub KeptByInstalls : (Serving → Type 0) → Type 0
+KeptByInstalls P = (i : ℕ) (x : Serving) → i < 8 → x .server .queue i .want ≡ WantCommit → fault (x .server) i ≡ 0 → Ready i x → P x → P (installWaiter i x)
+
 -- P is kept by every action of the pass
 pub record Atomic (P : Serving → Type 0) : Type 0 where
   pub aborts : (i c : ℕ) (x : Serving) → i < 8 → waits (x .server) i ≡ true → P x → P (abort i c x)
-  pub asks : (i h p : ℕ) (x : Serving) → p < 32 → Shut i h p x → x .server .asked p ≡ false → P x → P (ask h p x)
-  pub reads : (i : ℕ) (x : Serving) → i < 8 → x .server .queue i .want ≡ WantRead → Clear i x → P x → P (serveRead i x)
-  pub calls : (i : ℕ) (x : Serving) → i < 8 → waits (x .server) i ≡ true → x .server .queue i .called ≡ false → (x .server .queue i .want ≡ WantRead → ⊥) → Clear i x → P x → P (call i x)
-  pub objects : (i : ℕ) (x : Serving) → i < 8 → x .server .queue i .want ≡ WantWrite → Ready i x → P x → P (grantObject i x)
-  pub pages : (i : ℕ) (x : Serving) → i < 8 → x .server .queue i .want ≡ WantWrite → Ready i x → any 8 (hinders (x .server) i (pageOf (x .server .queue i .req))) ≡ false → P x → P (grantPage i x)
-  pub installs : (i : ℕ) (x : Serving) → i < 8 → x .server .queue i .want ≡ WantCommit → fault (x .server) i ≡ 0 → Ready i x → P x → P (installWaiter i x)
+  pub asks : KeptByAsks P
+  pub reads : KeptByReads P
+  pub calls : KeptByCalls P
+  pub objects : KeptByObjects P
+  pub pages : KeptByPages P
+  pub installs : KeptByInstalls P
+
+-- the same for a P that depends on whose the aborts are: a waiter's own fault is never cause 1, and cause 1 is the victim's
+pub record Causal (P : Serving → Type 0) : Type 0 where
+  pub faults : (i c : ℕ) (x : Serving) → i < 8 → waits (x .server) i ≡ true → c ≢ 1 → P x → P (abort i c x)
+  pub victims : (v : ℕ) (x : Serving) → v < 8 → waits (x .server) v ≡ true → victim (x .server) ≡ v → P x → P (abort v 1 x)
+  pub asks : KeptByAsks P
+  pub reads : KeptByReads P
+  pub calls : KeptByCalls P
+  pub objects : KeptByObjects P
+  pub pages : KeptByPages P
+  pub installs : KeptByInstalls P
+
+whichever : (P : Serving → Type 0) → Atomic P → Causal P
+whichever P k =
+    record {
+      faults = λ i c x b t n h. k .aborts i c x b t h;
+      victims = λ v x b t e h. k .aborts v 1 x b t h;
+      asks = k .asks;
+      reads = k .reads;
+      calls = k .calls;
+      objects = k .objects;
+      pages = k .pages;
+      installs = k .installs;
+    }
+
+-- two at once
+pub beside : {P Q : Serving → Type 0} → Atomic P → Atomic Q → Atomic (λ x. P x × Q x)
+beside p q =
+    record {
+      aborts = λ i c x b t k. (p .aborts i c x b t (k .0), q .aborts i c x b t (k .1));
+      asks = λ i h g x b t u k. (p .asks i h g x b t u (k .0), q .asks i h g x b t u (k .1));
+      reads = λ i x b w c k. (p .reads i x b w c (k .0), q .reads i x b w c (k .1));
+      calls = λ i x b t u w c k. (p .calls i x b t u w c (k .0), q .calls i x b t u w c (k .1));
+      objects = λ i x b w r k. (p .objects i x b w r (k .0), q .objects i x b w r (k .1));
+      pages = λ i x b w r e k. (p .pages i x b w r e (k .0), q .pages i x b w r e (k .1));
+      installs = λ i x b w f r k. (p .installs i x b w f r (k .0), q .installs i x b w f r (k .1));
+    }
+
+-- a waiter's own fault: causes 4, 2 and 3
+fault-not-1 : (a b c : Bool) → turned a 4 (turned b 2 (turned c 3 0)) ≢ 1
+fault-not-1 true b c e = absurd (omega arith)
+fault-not-1 false true c e = absurd (omega arith)
+fault-not-1 false false true e = absurd (omega arith)
+fault-not-1 false false false e = absurd (omega arith)
 
 pub if-keeps : (P : Serving → Type 0) (b : Bool) {x y : Serving} → (b ≡ true → P x) → (b ≡ false → P y) → P (cond b x y)
 if-keeps P true t f = t refl
@@ -141,7 +206,7 @@ victim-waits s e =
     (u .0, and-l (waits s (victim s)) _ (u .1))
 
 -- the loops, the gates, the pass, the step
-module _ (P : Serving → Type 0) (k : Atomic P) where
+module _ (P : Serving → Type 0) (k : Causal P) where
   asks-keeps : (n p i : ℕ) (x : Serving) → p + n ≤ 32 → P x → P (askFrom n p i x)
   unfolding askFrom
   asks-keeps zero p i x b h = h
@@ -216,24 +281,31 @@ module _ (P : Serving → Type 0) (k : Atomic P) where
   visit-keeps WantCommit i x b w h =
       if-keeps P (eqb (fault (x .server) i) 0)
       (λ e. gates-keeps WantCommit i x (λ c. commit-keeps i x b w (eqb-yes (fault (x .server) i) 0 e) c h) h)
-      (λ e. k .aborts i (fault (x .server) i) x b (ap isWant w) h)
+      (λ e. k .faults i (fault (x .server) i) x b (ap isWant w) (fault-not-1 (eqb (x .server .last) lastNumber) (stale (x .server) (x .server .queue i .work)) (locked (x .server) i)) h)
 
-  pub pass-keeps : (l : List ℕ) (x : Serving) → All8 l → P x → P (pass l x)
+  pass-causal : (l : List ℕ) (x : Serving) → All8 l → P x → P (pass l x)
   unfolding pass
-  pass-keeps [] x a h = h
-  pass-keeps (i ∷ l) x a h = pass-keeps l (visit (x .server .queue i .want) i x) (a .1) (visit-keeps (x .server .queue i .want) i x (a .0) refl h)
+  pass-causal [] x a h = h
+  pass-causal (i ∷ l) x a h = pass-causal l (visit (x .server .queue i .want) i x) (a .1) (visit-keeps (x .server .queue i .want) i x (a .0) refl h)
 
   settle-keeps : (n : ℕ) (x : Serving) → P x → P (settle n x)
   unfolding settle
   settle-keeps zero x h = h
   settle-keeps (suc n) x h =
       let y : Serving = pass (order 8 0 (x .server)) x in
-      let g : P y = pass-keeps (order 8 0 (x .server)) x (order-8 8 0 (x .server)) h in
+      let g : P y = pass-causal (order 8 0 (x .server)) x (order-8 8 0 (x .server)) h in
       let v : ℕ = victim (y .server) in
       if-keeps P (moved x y) (λ e. settle-keeps n y g)
-      (λ e. if-keeps P (eqb v 8) (λ f. g) (λ f. settle-keeps n (abort v 1 y) (let u = victim-waits (y .server) f in k .aborts v 1 y (u .0) (u .1) g)))
+      (λ e. if-keeps P (eqb v 8) (λ f. g) (λ f. settle-keeps n (abort v 1 y) (let u = victim-waits (y .server) f in k .victims v y (u .0) (u .1) refl g)))
 
   -- the server's step: what accept establishes, the step keeps
-  pub step-keeps : (i : ℕ) (m : Up) (s : Server) → P (accept i m (start s)) → P (serverStep i m s)
+  pub step-causal : (i : ℕ) (m : Up) (s : Server) → P (accept i m (start s)) → P (serverStep i m s)
   unfolding serverStep
-  step-keeps i m s h = settle-keeps fuel (accept i m (start s)) h
+  step-causal i m s h = settle-keeps fuel (accept i m (start s)) h
+
+module _ (P : Serving → Type 0) (k : Atomic P) where
+  pub pass-keeps : (l : List ℕ) (x : Serving) → All8 l → P x → P (pass l x)
+  pass-keeps = pass-causal P (whichever P k)
+
+  pub step-keeps : (i : ℕ) (m : Up) (s : Server) → P (accept i m (start s)) → P (serverStep i m s)
+  step-keeps = step-causal P (whichever P k)

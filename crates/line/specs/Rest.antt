@@ -11,7 +11,7 @@ use Rattle.sets.specs.Base.{any, nowhere, memo}
 use Rattle.sets.specs.Laws.{byB, byEq, eqb-same, eqb-yes, eqb-no, ltb-yes, ltb-no, and-l, and-r, and-both, or-yes, or-no, not-no, any-some, memo-is}
 use Rattle.sets.specs.Reach.{Path, onCycle, on-cycle, cycle-found, path-edge, path-by}
 use Rattle.line.specs.Messages.{pageOf, Up, Work, Committed}
-use Rattle.line.specs.Server.{Server, Serving, send, Want, NoWant, WantRead, WantWrite, WantCommit, waits, abort, finish, leave, sendPage, write, archive, informed, inform, informFrom, install, ask, askFrom, holder, serveRead, concerned, callsFrom, call, callOnce, hinders, grantPage, grantObject, grant, installWaiter, allAnswered, afterCalls, proceed, gates, visit, blocked, shut, fault, order, pass, edge, edges, youngest, victim, moved, settle, fuel, accept, start, serverStep}
+use Rattle.line.specs.Server.{Server, Serving, ByCommit, send, Want, NoWant, WantRead, WantWrite, WantCommit, waits, abort, finish, leave, sendPage, write, archive, informed, inform, informFrom, install, ask, askFrom, holder, serveRead, concerned, callsFrom, call, callOnce, hinders, grantPage, grantObject, grant, installWaiter, allAnswered, afterCalls, proceed, gates, visit, blocked, shut, fault, order, pass, edge, edges, youngest, victim, moved, settle, fuel, accept, start, serverStep}
 use Rattle.line.specs.Pass.{if-keeps, young-8, victim-waits}
 use Rattle.line.specs.Fuel.{cost, cost-56, Falls, pass-falls, abort-less}
 
@@ -72,7 +72,7 @@ informs-longer (suc n) j i w x = omega (arith, inform-longer i w j x, informs-lo
 install-sends : (i : ℕ) (w : Work) (x : Serving) → Sends x (install i w x)
 unfolding install finish archive write leave
 install-sends i w x =
-    let y : Serving = finish i (archive i w (write w (leave i x))) in
+    let y : Serving = finish i ByCommit (archive i w (write w (leave i x))) in
     let z : Serving = send y i (Committed (w .transaction) (y .server .last)) in
     omega (arith, simp length-append at (informs-longer 8 0 i w z))
 

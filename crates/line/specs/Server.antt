@@ -70,54 +70,58 @@ pub record Server : Type 0 where
   pub fin : ℕ → Bool  -- it is finished
   pub age : ℕ → ℕ
   pub ages : ℕ  -- the age counter
+  pub ageKept : ℕ → Bool  -- wish 2: the station keeps its age
   pub arrivals : ℕ  -- the arrival counter
   pub queue : ℕ → Waiter  -- the waiting list: a station's entry; a station waits for one thing at a time
 
 abbrev pub setKind : Server → (ℕ → ℕ) → Server
-setKind s x = record { kind = x; val = s .val; ver = s .ver; last = s .last; ol = s .ol; wl = s .wl; asked = s .asked; listed = s .listed; latest = s .latest; fin = s .fin; age = s .age; ages = s .ages; arrivals = s .arrivals; queue = s .queue }
+setKind s x = record { kind = x; val = s .val; ver = s .ver; last = s .last; ol = s .ol; wl = s .wl; asked = s .asked; listed = s .listed; latest = s .latest; fin = s .fin; age = s .age; ages = s .ages; ageKept = s .ageKept; arrivals = s .arrivals; queue = s .queue }
 
 abbrev pub setVal : Server → (ℕ → ℕ) → Server
-setVal s x = record { kind = s .kind; val = x; ver = s .ver; last = s .last; ol = s .ol; wl = s .wl; asked = s .asked; listed = s .listed; latest = s .latest; fin = s .fin; age = s .age; ages = s .ages; arrivals = s .arrivals; queue = s .queue }
+setVal s x = record { kind = s .kind; val = x; ver = s .ver; last = s .last; ol = s .ol; wl = s .wl; asked = s .asked; listed = s .listed; latest = s .latest; fin = s .fin; age = s .age; ages = s .ages; ageKept = s .ageKept; arrivals = s .arrivals; queue = s .queue }
 
 abbrev pub setVer : Server → (ℕ → ℕ) → Server
-setVer s x = record { kind = s .kind; val = s .val; ver = x; last = s .last; ol = s .ol; wl = s .wl; asked = s .asked; listed = s .listed; latest = s .latest; fin = s .fin; age = s .age; ages = s .ages; arrivals = s .arrivals; queue = s .queue }
+setVer s x = record { kind = s .kind; val = s .val; ver = x; last = s .last; ol = s .ol; wl = s .wl; asked = s .asked; listed = s .listed; latest = s .latest; fin = s .fin; age = s .age; ages = s .ages; ageKept = s .ageKept; arrivals = s .arrivals; queue = s .queue }
 
 abbrev pub setLast : Server → (ℕ) → Server
-setLast s x = record { kind = s .kind; val = s .val; ver = s .ver; last = x; ol = s .ol; wl = s .wl; asked = s .asked; listed = s .listed; latest = s .latest; fin = s .fin; age = s .age; ages = s .ages; arrivals = s .arrivals; queue = s .queue }
+setLast s x = record { kind = s .kind; val = s .val; ver = s .ver; last = x; ol = s .ol; wl = s .wl; asked = s .asked; listed = s .listed; latest = s .latest; fin = s .fin; age = s .age; ages = s .ages; ageKept = s .ageKept; arrivals = s .arrivals; queue = s .queue }
 
 abbrev pub setOl : Server → (ℕ → ℕ) → Server
-setOl s x = record { kind = s .kind; val = s .val; ver = s .ver; last = s .last; ol = x; wl = s .wl; asked = s .asked; listed = s .listed; latest = s .latest; fin = s .fin; age = s .age; ages = s .ages; arrivals = s .arrivals; queue = s .queue }
+setOl s x = record { kind = s .kind; val = s .val; ver = s .ver; last = s .last; ol = x; wl = s .wl; asked = s .asked; listed = s .listed; latest = s .latest; fin = s .fin; age = s .age; ages = s .ages; ageKept = s .ageKept; arrivals = s .arrivals; queue = s .queue }
 
 abbrev pub setWl : Server → (ℕ → ℕ) → Server
-setWl s x = record { kind = s .kind; val = s .val; ver = s .ver; last = s .last; ol = s .ol; wl = x; asked = s .asked; listed = s .listed; latest = s .latest; fin = s .fin; age = s .age; ages = s .ages; arrivals = s .arrivals; queue = s .queue }
+setWl s x = record { kind = s .kind; val = s .val; ver = s .ver; last = s .last; ol = s .ol; wl = x; asked = s .asked; listed = s .listed; latest = s .latest; fin = s .fin; age = s .age; ages = s .ages; ageKept = s .ageKept; arrivals = s .arrivals; queue = s .queue }
 
 abbrev pub setAsked : Server → (ℕ → Bool) → Server
-setAsked s x = record { kind = s .kind; val = s .val; ver = s .ver; last = s .last; ol = s .ol; wl = s .wl; asked = x; listed = s .listed; latest = s .latest; fin = s .fin; age = s .age; ages = s .ages; arrivals = s .arrivals; queue = s .queue }
+setAsked s x = record { kind = s .kind; val = s .val; ver = s .ver; last = s .last; ol = s .ol; wl = s .wl; asked = x; listed = s .listed; latest = s .latest; fin = s .fin; age = s .age; ages = s .ages; ageKept = s .ageKept; arrivals = s .arrivals; queue = s .queue }
 
 abbrev pub setListed : Server → (ℕ → ℕ → Bool) → Server
-setListed s x = record { kind = s .kind; val = s .val; ver = s .ver; last = s .last; ol = s .ol; wl = s .wl; asked = s .asked; listed = x; latest = s .latest; fin = s .fin; age = s .age; ages = s .ages; arrivals = s .arrivals; queue = s .queue }
+setListed s x = record { kind = s .kind; val = s .val; ver = s .ver; last = s .last; ol = s .ol; wl = s .wl; asked = s .asked; listed = x; latest = s .latest; fin = s .fin; age = s .age; ages = s .ages; ageKept = s .ageKept; arrivals = s .arrivals; queue = s .queue }
 
 abbrev pub setLatest : Server → (ℕ → ℕ) → Server
-setLatest s x = record { kind = s .kind; val = s .val; ver = s .ver; last = s .last; ol = s .ol; wl = s .wl; asked = s .asked; listed = s .listed; latest = x; fin = s .fin; age = s .age; ages = s .ages; arrivals = s .arrivals; queue = s .queue }
+setLatest s x = record { kind = s .kind; val = s .val; ver = s .ver; last = s .last; ol = s .ol; wl = s .wl; asked = s .asked; listed = s .listed; latest = x; fin = s .fin; age = s .age; ages = s .ages; ageKept = s .ageKept; arrivals = s .arrivals; queue = s .queue }
 
 abbrev pub setFin : Server → (ℕ → Bool) → Server
-setFin s x = record { kind = s .kind; val = s .val; ver = s .ver; last = s .last; ol = s .ol; wl = s .wl; asked = s .asked; listed = s .listed; latest = s .latest; fin = x; age = s .age; ages = s .ages; arrivals = s .arrivals; queue = s .queue }
+setFin s x = record { kind = s .kind; val = s .val; ver = s .ver; last = s .last; ol = s .ol; wl = s .wl; asked = s .asked; listed = s .listed; latest = s .latest; fin = x; age = s .age; ages = s .ages; ageKept = s .ageKept; arrivals = s .arrivals; queue = s .queue }
 
 abbrev pub setAge : Server → (ℕ → ℕ) → Server
-setAge s x = record { kind = s .kind; val = s .val; ver = s .ver; last = s .last; ol = s .ol; wl = s .wl; asked = s .asked; listed = s .listed; latest = s .latest; fin = s .fin; age = x; ages = s .ages; arrivals = s .arrivals; queue = s .queue }
+setAge s x = record { kind = s .kind; val = s .val; ver = s .ver; last = s .last; ol = s .ol; wl = s .wl; asked = s .asked; listed = s .listed; latest = s .latest; fin = s .fin; age = x; ages = s .ages; ageKept = s .ageKept; arrivals = s .arrivals; queue = s .queue }
 
 abbrev pub setAges : Server → (ℕ) → Server
-setAges s x = record { kind = s .kind; val = s .val; ver = s .ver; last = s .last; ol = s .ol; wl = s .wl; asked = s .asked; listed = s .listed; latest = s .latest; fin = s .fin; age = s .age; ages = x; arrivals = s .arrivals; queue = s .queue }
+setAges s x = record { kind = s .kind; val = s .val; ver = s .ver; last = s .last; ol = s .ol; wl = s .wl; asked = s .asked; listed = s .listed; latest = s .latest; fin = s .fin; age = s .age; ages = x; ageKept = s .ageKept; arrivals = s .arrivals; queue = s .queue }
+
+abbrev pub setAgeKept : Server → (ℕ → Bool) → Server
+setAgeKept s x = record { kind = s .kind; val = s .val; ver = s .ver; last = s .last; ol = s .ol; wl = s .wl; asked = s .asked; listed = s .listed; latest = s .latest; fin = s .fin; age = s .age; ages = s .ages; ageKept = x; arrivals = s .arrivals; queue = s .queue }
 
 abbrev pub setArrivals : Server → (ℕ) → Server
-setArrivals s x = record { kind = s .kind; val = s .val; ver = s .ver; last = s .last; ol = s .ol; wl = s .wl; asked = s .asked; listed = s .listed; latest = s .latest; fin = s .fin; age = s .age; ages = s .ages; arrivals = x; queue = s .queue }
+setArrivals s x = record { kind = s .kind; val = s .val; ver = s .ver; last = s .last; ol = s .ol; wl = s .wl; asked = s .asked; listed = s .listed; latest = s .latest; fin = s .fin; age = s .age; ages = s .ages; ageKept = s .ageKept; arrivals = x; queue = s .queue }
 
 abbrev pub setQueue : Server → (ℕ → Waiter) → Server
-setQueue s x = record { kind = s .kind; val = s .val; ver = s .ver; last = s .last; ol = s .ol; wl = s .wl; asked = s .asked; listed = s .listed; latest = s .latest; fin = s .fin; age = s .age; ages = s .ages; arrivals = s .arrivals; queue = x }
+setQueue s x = record { kind = s .kind; val = s .val; ver = s .ver; last = s .last; ol = s .ol; wl = s .wl; asked = s .asked; listed = s .listed; latest = s .latest; fin = s .fin; age = s .age; ages = s .ages; ageKept = s .ageKept; arrivals = s .arrivals; queue = x }
 
 abbrev pub freshServer : (ℕ → ℕ) → Server
 freshServer k =
-    record { kind = k; val = zeros; ver = zeros; last = 0; ol = zeros; wl = zeros; asked = nowhere; listed = λ i p. false; latest = zeros; fin = λ i. true; age = zeros; ages = 1; arrivals = 1; queue = λ i. noWaiter }
+    record { kind = k; val = zeros; ver = zeros; last = 0; ol = zeros; wl = zeros; asked = nowhere; listed = λ i p. false; latest = zeros; fin = λ i. true; age = zeros; ages = 1; ageKept = nowhere; arrivals = 1; queue = λ i. noWaiter }
 
 -- a server's step under way: the server, the messages sent in order, the records archived
 pub record Serving : Type 0 where
@@ -198,22 +202,49 @@ unexpected i (WrittenSet p t set) s = not (locking (s .kind i))
 
 -- parts of the actions
 
--- "Young means the server saw its transaction's first message later; each transaction gets a new age"
+-- AGES: "Young means the server saw its transaction's first message later; each transaction gets a new age", and wish 2: "A station aborted for
+-- cause 1 now keeps its age for its next transactions"
+
+-- what a new transaction's age is, and the counter afterwards
+pub record Aged : Type 0 where
+  pub age : ℕ
+  pub ages : ℕ
+
+-- kept or new: the age of a station's next transaction, by whether it keeps its age, the age that it has, and the counter
+abbrev pub aged : Bool → ℕ → ℕ → Aged
+aged true a n = record { age = a; ages = n }
+aged false a n = record { age = n; ages = n + 1 }
+
 unfoldable pub notice : ℕ → ℕ → Serving → Serving
 notice i t x =
     let s = x .server in
+    let g = aged (s .ageKept i) (s .age i) (s .ages) in
     cond (eqb t (s .latest i)) x
-    (onServer x (setLatest (setFin (setAge (setAges s (s .ages + 1)) (upd (s .age) i (s .ages))) (upd (s .fin) i false)) (upd (s .latest) i t)))
+    (onServer x (setLatest (setFin (setAge (setAges s (g .ages)) (upd (s .age) i (g .age))) (upd (s .fin) i false)) (upd (s .latest) i t)))
+
+-- how a transaction ends at the server. A validating station's own abort and its higher number are none of these: "An end that a
+-- validating station doesn't report ends no kept age."
+pub data End : Type 0 where
+  ByCommit : End
+  ByCause : ℕ → End
+  ByMessage : End
+
+-- whether the station keeps its age behind it: "A station aborted for cause 1 now keeps its age for its next transactions, until ..."
+abbrev pub keepsAge : End → Bool
+keepsAge ByCommit = false  -- ".. one commits"
+keepsAge (ByCause c) = eqb c 1  -- ".. the server aborts one for cause 2, 3 or 4"; another cause 1 keeps it
+keepsAge ByMessage = false  -- ".. or an abort message arrives"
 
 -- "every transaction's end frees its locks"
-unfoldable pub finish : ℕ → Serving → Serving
-finish i x =
+unfoldable pub finish : ℕ → End → Serving → Serving
+finish i e x =
     let s = x .server in
-    onServer x (setFin (setOl (setWl (setAsked s
+    onServer x (setAgeKept (setFin (setOl (setWl (setAsked s
     (λ p. not (eqb (s .wl p) (suc i)) && s .asked p))
     (λ p. cond (eqb (s .wl p) (suc i)) 0 (s .wl p)))
     (λ a. cond (eqb (s .ol a) (suc i)) 0 (s .ol a)))
     (upd (s .fin) i true))
+    (upd (s .ageKept) i (keepsAge e)))
 
 unfoldable pub join : ℕ → Waiter → Serving → Serving
 join i w x = let s = x .server in onServer x (setQueue (setArrivals s (s .arrivals + 1)) (upd (s .queue) i w))
@@ -237,7 +268,7 @@ unavailable s i a b = eqb (pageOf b) (pageOf a) && not (eqb b a) && (other (s .o
 
 -- 22: "its locks and request go"                                                   P.abort, and U3l with cause 4
 unfoldable pub abort : ℕ → ℕ → Serving → Serving
-abort i c x = let y = finish i (leave i x) in send y i (Aborted (y .server .latest i) c)
+abort i c x = let y = finish i (ByCause c) (leave i x) in send y i (Aborted (y .server .latest i) c)
 
 -- "Install: write values, archive the record, free locks, send 21, then, stations rising, 23 with all written pages to other
 -- validating stations listed for one"                                              P.inst, and U3l
@@ -271,7 +302,7 @@ informFrom zero j i w x = x
 informFrom (suc n) j i w x = informFrom n (suc j) i w (inform i w j x)
 
 unfoldable pub install : ℕ → Work → Serving → Serving
-install i w x = let y = finish i (archive i w (write w (leave i x))) in informFrom 8 0 i w (send y i (Committed (w .transaction) (y .server .last)))
+install i w x = let y = finish i ByCommit (archive i w (write w (leave i x))) in informFrom 8 0 i w (send y i (Committed (w .transaction) (y .server .last)))
 
 -- accept: the message's own effect
 
@@ -336,7 +367,7 @@ unfoldable pub accept : ℕ → Up → Serving → Serving
 accept i (ReadRequest a t) x = cond (locking (x .server .kind i)) (joinRead i a (notice i t x)) (serveNow i a (notice i t x))
 accept i (WriteRequest a t) x = joinWrite i a (notice i t x)
 accept i (Commit w) x = cond (locking (x .server .kind i)) (commitNow i w (notice i (w .transaction) x)) (joinCommit i w (notice i (w .transaction) x))
-accept i (Abort t) x = finish i (notice i t x)
+accept i (Abort t) x = finish i ByMessage (notice i t x)
 accept i (Purge p) x = unlist i (λ q. eqb q p) x
 accept i (Busy r t) x = cond (openCall (x .server) i r t) (markBusy i r x) x
 accept i (Done r t d) x = let y = unlist i d x in cond (openCall (x .server) i r t) (answered i r y) y

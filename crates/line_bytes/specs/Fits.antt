@@ -16,18 +16,19 @@ use Rattle.cells.specs.Bits.{tb, tb-or, tb-high}
 use Rattle.cells.specs.Cells.{view, view-col, view-row, cell-lt, get32}
 use Rattle.line.specs.Messages.{locking}
 use Rattle.line.specs.Server.{Server, Want, NoWant, WantRead, WantWrite, WantCommit, isWant}
-use Rattle.line.specs.Apart.{Holder, Locks, Ages, Entry, Waiting}
+use Rattle.line.specs.Apart.{Holder, Locks, Ages, Entry, Waiting, ageCounts}
 use Rattle.line.specs.Fit.{LimitedWork, calls, One, Owes, Form, Forms, Fit}
 use Rattle.station_state.specs.Layout.{numberWidth, hasBit, member, countIn, noneIn}
 use Rattle.station_state.specs.Sets.{none-member}
 use Rattle.station_meaning.specs.Meant.{within}
 use Rattle.station_meaning.specs.Tests.{has-if}
 use Rattle.server_state.specs.Layout.{table, askedCell, kindCell, lockCell, wholeCell, readSetCell, writtenSetCell, readValueCell, writtenValueCell, workCell, workFrom, pendFrom, requestFrom, workNumber, lockOf, wholeOf, readSetFrom, writtenSetFrom, kindOf, wantOf, requestOf, calledOf, pendOf, busyOf, unfinishedOf}
+use Rattle.server_state.specs.Valid.{ageless}
 use Rattle.server_state.specs.Facts.{Ranged}
 use Rattle.server_state.specs.Facts as Bytes
 use Rattle.server_state.specs.Sets.{only-member}
 use Rattle.server_meaning.specs.Meant.{wantAs, Is, start}
-use Rattle.server_meaning.specs.Tests.{bit-is, age-at, arrival-at, ages-at, arrivals-at, latest-at, lock-at, whole-at, kind-at, request-at, called-at, fin-at, want-at, waits-at, work-at, asked-at, pend-at, busy-at, reads-at, writes-at, reads-high, writes-high}
+use Rattle.server_meaning.specs.Tests.{bit-is, age-at, arrival-at, ages-at, arrivals-at, latest-at, lock-at, whole-at, kind-at, request-at, called-at, fin-at, ageless-at, want-at, waits-at, work-at, asked-at, pend-at, busy-at, reads-at, writes-at, reads-high, writes-high}
 use Rattle.step_meaning.specs.Relation.{Sound}
 
 -- WHAT IS WAITED FOR, AS A NUMBER
@@ -163,12 +164,15 @@ module _ {s : List ℕ} {m : Server} (h : Is s m) where
     locks-of : Locks (m .kind) (m .fin) (m .ol) (m .wl) (m .asked)
     locks-of = record { whole-alone = alone; object-open = object-held; whole-open = whole-held; asked-held = asked-held }
 
-    ages-of : Ages (m .fin) (m .age) (m .ages)
+    counting : (i : ℕ) → i < 8 → ageCounts (m .fin i) (m .ageKept i) ≡ true → ageless s i ≡ false
+    counting i l e = ageless-at h i l ∙ ap not e
+
+    ages-of : Ages (m .fin) (m .ageKept) (m .age) (m .ages)
     ages-of =
         record {
           ages-apart = λ i j li lj fi fj e.
               byEq i j (λ q. eqb-yes i j q)
-              (λ q. absurd (r .ages-apart i j li lj (eqb-no i j q) (working i li fi) (working j lj fj) (age-at h i li ∙ e ∙ sym (age-at h j lj))));
+              (λ q. absurd (r .ages-apart i j li lj (eqb-no i j q) (counting i li fi) (counting j lj fj) (age-at h i li ∙ e ∙ sym (age-at h j lj))));
           ages-given = λ i l. rw (← age-at h i l, ← ages-at h) (r .age-given i l);
         }
 

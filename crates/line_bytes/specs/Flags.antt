@@ -1,5 +1,5 @@
--- "a field out of range": the bytes of the server's state that its meaning does not tell apart, what a station wants, its 20s sent and its
--- transaction unfinished, stay in range through every step; with them the address that it requests.
+-- "a field out of range": the bytes of the server's state that its meaning does not tell apart, what a station wants, its 20s sent, its
+-- transaction unfinished and its age kept, stay in range through every step; with them the address that it requests.
 use Prim.Native.Nat.{ℕ, zero, suc, _+_, _*_, _/_, _%_, _≤_, _<_}
 use mathlib.Core.Path.{_≡_, refl}
 use mathlib.Core.Bool.{Bool, true, false, not, _&&_, cond}
@@ -9,7 +9,7 @@ use native.Mathlib.Omega.{arith}
 use lib.Dec.{eqb}
 use lib.ListN.{getD, set, replicate}
 use lib.Seq.{getD-set-other}
-use Rattle.sets.specs.Laws.{byB, eqb-yes, eqb-no}
+use Rattle.sets.specs.Laws.{byB, byEq, eqb-yes, eqb-no}
 use Rattle.le.specs.Le.{u16At, u64At, setU32, setU64}
 use Rattle.le.specs.Laws.{setU32-is}
 use Rattle.cells.specs.Num.{AllBytes, put-other}
@@ -22,10 +22,10 @@ use Rattle.message_meaning.specs.UpAccepted.{UpAccepted, up-accepted}
 use Rattle.station_state.specs.Layout.{pageSetWidth, numberWidth, valueWidth, hasBit, member}
 use Rattle.station_state.specs.Changes.{addTo, pageOn, pageOff, clearTo}
 use Rattle.server_state.specs.Valid.{kindsTo, freshServer}
-use Rattle.server_state.specs.Layout.{ageWidth, valueFrom, valueRow, setRow, ageFrom, arrivalFrom, nextAgeFrom, nextArrivalFrom, versionFrom, workFrom, latestFrom, listedFrom, lastFrom, askedFrom, lockFrom, wholeFrom, kindFrom, wantFrom, requestFrom, calledFrom, pendFrom, busyFrom, unfinishedFrom, readValuesFrom, sentVersionsFrom, readSetFrom, serverLength, agesOf, latestOf, lastOf, lockOf, wholeOf, askedOf, arrivalOf, writtenSet, writtenSetFrom, writtenValuesFrom, wantOf, requestOf, calledOf, pendOf, lockingB}
+use Rattle.server_state.specs.Layout.{ageWidth, valueFrom, valueRow, setRow, ageFrom, arrivalFrom, nextAgeFrom, nextArrivalFrom, versionFrom, workFrom, latestFrom, listedFrom, lastFrom, askedFrom, lockFrom, wholeFrom, kindFrom, wantFrom, requestFrom, calledFrom, pendFrom, busyFrom, unfinishedFrom, ageKeptFrom, readValuesFrom, sentVersionsFrom, readSetFrom, serverLength, agesOf, ageKeptOf, latestOf, lastOf, lockOf, wholeOf, askedOf, arrivalOf, writtenSet, writtenSetFrom, writtenValuesFrom, wantOf, requestOf, calledOf, pendOf, lockingB}
 use Rattle.server_tests.specs.Tests.{openCallB, openAskB, faultB, blockedB, shutB, shutOutB, hinderedB, informedB}
 use Rattle.server_order.specs.Order.{comesFirst, firstTo, edgesTo, youngerB, youngestTo, victimB}
-use Rattle.server_changes.specs.Changes.{noticeB, freePageB, freePagesTo, freeOneB, freeTo, finishB, leaveB, joinB, joinReadB, joinWriteB, unpackOne, unpackTo, versionsIn, unpackB, joinCommitB, listB, unlistB, markBusyB, answeredB, lockOneB, lockTo, loosenB, askedB, calledB, lockPageB, lockObjectB, versionOneB, versionsTo, valueOneB, valuesTo, writeB}
+use Rattle.server_changes.specs.Changes.{newAgeB, ageB, noticeB, keepsAgeB, freePageB, freePagesTo, freeOneB, freeTo, finishB, leaveB, joinB, joinReadB, joinWriteB, unpackOne, unpackTo, versionsIn, unpackB, joinCommitB, listB, unlistB, markBusyB, answeredB, lockOneB, lockTo, loosenB, askedB, calledB, lockPageB, lockObjectB, versionOneB, versionsTo, valueOneB, valuesTo, writeB}
 use Rattle.server_actions.specs.Actions.{Serving, serving, sendPageB, abortB, informB, informTo, installB, commitNowB, addressOf, noticedB, onReadB, onWriteB, onCommitB, onAbortB, onPurgeB, onBusyB, onDoneB, onWrittenSetB, acceptB}
 use Rattle.server_actions.specs.Pass.{askB, askTo, serveReadB, callOneB, callTo, callB, callOnceB, grantPageB, grantObjectB, grantB, afterCallsB, proceedB, gatesB, visitB, orderB, passB, movedB, settleB, serverStepB}
 
@@ -34,6 +34,7 @@ pub record Flagged (s : List ℕ) : Type 0 where
   pub requests : (j : ℕ) → j < 8 → getD s (requestFrom + j) 0 ≤ 255
   pub calleds : (j : ℕ) → j < 8 → getD s (calledFrom + j) 0 ≤ 1
   pub unfinisheds : (j : ℕ) → j < 8 → getD s (unfinishedFrom + j) 0 ≤ 1
+  pub kepts : (j : ℕ) → j < 8 → getD s (ageKeptFrom + j) 0 ≤ 1
 
 -- STORES
 
@@ -58,6 +59,7 @@ module _ {s : List ℕ} (k : Flagged s) where
         requests = λ j l. set-off 255 s at v (requestFrom + j) (λ e. omega arith) (k .requests j l);
         calleds = λ j l. set-off 1 s at v (calledFrom + j) (λ e. omega arith) (k .calleds j l);
         unfinisheds = λ j l. set-off 1 s at v (unfinishedFrom + j) (λ e. omega arith) (k .unfinisheds j l);
+        kepts = λ j l. set-off 1 s at v (ageKeptFrom + j) (λ e. omega arith) (k .kepts j l);
       }
 
   low-u32 : (at v : ℕ) → at + 4 ≤ wantFrom → Flagged (setU32 s at v)
@@ -67,6 +69,7 @@ module _ {s : List ℕ} (k : Flagged s) where
         requests = λ j l. rw (setU32-is s at v, put-other 4 s at v (requestFrom + j) (inr (omega arith))) (k .requests j l);
         calleds = λ j l. rw (setU32-is s at v, put-other 4 s at v (calledFrom + j) (inr (omega arith))) (k .calleds j l);
         unfinisheds = λ j l. rw (setU32-is s at v, put-other 4 s at v (unfinishedFrom + j) (inr (omega arith))) (k .unfinisheds j l);
+        kepts = λ j l. rw (setU32-is s at v, put-other 4 s at v (ageKeptFrom + j) (inr (omega arith))) (k .kepts j l);
       }
 
   want-set : (i v : ℕ) → i < 8 → v ≤ 3 → Flagged (set s (wantFrom + i) v)
@@ -76,6 +79,7 @@ module _ {s : List ℕ} (k : Flagged s) where
         requests = λ j l. set-off 255 s (wantFrom + i) v (requestFrom + j) (λ e. omega arith) (k .requests j l);
         calleds = λ j l. set-off 1 s (wantFrom + i) v (calledFrom + j) (λ e. omega arith) (k .calleds j l);
         unfinisheds = λ j l. set-off 1 s (wantFrom + i) v (unfinishedFrom + j) (λ e. omega arith) (k .unfinisheds j l);
+        kepts = λ j l. set-off 1 s (wantFrom + i) v (ageKeptFrom + j) (λ e. omega arith) (k .kepts j l);
       }
 
   request-set : (i v : ℕ) → i < 8 → v < 256 → Flagged (set s (requestFrom + i) v)
@@ -85,6 +89,7 @@ module _ {s : List ℕ} (k : Flagged s) where
         requests = λ j l. set-le 255 s (requestFrom + i) v (omega arith) (requestFrom + j) (k .requests j l);
         calleds = λ j l. set-off 1 s (requestFrom + i) v (calledFrom + j) (λ e. omega arith) (k .calleds j l);
         unfinisheds = λ j l. set-off 1 s (requestFrom + i) v (unfinishedFrom + j) (λ e. omega arith) (k .unfinisheds j l);
+        kepts = λ j l. set-off 1 s (requestFrom + i) v (ageKeptFrom + j) (λ e. omega arith) (k .kepts j l);
       }
 
   called-set : (i v : ℕ) → i < 8 → v ≤ 1 → Flagged (set s (calledFrom + i) v)
@@ -94,6 +99,7 @@ module _ {s : List ℕ} (k : Flagged s) where
         requests = λ j l. set-off 255 s (calledFrom + i) v (requestFrom + j) (λ e. omega arith) (k .requests j l);
         calleds = λ j l. set-le 1 s (calledFrom + i) v lv (calledFrom + j) (k .calleds j l);
         unfinisheds = λ j l. set-off 1 s (calledFrom + i) v (unfinishedFrom + j) (λ e. omega arith) (k .unfinisheds j l);
+        kepts = λ j l. set-off 1 s (calledFrom + i) v (ageKeptFrom + j) (λ e. omega arith) (k .kepts j l);
       }
 
   unfinished-set : (i v : ℕ) → i < 8 → v ≤ 1 → Flagged (set s (unfinishedFrom + i) v)
@@ -103,6 +109,17 @@ module _ {s : List ℕ} (k : Flagged s) where
         requests = λ j l. set-off 255 s (unfinishedFrom + i) v (requestFrom + j) (λ e. omega arith) (k .requests j l);
         calleds = λ j l. set-off 1 s (unfinishedFrom + i) v (calledFrom + j) (λ e. omega arith) (k .calleds j l);
         unfinisheds = λ j l. set-le 1 s (unfinishedFrom + i) v lv (unfinishedFrom + j) (k .unfinisheds j l);
+        kepts = λ j l. set-off 1 s (unfinishedFrom + i) v (ageKeptFrom + j) (λ e. omega arith) (k .kepts j l);
+      }
+
+  kept-set : (i v : ℕ) → i < 8 → v ≤ 1 → Flagged (set s (ageKeptFrom + i) v)
+  kept-set i v li lv =
+      record {
+        wants = λ j l. set-off 3 s (ageKeptFrom + i) v (wantFrom + j) (λ e. omega arith) (k .wants j l);
+        requests = λ j l. set-off 255 s (ageKeptFrom + i) v (requestFrom + j) (λ e. omega arith) (k .requests j l);
+        calleds = λ j l. set-off 1 s (ageKeptFrom + i) v (calledFrom + j) (λ e. omega arith) (k .calleds j l);
+        unfinisheds = λ j l. set-off 1 s (ageKeptFrom + i) v (unfinishedFrom + j) (λ e. omega arith) (k .unfinisheds j l);
+        kepts = λ j l. set-le 1 s (ageKeptFrom + i) v lv (ageKeptFrom + j) (k .kepts j l);
       }
 
   -- the stations that owe a 7, and those that sent 6
@@ -113,7 +130,12 @@ module _ {s : List ℕ} (k : Flagged s) where
         requests = λ j l. set-off 255 s at v (requestFrom + j) (λ e. omega arith) (k .requests j l);
         calleds = λ j l. set-off 1 s at v (calledFrom + j) (λ e. omega arith) (k .calleds j l);
         unfinisheds = λ j l. set-off 1 s at v (unfinishedFrom + j) (λ e. omega arith) (k .unfinisheds j l);
+        kepts = λ j l. set-off 1 s at v (ageKeptFrom + j) (λ e. omega arith) (k .kepts j l);
       }
+
+flag-le : (c : ℕ) → keepsAgeB c ≤ 1
+unfolding keepsAgeB
+flag-le c = byEq c 1 (λ e. rw e (omega arith)) (λ e. rw e (omega arith))
 
 low-u64 : {s : List ℕ} → Flagged s → (at v : ℕ) → at + 8 ≤ wantFrom → Flagged (setU64 s at v)
 unfolding setU64
@@ -204,14 +226,16 @@ module _ {s : List ℕ} (k : Flagged s) where
   unlisted i d l = low-u32 k (listedFrom + i * pageSetWidth) _ (omega arith)
 
   noticed : (i t : ℕ) → i < 8 → Flagged (noticeB i t s)
-  unfolding noticeB
+  unfolding noticeB ageB newAgeB
   noticed i t l =
-      let ages = low-u64 (low-u64 k (ageFrom + i * ageWidth) (agesOf s) (omega arith)) nextAgeFrom (agesOf s + 1) (omega arith) in
+      let new = low-u64 (low-u64 k (ageFrom + i * ageWidth) (agesOf s) (omega arith)) nextAgeFrom (agesOf s + 1) (omega arith) in
+      let ages = either (eqb (ageKeptOf s i) 0) new k in
       either (eqb t (latestOf s i)) k (low-u32 (unfinished-set ages i 1 l (omega arith)) (latestFrom + i * numberWidth) t (omega arith))
 
-  finished : (i : ℕ) → i < 8 → Flagged (finishB i s)
+  finished : (i v : ℕ) → i < 8 → v ≤ 1 → Flagged (finishB i v s)
   unfolding finishB
-  finished i l = unfinished-set (locks-freed (pages-freed k i 32 (omega arith)) i 256 (omega arith)) i 0 l (omega arith)
+  finished i v l lv =
+      kept-set (unfinished-set (locks-freed (pages-freed k i 32 (omega arith)) i 256 (omega arith)) i 0 l (omega arith)) i v l lv
 
   left : (i : ℕ) → i < 8 → Flagged (leaveB i s)
   unfolding leaveB
@@ -303,7 +327,7 @@ page-sent kind i a u x l h = fine _ _ _ (listed (h .flags) i (a / 8) l)
 
 aborted : (i c : ℕ) (x : Serving) → i < 8 → Fine x → Fine (abortB i c x)
 unfolding abortB
-aborted i c x l h = fine _ _ _ (finished (left (h .flags) i l) i l)
+aborted i c x l h = fine _ _ _ (finished (left (h .flags) i l) i (keepsAgeB c) l (flag-le c))
 
 informed : (i d : ℕ) (x : Serving) → Fine x → (n : ℕ) → n ≤ 8 → Fine (informTo i d x n)
 unfolding informTo informB
@@ -314,7 +338,7 @@ informed i d x h (suc n) q =
 
 installed : (i : ℕ) (x : Serving) → i < 8 → Fine x → Fine (installB i x)
 unfolding installB
-installed i x l h = informed i _ _ (fine _ _ _ (finished (left (written (h .flags) i) i l) i l)) 8 (omega arith)
+installed i x l h = informed i _ _ (fine _ _ _ (finished (left (written (h .flags) i) i l) i 0 l (omega arith))) 8 (omega arith)
 
 next : (n k : ℕ) → n ≤ k → eqb k n ≡ false → suc n ≤ k
 next n k l e = omega (arith, eqb-no k n e)
@@ -357,7 +381,7 @@ module _ (kinds m : List ℕ) (ok : upNumber kinds m ≡ 0) (b : AllBytes m) (x 
 
   on-abort : Fine (onAbortB m x)
   unfolding onAbortB
-  on-abort = fine _ _ _ (finished (seen .flags) i own)
+  on-abort = fine _ _ _ (finished (seen .flags) i 0 own (omega arith))
 
   on-purge : Fine (onPurgeB m x)
   unfolding onPurgeB
@@ -525,6 +549,7 @@ blank-flagged n =
       requests = λ j l. rw (zeros-at n (requestFrom + j)) (omega arith);
       calleds = λ j l. rw (zeros-at n (calledFrom + j)) (omega arith);
       unfinisheds = λ j l. rw (zeros-at n (unfinishedFrom + j)) (omega arith);
+      kepts = λ j l. rw (zeros-at n (ageKeptFrom + j)) (omega arith);
     }
 
 kinds-flagged : {s : List ℕ} (kinds : List ℕ) → Flagged s → (n : ℕ) → n ≤ 8 → Flagged (kindsTo kinds s n)

@@ -94,13 +94,13 @@ module _ (m s : List ℕ) (bm : AllBytes m) (bs : AllBytes s) (v : valid s ≡ t
   flags : Flagged s
   flags =
       let r = valid-ranged s v in
-      record { wants = r .want-fits; requests = λ j l. omega (arith, bs (requestFrom + j)); calleds = r .called-fits; unfinisheds = r .unfinished-fits }
+      record { wants = r .want-fits; requests = λ j l. omega (arith, bs (requestFrom + j)); calleds = r .called-fits; unfinisheds = r .unfinished-fits; kepts = r .age-kept-fits }
 
   -- the counters go up by one at most
   counters : ((serverStep (stationOf m) (upOf m) (meant s)) .server .ages ≤ (meant s) .ages + 1) × ((serverStep (stationOf m) (upOf m) (meant s)) .server .arrivals ≤ (meant s) .arrivals + 1)
   counters =
       step-counts (λ L A N. (A ≤ (meant s) .ages + 1) × (N ≤ (meant s) .arrivals + 1)) (stationOf m) (upOf m) (meant s) expected
-      (record { stays = (omega arith, omega arith); joins = (omega arith, omega arith); begins = λ k. (omega arith, omega arith); begins-joins = λ k. (omega arith, omega arith) })
+      (record { stays = (omega arith, omega arith); joins = (omega arith, omega arith); begins = λ n a k. (omega arith, omega arith); begins-joins = λ n a k. (omega arith, omega arith) })
 
   pub ages-rise : agesOf ((serverStepB m s) .state) ≤ agesOf s + 1
   ages-rise = omega (arith, ages-at (stepped .state), ages-at is, counters .0)

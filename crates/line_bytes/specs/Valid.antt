@@ -10,20 +10,20 @@ use lib.Dec.{eqb}
 use lib.ListN.{length}
 use borrow.Author.Tests.{eqb-false, eq-eqb, ne-eqb, lt-ltb, le-leb}
 use Rattle.lists.specs.Tests.{allTo, allTo-of}
-use Rattle.sets.specs.Laws.{byB, byEq, eqb-yes, eqb-no}
+use Rattle.sets.specs.Laws.{byB, byEq, eqb-yes, eqb-no, not-no}
 use Rattle.cells.specs.Bits.{tb, tb-zero, tb-or, tb-tells}
 use Rattle.line.specs.Messages.{locking}
 use Rattle.line.specs.Server.{Server, Want, NoWant, WantRead, WantWrite, WantCommit, isWant, waits}
-use Rattle.line.specs.Apart.{Holder, Entry}
+use Rattle.line.specs.Apart.{Holder, ageCounts, Entry}
 use Rattle.line.specs.Fit.{calls, Form, Fit}
 use Rattle.limits.specs.Limit.{limit}
 use Rattle.station_state.specs.Layout.{hasBit, countIn, noneIn}
 use Rattle.station_state.specs.Sets.{members-none}
-use Rattle.server_state.specs.Layout.{counterLimit, kindFrom, wantFrom, calledFrom, unfinishedFrom, pendFrom, busyFrom, serverLength, ageOf, arrivalOf, agesOf, arrivalsOf, workNumber, latestOf, askedOf, lockOf, wholeOf, readSetFrom, writtenSetFrom, kindOf, wantOf, requestOf, calledOf, pendOf, busyOf, unfinishedOf}
-use Rattle.server_state.specs.Valid.{mostAt, most, rangesOk, countersOk, onlyIn, blankOk, fewOk, commitOk, requestOk, waiterOk, entryOk, owesAt, callsOk, agedOk, stationOk, holderOk, holderAt, besideAt, pageOk, askedAt, apartAt, apartOk, valid}
+use Rattle.server_state.specs.Layout.{counterLimit, kindFrom, wantFrom, calledFrom, unfinishedFrom, pendFrom, busyFrom, serverLength, ageOf, arrivalOf, agesOf, arrivalsOf, workNumber, latestOf, askedOf, lockOf, wholeOf, readSetFrom, writtenSetFrom, kindOf, wantOf, requestOf, calledOf, pendOf, busyOf, unfinishedOf, ageKeptFrom, ageKeptOf}
+use Rattle.server_state.specs.Valid.{mostAt, most, rangesOk, countersOk, onlyIn, blankOk, fewOk, commitOk, requestOk, waiterOk, entryOk, owesAt, callsOk, agedOk, stationOk, holderOk, holderAt, besideAt, pageOk, askedAt, apartAt, apartOk, valid, ageless}
 use Rattle.server_state.specs.Sets.{members-only}
 use Rattle.server_meaning.specs.Meant.{wantAs, Is}
-use Rattle.server_meaning.specs.Tests.{bit-is, kind-at, lock-at, whole-at, latest-at, fin-at, age-at, ages-at, arrival-at, arrivals-at, request-at, called-at, want-at, waits-at, asked-at, pend-at, busy-at}
+use Rattle.server_meaning.specs.Tests.{bit-is, kind-at, lock-at, whole-at, latest-at, fin-at, age-at, ages-at, arrival-at, arrivals-at, request-at, called-at, want-at, waits-at, asked-at, pend-at, busy-at, ageless-at}
 use Rattle.line_bytes.specs.Fits.{wantNumber, read-member, written-member, number-at, reads-count, writes-count}
 use Rattle.line_bytes.specs.Flags.{Flagged}
 
@@ -54,13 +54,11 @@ unless-not false b f = refl
 not-0 : (x : ℕ) → x ≢ 0 → not (eqb x 0) ≡ true
 not-0 x n = rw (ne-eqb x 0 n)
 
--- two numbers that differ, unless one of two others is 0
-neither : (x y a b : ℕ) → (x ≢ 0 → y ≢ 0 → a ≡ b → ⊥) → (eqb x 0 || eqb y 0 || not (eqb a b)) ≡ true
+-- two numbers that differ, unless one of two tests passes
+neither : (x y : Bool) (a b : ℕ) → (x ≡ false → y ≡ false → a ≡ b → ⊥) → (x || y || not (eqb a b)) ≡ true
 neither x y a b f =
-    byEq x 0 (λ e. or-l _ _ (or-l (eqb x 0) (eqb y 0) e))
-    (λ nx.
-    byEq y 0 (λ e. or-l _ _ (or-r (eqb x 0) (eqb y 0) e))
-    (λ ny. or-r (eqb x 0 || eqb y 0) _ (rw (ne-eqb a b (f (eqb-no x 0 nx) (eqb-no y 0 ny))))))
+    byB x (λ e. or-l _ _ (or-l x y e))
+    (λ nx. byB y (λ e. or-l _ _ (or-r x y e)) (λ ny. or-r (x || y) _ (rw (ne-eqb a b (f nx ny)))))
 
 -- a byte without bits
 no-bits : (x : ℕ) → x < 256 → ((k : ℕ) → k < 8 → hasBit x k ≡ false) → x ≡ 0
@@ -83,16 +81,21 @@ module _ {s : List ℕ} {m : Server} (h : Is s m) (k : Flagged s) (f : Fit m) wh
       both _ _
       (both _ _
       (both _ _
+      (both _ _
       (allTo-of (mostAt s kindFrom 1) 8 (λ i l. le-leb (kindOf s i) 1 (rw (kind-at h i l) (f .forms .kinds i))))
       (allTo-of (mostAt s wantFrom 3) 8 (λ i l. le-leb (wantOf s i) 3 (k .wants i l))))
       (allTo-of (mostAt s calledFrom 1) 8 (λ i l. le-leb (calledOf s i) 1 (k .calleds i l))))
-      (allTo-of (mostAt s unfinishedFrom 1) 8 (λ i l. le-leb (unfinishedOf s i) 1 (k .unfinisheds i l)))
+      (allTo-of (mostAt s unfinishedFrom 1) 8 (λ i l. le-leb (unfinishedOf s i) 1 (k .unfinisheds i l))))
+      (allTo-of (mostAt s ageKeptFrom 1) 8 (λ i l. le-leb (ageKeptOf s i) 1 (k .kepts i l)))
 
   waiting : (i : ℕ) → i < 8 → wantOf s i ≢ 0 → waits m i ≡ true
   waiting i l n = sym (waits-at h i l (k .wants i l)) ∙ not-0 (wantOf s i) n
 
   unfinished : (i : ℕ) → i < 8 → unfinishedOf s i ≢ 0 → m .fin i ≡ false
   unfinished i l n = sym (fin-at h i l) ∙ ne-eqb (unfinishedOf s i) 0 n
+
+  counting : (i : ℕ) → i < 8 → ageless s i ≡ false → ageCounts (m .fin i) (m .ageKept i) ≡ true
+  counting i l e = not-no (ageCounts (m .fin i) (m .ageKept i)) (sym (ageless-at h i l) ∙ e)
 
   working : (i : ℕ) → i < 8 → m .fin i ≡ false → unfinishedOf s i ≢ 0
   working i l e = eqb-false (unfinishedOf s i) 0 (fin-at h i l ∙ e)
@@ -271,15 +274,15 @@ module _ {s : List ℕ} {m : Server} (h : Is s m) (k : Flagged s) (f : Fit m) wh
   asked-ok p l = unless-not (hasBit (askedOf s) p) _ (λ t. not-0 (wholeOf s p) (λ z. f .apart .locks .asked-held p (sym (asked-at h p) ∙ t) (sym (whole-at h p l) ∙ z)))
 
   -- "equal ages or arrivals"
-  ages-differ : (i j : ℕ) → i < 8 → j < 8 → i ≢ j → (eqb (unfinishedOf s i) 0 || eqb (unfinishedOf s j) 0 || not (eqb (ageOf s i) (ageOf s j))) ≡ true
+  ages-differ : (i j : ℕ) → i < 8 → j < 8 → i ≢ j → (ageless s i || ageless s j || not (eqb (ageOf s i) (ageOf s j))) ≡ true
   ages-differ i j li lj d =
-      neither (unfinishedOf s i) (unfinishedOf s j) (ageOf s i) (ageOf s j)
-      (λ ui uj e. d (f .apart .aged .ages-apart i j li lj (unfinished i li ui) (unfinished j lj uj) (sym (age-at h i li) ∙ e ∙ age-at h j lj)))
+      neither (ageless s i) (ageless s j) (ageOf s i) (ageOf s j)
+      (λ ui uj e. d (f .apart .aged .ages-apart i j li lj (counting i li ui) (counting j lj uj) (sym (age-at h i li) ∙ e ∙ age-at h j lj)))
 
   arrivals-differ : (i j : ℕ) → i < 8 → j < 8 → i ≢ j → (eqb (wantOf s i) 0 || eqb (wantOf s j) 0 || not (eqb (arrivalOf s i) (arrivalOf s j))) ≡ true
   arrivals-differ i j li lj d =
-      neither (wantOf s i) (wantOf s j) (arrivalOf s i) (arrivalOf s j)
-      (λ wi wj e. d (f .apart .waiting .arrivals-apart i j li lj (waiting i li wi) (waiting j lj wj) (sym (arrival-at h i li) ∙ e ∙ arrival-at h j lj)))
+      neither (eqb (wantOf s i) 0) (eqb (wantOf s j) 0) (arrivalOf s i) (arrivalOf s j)
+      (λ wi wj e. d (f .apart .waiting .arrivals-apart i j li lj (waiting i li (eqb-no (wantOf s i) 0 wi)) (waiting j lj (eqb-no (wantOf s j) 0 wj)) (sym (arrival-at h i li) ∙ e ∙ arrival-at h j lj)))
 
   apart-ok : (i : ℕ) → i < 8 → apartOk s i ≡ true
   unfolding apartOk apartAt

@@ -26,7 +26,7 @@ use Rattle.line_cases.specs.Seen.{Step, seenB}
 use Rattle.line_cases.specs.Shown.{inBytes, allRight, seen-is}
 use Rattle.line_cases.specs.Archived.{joined, archive-is}
 use Rattle.line_cases.specs.Rows.{kinds, OfLine, calls, Runs, Comes, PartHolds, Holds, AllHold}
-use Rattle.line_cases.specs.Table.{C1, C2, C3, C4, C5, C6, C7, C8, C9, C10, C11, commits12, readOf8By1, C12, longReads, longWrites, longCommits, table}
+use Rattle.line_cases.specs.Table.{C1, C2, C3, C4, C5, C6, C7, C8, C9, C10, C11, commits12, readOf8By1, C12, longReads, longWrites, longCommits, table, C6Again}
 
 kinds-ok : kindsOk kinds ≡ true
 unfolding kindsOk most mostAt allTo
@@ -121,3 +121,8 @@ longCommits-holds = (comes _ _ 0 refl refl, (comes _ _ 5 refl refl, (comes _ _ 5
 pub table-of-bytes : AllHold table
 unfolding table
 table-of-bytes = (C1-holds, (C2-holds, (C3-holds, (C4-holds, (C5-holds, (C6-holds, (C7-holds, (C8-holds, (C9-holds, (C10-holds, (C11-holds, (C12-holds, (longReads-holds, (longWrites-holds, (longCommits-holds, tt)))))))))))))))
+
+-- wish 2
+pub C6-again-of-bytes : Holds C6Again
+unfolding C6Again seen message bytes bytesOf header
+C6-again-of-bytes = (runs _ _ refl refl refl, tt)

@@ -135,11 +135,10 @@ C5 =
     []
     ∷ [])
 
-unfoldable pub C6 : Row
-C6 =
-    row "C6 0, then 2, read 8, and both write it: 2 gets cause 1."
-    (OfLine
-    (reads 0 0
+-- 0, then 2, read 8, and both write it
+abbrev beaten : List Step
+beaten =
+    reads 0 0
     ++ reads 2 0
     ++ (asks 5
     ∷ sends (Owner 2 (Write 8 6)) Waits (message 2 2 1 0 1 0 0 [] ∷ [])
@@ -150,9 +149,10 @@ C6 =
     ∷ sends (StationTakes 2) (AbortedFor 1) (message 7 2 0 0 1 2 0 [] ∷ [])
     ∷ serves 2 whole
     ∷ answers (StationTakes 0) Written
-    ∷ []))
-    []
     ∷ [])
+
+unfoldable pub C6 : Row
+C6 = row "C6 0, then 2, read 8, and both write it: 2 gets cause 1." (OfLine beaten [] ∷ [])
 
 unfoldable pub C7 : Row
 C7 =
@@ -343,3 +343,41 @@ C12 =
 
 unfoldable pub table : List Row
 table = C1 ∷ C2 ∷ C3 ∷ C4 ∷ C5 ∷ C6 ∷ C7 ∷ C8 ∷ C9 ∷ C10 ∷ C11 ∷ C12 ∷ longReads ∷ longWrites ∷ longCommits ∷ []
+
+-- WISH 2: "A beaten transaction keeps its age."
+
+-- page 1 with 5 at its object 0 and version 1, for a transaction 2 of station 2
+abbrev fives : ℕ → List ℕ
+fives k = message k 2 1 0 2 0 1 (replicate setsLength 0 ++ (5 ∷ []))
+
+-- 0 commits; its next transaction comes first, by a read of 16, then that of 2; both have read 8, and both write it
+abbrev repeats : List Step
+repeats =
+    sends (Owner 0 Commits) Waits (commit 0 1 2 [] (recorded 1 1 0 1 0 0 (8 ∷ 8 ∷ []) (0 ∷ 5 ∷ [])) ∷ [])
+    ∷ step (ServerTakes 0) Nothing (message 21 0 0 0 1 0 1 [] ∷ []) (recorded 1 1 1 1 0 0 (8 ∷ 8 ∷ []) (0 ∷ 5 ∷ []))
+    ∷ answers (StationTakes 0) (CommittedAs 1)
+    ∷ answers (Owner 0 Begin) (Begun 2)
+    ∷ sends (Owner 0 (Read 16)) Waits (message 1 0 2 0 2 0 0 [] ∷ [])
+    ∷ serves 0 (message 16 0 2 0 2 0 0 [] ∷ [])
+    ∷ answers (StationTakes 0) (Value 0)
+    ∷ answers (Owner 0 (Read 8)) (Value 5)
+    ∷ answers (Owner 2 Begin) (Begun 2)
+    ∷ sends (Owner 2 (Read 8)) Waits (message 1 2 1 0 2 0 0 [] ∷ [])
+    ∷ serves 2 (fives 16 ∷ [])
+    ∷ answers (StationTakes 2) (Value 5)
+    ∷ sends (Owner 0 (Write 8 6)) Waits (message 2 0 1 0 2 0 0 [] ∷ [])
+    ∷ sends (Owner 2 (Write 8 7)) Waits (message 2 2 1 0 2 0 0 [] ∷ [])
+    ∷ serves 0 (message 20 2 0 0 2 0 0 (0 ∷ 1 ∷ []) ∷ [])
+    ∷ serves 2 []
+    ∷ sends (StationTakes 2) Nothing (message 6 2 0 0 2 0 0 [] ∷ [])
+    ∷ serves 2 (message 22 0 0 1 2 0 0 [] ∷ message 20 0 2 0 2 0 0 (0 ∷ 1 ∷ []) ∷ [])
+    ∷ answers (StationTakes 0) (AbortedFor 1)
+    ∷ sends (StationTakes 0) Nothing (message 7 0 2 0 2 2 0 [] ∷ [])
+    ∷ serves 0 (fives 18 ∷ [])
+    ∷ answers (StationTakes 2) Written
+    ∷ []
+
+unfoldable pub C6Again : Row
+C6Again =
+    row "C6 again: 2, which got cause 1, repeats behind a new transaction of 0, and 0 gets cause 1."
+    (OfLine (beaten ++ repeats) (recorded 1 1 1 1 0 0 (8 ∷ 8 ∷ []) (0 ∷ 5 ∷ [])) ∷ [])

@@ -15,9 +15,9 @@ use Rattle.message.specs.Layout.{messageLength, kindOf, stationOf, pageOf, requ
 use Rattle.message.specs.Commit.{addressesAt, entriesOf}
 use Rattle.layout.specs.Record.{entryLength}
 use Rattle.station_state.specs.Layout.{numberWidth}
-use Rattle.server_state.specs.Layout.{ageWidth, counterLimit, ageFrom, nextAgeFrom, nextArrivalFrom, versionFrom, latestFrom, unfinishedFrom, agesOf, arrivalsOf, latestOf, lastOf}
+use Rattle.server_state.specs.Layout.{ageWidth, counterLimit, ageFrom, nextAgeFrom, nextArrivalFrom, versionFrom, latestFrom, unfinishedFrom, agesOf, arrivalsOf, latestOf, ageKeptOf, lastOf}
 use Rattle.server_tests.specs.Kinds.{ForServer}
-use Rattle.server_changes.specs.Changes.{noticeB, leaveB, unpackB}
+use Rattle.server_changes.specs.Changes.{newAgeB, ageB, noticeB, leaveB, unpackB}
 use Rattle.server_actions.specs.Actions.{addressOf}
 
 -- the record of a commit is whole
@@ -50,19 +50,26 @@ u32-other : (s : List ℕ) (at v j : ℕ) → (j < at) ⊎ (at + 4 ≤ j) → ge
 u32-other s at v j h = rw (setU32-is s at v) (put-other 4 s at v j h)
 
 -- the next arrival stands behind ages and before transactions
+age-other : (i : ℕ) (s : List ℕ) → i < 8 → (j : ℕ) → nextArrivalFrom ≤ j → getD (ageB i s) j 0 ≡ getD s j 0
+unfolding ageB newAgeB
+age-other i s l j a =
+    let s₁ = setU64 s (ageFrom + i * ageWidth) (agesOf s) in
+    byEq (ageKeptOf s i) 0
+    (λ e.
+    rw e
+    (u64-other s₁ nextAgeFrom (agesOf s + 1) j (inr (omega arith))
+    ∙ u64-other s (ageFrom + i * ageWidth) (agesOf s) j (inr (omega arith))))
+    (λ e. rw e)
+
 notice-other : (i t : ℕ) (s : List ℕ) → i < 8 → (j : ℕ) → nextArrivalFrom ≤ j → j < versionFrom → getD (noticeB i t s) j 0 ≡ getD s j 0
 unfolding noticeB
 notice-other i t s l j a b =
-    let s₁ = setU64 s (ageFrom + i * ageWidth) (agesOf s) in
-    let s₂ = setU64 s₁ nextAgeFrom (agesOf s + 1) in
-    let s₃ = set s₂ (unfinishedFrom + i) 1 in
     byEq t (latestOf s i) (λ e. rw e)
     (λ e.
     rw e
-    (u32-other s₃ (latestFrom + i * numberWidth) t j (inl (omega arith))
-    ∙ getD-set-other s₂ (unfinishedFrom + i) j 1 0 (λ d. omega arith)
-    ∙ u64-other s₁ nextAgeFrom (agesOf s + 1) j (inr (omega arith))
-    ∙ u64-other s (ageFrom + i * ageWidth) (agesOf s) j (inr (omega arith))))
+    (u32-other (set (ageB i s) (unfinishedFrom + i) 1) (latestFrom + i * numberWidth) t j (inl (omega arith))
+    ∙ getD-set-other (ageB i s) (unfinishedFrom + i) j 1 0 (λ d. omega arith)
+    ∙ age-other i s l j a))
 
 pub notice-arrivals : (i t : ℕ) (s : List ℕ) → i < 8 → arrivalsOf (noticeB i t s) ≡ arrivalsOf s
 notice-arrivals i t s l =

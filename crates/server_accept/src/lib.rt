@@ -107,7 +107,7 @@ fn on_abort(s: &mut [u8], m: &[u8])
     ensures { λ _. ⌜ now (s .exit) ≡ onAbortB (now (m .entry)) (Posting·from (now (s .entry))) .state ⌝ }
 {
     noticed(s, m);
-    server_changes::finish(s, station(m));
+    server_changes::finish(s, station(m), 0);
 }
 
 fn on_purge(s: &mut [u8], m: &[u8])

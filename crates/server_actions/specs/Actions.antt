@@ -13,7 +13,7 @@ use Rattle.station_state.specs.Layout.{hasBit}
 use Rattle.set_record.specs.Record.{recordFrom}
 use Rattle.server_state.specs.Layout.{pageRow, setRow, pageValuesFrom, readValuesFrom, writtenValuesFrom, versionOf, workNumber, latestOf, lastOf, askedOf, wholeOf, readSetFrom, writtenSetFrom, kindOf, requestOf, lockingB}
 use Rattle.server_tests.specs.Tests.{openCallB, openAskB, shutB, concernedSet, hinderedB, unavailableB, writtenPagesB, informedB}
-use Rattle.server_changes.specs.Changes.{noticeB, finishB, leaveB, joinReadB, joinWriteB, joinCommitB, unpackB, listB, unlistB, markBusyB, answeredB, loosenB, askedB, calledB, lockPageB, lockObjectB, writeB}
+use Rattle.server_changes.specs.Changes.{noticeB, keepsAgeB, finishB, leaveB, joinReadB, joinWriteB, joinCommitB, unpackB, listB, unlistB, markBusyB, answeredB, loosenB, askedB, calledB, lockPageB, lockObjectB, writeB}
 
 -- a step under way: the state, the messages sent in order, the records archived
 pub record Serving : Type 0 where
@@ -69,7 +69,7 @@ sendPageB kind i a u x = send (onState x (listB i (a / 8) (x .state))) (pageB ki
 
 -- 22: "its locks and request go"
 unfoldable pub abortB : ℕ → ℕ → Serving → Serving
-abortB i c x = let s = finishB i (leaveB i (x .state)) in send (onState x s) (abortedB i (latestOf s i) c)
+abortB i c x = let s = finishB i (keepsAgeB c) (leaveB i (x .state)) in send (onState x s) (abortedB i (latestOf s i) c)
 
 -- 23 with the pages d to station j, which is then no longer listed for them
 unfoldable pub informB : ℕ → ℕ → Serving → ℕ → Serving
@@ -84,7 +84,7 @@ informTo i d x (suc j) = informB i d (informTo i d x j) j
 unfoldable pub installB : ℕ → Serving → Serving
 installB i x =
     let s = writeB i (x .state) in
-    let t = finishB i (leaveB i s) in
+    let t = finishB i 0 (leaveB i s) in
     informTo i (writtenPagesB (x .state) i) (serving t (snoc (x .sent) (committedB i (workNumber (x .state) i) (lastOf t))) (snoc (x .recs) (recordB i s))) 8
 
 -- accept: the message's own effect
@@ -116,7 +116,7 @@ onCommitB m x =
     cond (lockingB (x .state) i) (commitNowB i m y) (onState y (joinCommitB i m (y .state)))
 
 unfoldable pub onAbortB : List ℕ → Serving → Serving
-onAbortB m x = let y = noticedB m x in onState y (finishB (stationOf m) (y .state))
+onAbortB m x = let y = noticedB m x in onState y (finishB (stationOf m) 0 (y .state))
 
 unfoldable pub onPurgeB : List ℕ → Serving → Serving
 onPurgeB m x = onState x (unlistB (stationOf m) (2 ^ pageOf m) (x .state))

@@ -13,7 +13,7 @@ use Rattle.server_state.specs.Layout.{latestOf, lastOf, workNumber, kindOf, rea
 use Rattle.station_state.specs.Layout.{hasBit}
 use Rattle.server_tests.specs.Tests.{writtenPagesB}
 use Rattle.server_sets.specs.Sets.{informedSet}
-use Rattle.server_changes.specs.Changes.{finishB, leaveB, listB, unlistB, writeB}
+use Rattle.server_changes.specs.Changes.{keepsAgeB, finishB, leaveB, listB, unlistB, writeB}
 use Rattle.server_actions.specs.Actions.{serving, pageB, abortedB, committedB, invalidateB, recordB, sendPageB, abortB, informTo, installB}
 use Rattle.server_actions.specs.declared.Counts.{Counts}
 use Rattle.station_callbacks.specs.Callbacks.{flat}
@@ -56,15 +56,15 @@ module _ (o q : List ℕ) (c : Counts) where
 
   pub abort-fits : (i cause : ℕ) (s : List ℕ) → Room o q c (abortB i cause (from s)) → c .messages * messageLength + messageLength ≤ length o
   unfolding abortB
-  abort-fits i cause s = let t = finishB i (leaveB i s) in one-fits t (abortedB i (latestOf t i) cause) [] []
+  abort-fits i cause s = let t = finishB i (keepsAgeB cause) (leaveB i s) in one-fits t (abortedB i (latestOf t i) cause) [] []
 
-  pub abort-chain : (i cause : ℕ) (s : List ℕ) {t : ℕ} {s₁ s₂ o₁ : List ℕ} {r : Counts} → s₁ ≡ leaveB i s → s₂ ≡ finishB i s₁ → t ≡ latestOf s₂ i
+  pub abort-chain : (i cause : ℕ) (s : List ℕ) {k t : ℕ} {s₁ s₂ o₁ : List ℕ} {r : Counts} → s₁ ≡ leaveB i s → k ≡ keepsAgeB cause → s₂ ≡ finishB i k s₁ → t ≡ latestOf s₂ i
       → o₁ ≡ sets o (c .messages * messageLength) (abortedB i t cause) → r ≡ counts (c .messages + 1) (c .records)
       → posted s₂ o₁ q r ≡ post o q c (abortB i cause (from s))
   unfolding abortB
-  abort-chain i cause s e₁ e₂ et eo er =
-      let t = finishB i (leaveB i s) in
-      sent-chain t (abortedB i (latestOf t i) cause) (eo ∙ rw (et, e₂, e₁)) (rw (e₂, e₁)) er
+  abort-chain i cause s e₁ ek e₂ et eo er =
+      let t = finishB i (keepsAgeB cause) (leaveB i s) in
+      sent-chain t (abortedB i (latestOf t i) cause) (eo ∙ rw (et, e₂, ek, e₁)) (rw (e₂, ek, e₁)) er
 
   -- 23
 
@@ -97,11 +97,11 @@ module _ (o q : List ℕ) (c : Counts) where
 
     pub installed-chain : {t n : ℕ} {s₁ s₂ s₃ o₁ q₁ : List ℕ} {e r : Counts} → t ≡ workNumber s i → s₁ ≡ writeB i s
         → (q₁ ≡ sets q (c .records) (recordB i s₁)) × (e ≡ counts (c .messages) (c .records + length (recordB i s₁)))
-        → s₂ ≡ leaveB i s₁ → s₃ ≡ finishB i s₂ → n ≡ lastOf s₃ → o₁ ≡ sets o (e .messages * messageLength) (committedB i t n) → r ≡ counts (e .messages + 1) (e .records)
+        → s₂ ≡ leaveB i s₁ → s₃ ≡ finishB i 0 s₂ → n ≡ lastOf s₃ → o₁ ≡ sets o (e .messages * messageLength) (committedB i t n) → r ≡ counts (e .messages + 1) (e .records)
         → posted s₃ o₁ q₁ r ≡ post o q c (installedB i (from s))
     unfolding installedB
     installed-chain et e₁ (eq, ee) e₂ e₃ en eo er =
-        let z = finishB i (leaveB i (writeB i s)) in
+        let z = finishB i 0 (leaveB i (writeB i s)) in
         rw (er, eo, en, eq, ee, et, e₃, e₂, e₁) (post-both o q c z (committedB i (workNumber s i) (lastOf z)) (recordB i (writeB i s)))
 
     pub install-first : Room o q c (installB i (from s)) → Room o q c (installedB i (from s))

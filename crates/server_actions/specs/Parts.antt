@@ -10,7 +10,7 @@ use Rattle.message.specs.Layout as Message
 use Rattle.station_state.specs.Layout.{hasBit}
 use Rattle.server_state.specs.Layout.{lastOf, latestOf, workNumber, askedOf, wholeOf, wantOf, requestOf, calledOf, pendOf, lockingB}
 use Rattle.server_tests.specs.Tests.{openCallB, openAskB, faultB, blockedB, shutB, shutOutB, concernedSet, hinderedB, unavailableB, writtenPagesB, informedB}
-use Rattle.server_changes.specs.Changes.{noticeB, finishB, leaveB, joinReadB, joinWriteB, joinCommitB, unpackB, listB, unlistB, markBusyB, answeredB, loosenB, askedB, calledB, lockPageB, lockObjectB, writeB}
+use Rattle.server_changes.specs.Changes.{keepsAgeB, noticeB, finishB, leaveB, joinReadB, joinWriteB, joinCommitB, unpackB, listB, unlistB, markBusyB, answeredB, loosenB, askedB, calledB, lockPageB, lockObjectB, writeB}
 use Rattle.server_actions.specs.Actions.{Serving, serving, onState, send, pageB, deescalateB, callbackB, committedB, abortedB, invalidateB, recordB, sendPageB, abortB, informB, informTo, installB, commitNowB, addressOf, noticedB, onReadB, onWriteB, onCommitB, onAbortB, onPurgeB, onBusyB, onDoneB, onWrittenSetB, acceptB}
 use Rattle.server_actions.specs.Pass.{askB, askTo, serveReadB, callOneB, callTo, callB, callOnceB, grantPageB, grantObjectB, grantB, afterCallsB, proceedB, gatesB, visitB, passB}
 use Rattle.server_actions.specs.Posting.{Acts, acts-not, acts-state, acts-send, acts-archive, acts-cond, acts-with, acts-then, Turns, acts-turns}
@@ -25,7 +25,7 @@ acts-page kind i a u =
 pub acts-abort : (i c : ℕ) → Acts (abortB i c)
 unfolding abortB
 acts-abort i c =
-    acts-then (acts-state (λ s. finishB i (leaveB i s))) (acts-with (λ s x. send x (abortedB i (latestOf s i) c)) (λ s. acts-send (abortedB i (latestOf s i) c)))
+    acts-then (acts-state (λ s. finishB i (keepsAgeB c) (leaveB i s))) (acts-with (λ s x. send x (abortedB i (latestOf s i) c)) (λ s. acts-send (abortedB i (latestOf s i) c)))
 
 pub acts-inform : (i d j : ℕ) → Acts (λ x. informB i d x j)
 unfolding informB
@@ -39,7 +39,7 @@ turns-informs i d = record { none = λ x. refl; next = λ x n. refl; acts = acts
 unfoldable pub installedB : ℕ → Serving → Serving
 installedB i x =
     let s = writeB i (x .state) in
-    let t = finishB i (leaveB i s) in
+    let t = finishB i 0 (leaveB i s) in
     serving t (snoc (x .sent) (committedB i (workNumber (x .state) i) (lastOf t))) (snoc (x .recs) (recordB i s))
 
 pub acts-installed : (i : ℕ) → Acts (installedB i)
@@ -47,11 +47,11 @@ unfolding installedB
 acts-installed i =
     acts-with
     (λ s x.
-    let y = serving (finishB i (leaveB i (writeB i s))) (x .sent) (snoc (x .recs) (recordB i (writeB i s))) in
-    send y (committedB i (workNumber s i) (lastOf (finishB i (leaveB i (writeB i s))))))
+    let y = serving (finishB i 0 (leaveB i (writeB i s))) (x .sent) (snoc (x .recs) (recordB i (writeB i s))) in
+    send y (committedB i (workNumber s i) (lastOf (finishB i 0 (leaveB i (writeB i s))))))
     (λ s.
     acts-then (acts-archive (recordB i (writeB i s)))
-    (acts-then (acts-state (λ t. finishB i (leaveB i (writeB i s)))) (acts-send (committedB i (workNumber s i) (lastOf (finishB i (leaveB i (writeB i s))))))))
+    (acts-then (acts-state (λ t. finishB i 0 (leaveB i (writeB i s)))) (acts-send (committedB i (workNumber s i) (lastOf (finishB i 0 (leaveB i (writeB i s))))))))
 
 pub install-is : (i : ℕ) (x : Serving) → installB i x ≡ informTo i (writtenPagesB (x .state) i) (installedB i x) 8
 unfolding installB installedB
@@ -91,7 +91,7 @@ acts-commit m =
 
 acts-onAbort : (m : List ℕ) → Acts (onAbortB m)
 unfolding onAbortB
-acts-onAbort m = acts-then (acts-noticed m) (acts-state (finishB (stationOf m)))
+acts-onAbort m = acts-then (acts-noticed m) (acts-state (finishB (stationOf m) 0))
 
 acts-purge : (m : List ℕ) → Acts (onPurgeB m)
 unfolding onPurgeB

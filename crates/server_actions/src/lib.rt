@@ -95,13 +95,13 @@ pub fn send_page(
     one_more(c)
 }
 
-// Station i's transaction is aborted: its locks and its entry go, and it gets 22.
+// Station i's transaction is aborted: its locks and its entry go, and it gets 22. For cause 1 the station keeps its age.
 pub fn abort(s: &mut [u8], o: &mut [u8], q: &mut [u8], c: Counts, i: usize, cause: u8) -> Counts
     requires { ⌜ (length (now s) ≡ serverLength) × (i < 8) × Room (now o) (now q) c (abortB i cause (Posting·from (now s))) ⌝ }
     ensures { λ r. ⌜ posted (now (s .exit)) (now (o .exit)) (now (q .exit)) r ≡ post (now (o .entry)) (now (q .entry)) c (abortB i cause (Posting·from (now (s .entry)))) ⌝ }
 {
     server_changes::leave(s, i);
-    server_changes::finish(s, i);
+    server_changes::finish(s, i, server_changes::keeps_age(cause));
     let t = le::get_u32(s, LATEST + i * NUMBER_WIDTH);
     message::put_message(o, c.messages * MESSAGE, 22, i as u8, 0, cause, t, 0, 0);
     one_more(c)
@@ -172,7 +172,7 @@ fn put_installed(s: &mut [u8], o: &mut [u8], q: &mut [u8], c: Counts, i: usize) 
     server_changes::write(s, i);
     let e = archive(s, q, c, i);
     server_changes::leave(s, i);
-    server_changes::finish(s, i);
+    server_changes::finish(s, i, 0);
     let n = le::get_u32(s, LAST);
     message::put_message(o, e.messages * MESSAGE, 21, i as u8, 0, 0, t, 0, n);
     one_more(e)

@@ -12,13 +12,19 @@ use Rattle.layout.specs.Record.{valueLength}
 use Rattle.record.specs.Check.{writeCountFrom, readCountFrom}
 use Rattle.station_state.specs.Layout.{pageSetWidth, numberWidth, valueWidth, hasBit, member}
 use Rattle.station_state.specs.Changes.{addTo, pageOn, pageOff, clearTo}
-use Rattle.server_state.specs.Layout.{ageWidth, setRow, valueFrom, ageFrom, arrivalFrom, nextAgeFrom, nextArrivalFrom, versionFrom, workFrom, latestFrom, listedFrom, lastFrom, askedFrom, lockFrom, wholeFrom, wantFrom, requestFrom, calledFrom, pendFrom, busyFrom, unfinishedFrom, sentVersionsFrom, readValuesFrom, writtenValuesFrom, agesOf, arrivalsOf, latestOf, listedOf, lastOf, lockOf, wholeOf, readSetFrom, writtenSetFrom, writtenSet, pendOf, busyOf}
+use Rattle.server_state.specs.Layout.{ageWidth, setRow, valueFrom, ageFrom, arrivalFrom, nextAgeFrom, nextArrivalFrom, versionFrom, workFrom, latestFrom, listedFrom, lastFrom, askedFrom, lockFrom, wholeFrom, wantFrom, requestFrom, calledFrom, pendFrom, busyFrom, unfinishedFrom, ageKeptFrom, sentVersionsFrom, readValuesFrom, writtenValuesFrom, agesOf, arrivalsOf, latestOf, listedOf, lastOf, lockOf, wholeOf, readSetFrom, writtenSetFrom, writtenSet, pendOf, busyOf, ageKeptOf}
 
--- "each transaction gets a new age" with its first message
+-- the next age, and the counter one higher
+unfoldable pub newAgeB : ℕ → List ℕ → List ℕ
+newAgeB i s = setU64 (setU64 s (ageFrom + i * ageWidth) (agesOf s)) nextAgeFrom (agesOf s + 1)
+
+-- kept or new: a station that keeps its age has it already
+unfoldable pub ageB : ℕ → List ℕ → List ℕ
+ageB i s = cond (eqb (ageKeptOf s i) 0) (newAgeB i s) s
+
+-- a transaction gets its age with its first message
 unfoldable pub noticeB : ℕ → ℕ → List ℕ → List ℕ
-noticeB i t s =
-    cond (eqb t (latestOf s i)) s
-    (setU32 (set (setU64 (setU64 s (ageFrom + i * ageWidth) (agesOf s)) nextAgeFrom (agesOf s + 1)) (unfinishedFrom + i) 1) (latestFrom + i * numberWidth) t)
+noticeB i t s = cond (eqb t (latestOf s i)) s (setU32 (set (ageB i s) (unfinishedFrom + i) 1) (latestFrom + i * numberWidth) t)
 
 -- "every transaction's end frees its locks"
 
@@ -37,8 +43,13 @@ unfoldable pub freeTo : ℕ → List ℕ → ℕ → List ℕ
 freeTo i s zero = s
 freeTo i s (suc a) = freeOneB i (freeTo i s a) a
 
-unfoldable pub finishB : ℕ → List ℕ → List ℕ
-finishB i s = set (freeTo i (freePagesTo i s 32) 256) (unfinishedFrom + i) 0
+-- whether the station keeps its age behind a 22, by the cause; behind 21 and 4 it keeps none
+unfoldable pub keepsAgeB : ℕ → ℕ
+keepsAgeB c = cond (eqb c 1) 1 0
+
+-- k is 1 where the station keeps its age
+unfoldable pub finishB : ℕ → ℕ → List ℕ → List ℕ
+finishB i k s = set (set (freeTo i (freePagesTo i s 32) 256) (unfinishedFrom + i) 0) (ageKeptFrom + i) k
 
 -- a station's entry in the waiting list goes
 unfoldable pub leaveB : ℕ → List ℕ → List ℕ

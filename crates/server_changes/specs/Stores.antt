@@ -12,7 +12,7 @@ use Rattle.station_state.specs.Layout.{numberWidth}
 use Rattle.server_state.specs.declared.Aged.{Aged}
 use Rattle.server_state.specs.Ages.{agedOf}
 use Rattle.server_state.specs.Layout.{ageWidth, setRow, ageFrom, arrivalFrom, nextAgeFrom, nextArrivalFrom, workFrom, wantFrom, requestFrom, calledFrom, pendFrom, busyFrom, agesOf, readValuesFrom, writtenValuesFrom, arrivalsOf, readSetFrom, writtenSetFrom}
-use Rattle.server_changes.specs.Changes.{leaveB, joinB, unpackTo, versionsIn, unpackB}
+use Rattle.server_changes.specs.Changes.{newAgeB, leaveB, joinB, unpackTo, versionsIn, unpackB}
 
 pub leave-stores : (i : ℕ) (s : List ℕ) {s₁ s₂ s₃ s₄ s₅ s₆ s₇ s₈ : List ℕ} → s₁ ≡ set s (wantFrom + i) 0 → s₂ ≡ setU64 s₁ (arrivalFrom + i * ageWidth) 0 → s₃ ≡ set s₂ (requestFrom + i) 0
     → s₄ ≡ clearTo s₃ (readSetFrom i) setRow → s₅ ≡ clearTo s₄ (writtenSetFrom i) setRow
@@ -33,6 +33,6 @@ unpack-stores i m s en ew et e₁ e₂ e₃ e₄ = rw (e₄, e₃, e₂, e₁, e
 
 -- the age that the counter gives, and the counter one higher
 pub age-stores : (s : List ℕ) (i : ℕ) {n : ℕ} {a : Aged} {s₁ s₂ : List ℕ} → n ≡ agesOf s → a ≡ agedOf (record { next = n }) → s₁ ≡ setU64 s (ageFrom + i * ageWidth) (a .age)
-    → s₂ ≡ setU64 s₁ nextAgeFrom (a .ages .next) → s₂ ≡ setU64 (setU64 s (ageFrom + i * ageWidth) (agesOf s)) nextAgeFrom (agesOf s + 1)
-unfolding agedOf
+    → s₂ ≡ setU64 s₁ nextAgeFrom (a .ages .next) → s₂ ≡ newAgeB i s
+unfolding agedOf newAgeB
 age-stores s i en ea e₁ e₂ = rw (e₂, e₁, ea, en)

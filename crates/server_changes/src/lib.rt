@@ -6,9 +6,10 @@ ghost use Rattle.le.specs.Le.{setU64};
 ghost use Rattle.message.specs.Commit.{addressesAt, entriesOf};
 ghost use Rattle.layout.specs.Record.{entryLength};
 ghost use Rattle.server_state.specs.Layout.{ageWidth, serverLength, valueRow, setRow, counterLimit, ageFrom, nextAgeFrom, agesOf, arrivalsOf, lastOf};
-ghost use Rattle.server_changes.specs.Changes.{noticeB, freePageB, freePagesTo, freeOneB, freeTo, finishB, leaveB, joinB, joinReadB, joinWriteB, unpackOne, unpackTo, versionsIn, unpackB, joinCommitB, listB, unlistB, markBusyB, answeredB, lockOneB, lockTo, loosenB, askedB, calledB, lockPageB, lockObjectB, versionOneB, versionsTo, valueOneB, valuesTo, writeB};
+ghost use Rattle.server_changes.specs.Changes.{newAgeB, ageB, noticeB, keepsAgeB, freePageB, freePagesTo, freeOneB, freeTo, finishB, leaveB, joinB, joinReadB, joinWriteB, unpackOne, unpackTo, versionsIn, unpackB, joinCommitB, listB, unlistB, markBusyB, answeredB, lockOneB, lockTo, loosenB, askedB, calledB, lockPageB, lockObjectB, versionOneB, versionsTo, valueOneB, valuesTo, writeB};
 ghost use Rattle.server_changes.specs.Frees.{freeFrom};
 use server_state::AGE;
+use server_state::AGE_KEPT;
 use server_state::AGE_WIDTH;
 use server_state::ARRIVAL;
 use server_state::ASKED;
@@ -52,7 +53,7 @@ fn holder(i: usize) -> u8
 // Station i's transaction takes the next age.
 fn new_age(s: &mut [u8], i: usize)
     requires { ⌜ (length (now s) ≡ serverLength) × (i < 8) × (agesOf (now s) < counterLimit) ⌝ }
-    ensures { λ _. ⌜ now (s .exit) ≡ setU64 (setU64 (now (s .entry)) (ageFrom + i * ageWidth) (agesOf (now (s .entry)))) nextAgeFrom (agesOf (now (s .entry)) + 1) ⌝ }
+    ensures { λ _. ⌜ now (s .exit) ≡ newAgeB i (now (s .entry)) ⌝ }
 {
     let ages = Ages {
         next: le::get_u64(s, NEXT_AGE),
@@ -63,6 +64,17 @@ fn new_age(s: &mut [u8], i: usize)
     le::put_u64(s, NEXT_AGE, rest.next);
 }
 
+// The age of i's transaction: that which the station keeps, else the next one.
+fn age(s: &mut [u8], i: usize)
+    requires { ⌜ (length (now s) ≡ serverLength) × (i < 8) × (agesOf (now s) < counterLimit) ⌝ }
+    ensures { λ _. ⌜ now (s .exit) ≡ ageB i (now (s .entry)) ⌝ }
+{
+    if s[AGE_KEPT + i] == 0 {
+        new_age(s, i);
+        return;
+    }
+}
+
 // A message of i's transaction t: with its first one it is unfinished and has an age.
 pub fn notice(s: &mut [u8], i: usize, t: u32)
     requires { ⌜ (length (now s) ≡ serverLength) × (i < 8) × (agesOf (now s) < counterLimit) ⌝ }
@@ -71,7 +83,7 @@ pub fn notice(s: &mut [u8], i: usize, t: u32)
     if t == le::get_u32(s, LATEST + i * NUMBER_WIDTH) {
         return;
     }
-    new_age(s, i);
+    age(s, i);
     le::put_u8(s, UNFINISHED + i, 1);
     le::put_u32(s, LATEST + i * NUMBER_WIDTH, t);
 }
@@ -135,14 +147,25 @@ fn free(s: &mut [u8], i: usize)
     }
 }
 
-// The transaction of i ends: its locks go.
-pub fn finish(s: &mut [u8], i: usize)
+// 1 where a station that gets 22 with this cause keeps its age.
+pub fn keeps_age(cause: u8) -> u8
+    ensures { λ r. ⌜ r ≡ keepsAgeB cause ⌝ }
+{
+    if cause == 1 {
+        return 1;
+    }
+    0
+}
+
+// The transaction of i ends: its locks go, and the age unless `kept` is 1.
+pub fn finish(s: &mut [u8], i: usize, kept: u8)
     requires { ⌜ (length (now s) ≡ serverLength) × (i < 8) ⌝ }
-    ensures { λ _. ⌜ now (s .exit) ≡ finishB i (now (s .entry)) ⌝ }
+    ensures { λ _. ⌜ now (s .exit) ≡ finishB i kept (now (s .entry)) ⌝ }
 {
     free_pages(s, i);
     free(s, i);
     le::put_u8(s, UNFINISHED + i, 0);
+    le::put_u8(s, AGE_KEPT + i, kept);
 }
 
 // The entry of i in the waiting list goes.

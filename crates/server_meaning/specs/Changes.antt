@@ -1,44 +1,63 @@
 -- Each change of the server's bytes means the change of the model that has its name: ages, the pages listed, locks.
 use Prim.Native.Nat.{ℕ, zero, suc, _+_, _-_, _*_, _≤_, _<_, _/_, _%_, _^_}
-use mathlib.Core.Path.{_≡_, refl, ap, ap₂, subst, _∙_, fun-ext}
+use mathlib.Core.Path.{_≡_, refl, sym, ap, ap₂, subst, _∙_, fun-ext}
 use mathlib.Core.Bool.{Bool, true, false, not, cond, _&&_, and-comm}
 use mathlib.Core.List.{List}
 use native.Mathlib.Numerals.{add-one}
 use native.Mathlib.Omega.{arith}
 use lib.Dec.{eqb, ltb}
 use lib.ListN.{set}
+use Rattle.le.specs.Le.{setU32}
 use borrow.Author.Tests.{lt-ltb, le-ltb}
 use Rattle.sets.specs.Base.{upd, upd2}
-use Rattle.sets.specs.Laws.{byEq, eqb-same, eqb-yes, eqb-no}
+use Rattle.sets.specs.Laws.{byB, byEq, eqb-same, eqb-yes, eqb-no, not-yes, not-no}
 use Rattle.cells.specs.Upd.{ltb-suc, cond-rel}
 use Rattle.cells.specs.Bits.{tb, tb-set, tb-mask, tb-clear-all, bit-on}
 use Rattle.cells.specs.Cells.{off, view, put8, put32, put64, get64, cell-lt}
 use Rattle.cells.specs.Sets.{on32, off32, and32}
-use Rattle.line.specs.Server.{Server, setOl, setWl, setAsked, setListed, setLatest, setFin, setAge, setAges}
+use Rattle.line.specs.Server.{aged, Server, setOl, setWl, setAsked, setListed, setLatest, setFin, setAge, setAges}
 use Rattle.station_state.specs.Layout.{pageSetWidth, numberWidth, hasBit}
 use Rattle.station_state.specs.Changes.{pageOn, pageOff}
-use Rattle.server_state.specs.Layout.{ageWidth, ageCell, nextAgeCell, latestCell, listedCell, askedCell, lockCell, wholeCell, unfinishedCell, table, ageFrom, nextAgeFrom, latestFrom, listedFrom, askedFrom, lockFrom, wholeFrom, unfinishedFrom, agesOf, latestOf}
-use Rattle.server_changes.specs.Changes.{noticeB, listB, unlistB, lockOneB, lockTo, loosenB, askedB, lockPageB, lockObjectB}
+use Rattle.server_state.specs.Layout.{ageWidth, ageCell, nextAgeCell, latestCell, listedCell, askedCell, lockCell, wholeCell, unfinishedCell, table, ageFrom, nextAgeFrom, latestFrom, listedFrom, askedFrom, lockFrom, wholeFrom, unfinishedFrom, agesOf, latestOf, ageKeptOf}
+use Rattle.server_changes.specs.Changes.{newAgeB, ageB, noticeB, listB, unlistB, lockOneB, lockTo, loosenB, askedB, lockPageB, lockObjectB}
 use Rattle.server_meaning.specs.Meant.{meant, Is, start, done}
-use Rattle.server_meaning.specs.Tests.{bit-is, latest-at}
+use Rattle.server_meaning.specs.Tests.{bit-is, latest-at, ageKept-at}
+
+upd-own : (f : ℕ → ℕ) (i : ℕ) → upd f i (f i) ≡ f
+upd-own f i = fun-ext (λ j. byEq j i (λ e. rw (e, eqb-yes j i e) refl) (λ e. rw e refl))
 
 module _ {s : List ℕ} {m : Server} (h : Is s m) where
-  pub notice-is : (i t : ℕ) → i < 8 → t < 2 ^ 32 → agesOf s + 1 < 2 ^ 64
-      → Is (noticeB i t s)
-      (cond (eqb t (m .latest i)) m
-      (setLatest (setFin (setAge (setAges m (m .ages + 1)) (upd (m .age) i (m .ages))) (upd (m .fin) i false)) (upd (m .latest) i t)))
-  unfolding noticeB
-  notice-is i t l lt la =
+  -- a new age
+  newAge-is : (i : ℕ) → i < 8 → agesOf s + 1 < 2 ^ 64 → Is (newAgeB i s) (setAge (setAges m (m .ages + 1)) (upd (m .age) i (m .ages)))
+  unfolding newAgeB
+  newAge-is i l la =
       let c : agesOf s ≡ view table 0 s nextAgeCell 0 0 = get64 (start h) nextAgeCell 0 0 nextAgeFrom refl refl (omega arith) (omega arith) in
       let age = put64 (start h) ageCell i 0 (agesOf s) (ageFrom + i * ageWidth) refl (omega arith) l (omega arith) (omega arith) in
-      let ages = put64 age nextAgeCell 0 0 (agesOf s + 1) nextAgeFrom refl refl (omega arith) (omega arith) la in
-      let unfinished = put8 ages unfinishedCell i 0 1 (unfinishedFrom + i) refl (omega arith) l (omega arith) (omega arith) in
-      cond-rel Is (eqb t (latestOf s i)) (eqb t (m .latest i))
-      (ap (eqb t) (latest-at h i l)) h
-      (done h (λ (n : Server). setLatest (setFin (setAge (setAges n (n .ages + 1)) (upd (n .age) i (n .ages))) (upd (n .fin) i false)) (upd (n .latest) i t))
+      done h (λ (n : Server). setAge (setAges n (n .ages + 1)) (upd (n .age) i (n .ages)))
+      (put64 age nextAgeCell 0 0 (agesOf s + 1) nextAgeFrom refl refl (omega arith) (omega arith) la)
+      (ap (λ (x : ℕ). setAge (setAges (meant s) (x + 1)) (upd ((meant s) .age) i x)) c)
+
+  -- kept or new
+  age-is : (i : ℕ) → i < 8 → agesOf s + 1 < 2 ^ 64 → let g = aged (m .ageKept i) (m .age i) (m .ages) in Is (ageB i s) (setAge (setAges m (g .ages)) (upd (m .age) i (g .age)))
+  unfolding ageB
+  age-is i l la =
+      byB (m .ageKept i)
+      (λ e. rw (e, kept e) (subst (Is s) (ap (setAge m) (sym (upd-own (m .age) i))) h))
+      (λ e. rw (e, free e) (newAge-is i l la))
+    where
+      kept : m .ageKept i ≡ true → eqb (ageKeptOf s i) 0 ≡ false
+      kept e = not-yes (eqb (ageKeptOf s i) 0) (ageKept-at h i l ∙ e)
+
+      free : m .ageKept i ≡ false → eqb (ageKeptOf s i) 0 ≡ true
+      free e = not-no (eqb (ageKeptOf s i) 0) (ageKept-at h i l ∙ e)
+
+  -- its transaction is unfinished, and the latest
+  begun-is : (i t : ℕ) → i < 8 → t < 2 ^ 32 → Is (setU32 (set s (unfinishedFrom + i) 1) (latestFrom + i * numberWidth) t) (setLatest (setFin m (upd (m .fin) i false)) (upd (m .latest) i t))
+  begun-is i t l lt =
+      let unfinished = put8 (start h) unfinishedCell i 0 1 (unfinishedFrom + i) refl (omega arith) l (omega arith) (omega arith) in
+      done h (λ (n : Server). setLatest (setFin n (upd (n .fin) i false)) (upd (n .latest) i t))
       (put32 unfinished latestCell i 0 t (latestFrom + i * numberWidth) refl (omega arith) l (omega arith) lt)
-      (ap₂ (λ (x : ℕ) (f : ℕ → Bool). setLatest (setFin (setAge (setAges (meant s) (x + 1)) (upd ((meant s) .age) i x)) f) (upd ((meant s) .latest) i t))
-      c (fun-ext (λ j. byEq j i (λ e. rw e) (λ e. rw e)))))
+      (ap (λ (f : ℕ → Bool). setLatest (setFin (meant s) f) (upd ((meant s) .latest) i t)) (fun-ext (λ j. byEq j i (λ e. rw e) (λ e. rw e))))
 
   -- which pages a station is listed for
 
@@ -145,3 +164,11 @@ loosen-is {s} {m} h i p x l q =
     let n : Server = setWl (setAsked m (upd (m .asked) p false)) (upd (m .wl) p 0) in
     subst (Is (lockTo i p x (set (pageOff s askedFrom p) (wholeFrom + p) 0) 8)) (ap (setOl n) (fun-ext (λ a. rw (lt-ltb (a % 8) 8 (omega arith)))))
     (lock-to (whole-is h p 0 q (omega arith)) i p x l q 8 (omega arith))
+
+pub notice-is : {s : List ℕ} {m : Server} → Is s m → (i t : ℕ) → i < 8 → t < 2 ^ 32 → agesOf s + 1 < 2 ^ 64
+    → let g = aged (m .ageKept i) (m .age i) (m .ages) in Is (noticeB i t s)
+    (cond (eqb t (m .latest i)) m
+    (setLatest (setFin (setAge (setAges m (g .ages)) (upd (m .age) i (g .age))) (upd (m .fin) i false)) (upd (m .latest) i t)))
+unfolding noticeB
+notice-is {s} {m} h i t l lt la =
+    cond-rel Is (eqb t (latestOf s i)) (eqb t (m .latest i)) (ap (eqb t) (latest-at h i l)) h (begun-is (age-is h i l la) i t l lt)

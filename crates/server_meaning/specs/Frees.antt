@@ -14,9 +14,9 @@ use Rattle.cells.specs.Upd.{cond-rel, bulk, bulk-none, bulk-more}
 use Rattle.cells.specs.Bits.{tb-clear-all}
 use Rattle.cells.specs.Cells.{view, view-col, put8, cell-lt}
 use Rattle.cells.specs.Sets.{off32}
-use Rattle.line.specs.Server.{Server, setOl, setWl, setAsked, setFin}
+use Rattle.line.specs.Server.{setAgeKept, Server, setOl, setWl, setAsked, setFin}
 use Rattle.station_state.specs.Changes.{pageOff}
-use Rattle.server_state.specs.Layout.{askedCell, lockCell, wholeCell, unfinishedCell, table, askedFrom, lockFrom, wholeFrom, unfinishedFrom, lockOf, wholeOf}
+use Rattle.server_state.specs.Layout.{askedCell, lockCell, wholeCell, unfinishedCell, ageKeptCell, table, askedFrom, lockFrom, wholeFrom, unfinishedFrom, ageKeptFrom, lockOf, wholeOf}
 use Rattle.server_changes.specs.Changes.{freePageB, freePagesTo, freeOneB, freeTo, finishB}
 use Rattle.server_meaning.specs.Meant.{meant, Is, start, done}
 use Rattle.server_meaning.specs.Tests.{lock-at, whole-at}
@@ -29,6 +29,15 @@ bulk-both F f u t g v n = go (t n) refl
     go : (b : Bool) → t n ≡ b → cond b (F (upd (bulk f t g n) n (g n)) (upd (bulk u t v n) n (v n))) (F (bulk f t g n) (bulk u t v n)) ≡ F (bulk f t g (suc n)) (bulk u t v (suc n))
     go true h = ap₂ F (rw h at (bulk-more (λ x. x) f t g n)) (rw h at (bulk-more (λ x. x) u t v n))
     go false h = ap₂ F (rw h at (bulk-more (λ x. x) f t g n)) (rw h at (bulk-more (λ x. x) u t v n))
+
+-- a flag's byte
+flag-lt : (b : Bool) → cond b 1 0 < 256
+flag-lt true = omega arith
+flag-lt false = omega arith
+
+flag : (b : Bool) → not (eqb (cond b 1 0) 0) ≡ b
+flag true = refl
+flag false = refl
 
 -- station i holds it
 abbrev own : ℕ → (ℕ → ℕ) → ℕ → Bool
@@ -60,6 +69,12 @@ module _ {s : List ℕ} {m : Server} (h : Is s m) where
       (put8 (start h) unfinishedCell i 0 0 (unfinishedFrom + i) refl (omega arith) l (omega arith) (omega arith))
       (ap (setFin (meant s)) (fun-ext (λ j. byEq j i (λ e. rw e) (λ e. rw e))))
 
+  kept-is : (i : ℕ) (b : Bool) → i < 8 → Is (set s (ageKeptFrom + i) (cond b 1 0)) (setAgeKept m (upd (m .ageKept) i b))
+  kept-is i b l =
+      done h (λ (n : Server). setAgeKept n (upd (n .ageKept) i b))
+      (put8 (start h) ageKeptCell i 0 (cond b 1 0) (ageKeptFrom + i) refl (omega arith) l (omega arith) (flag-lt b))
+      (ap (setAgeKept (meant s)) (fun-ext (λ j. byEq j i (λ e. rw (e, flag b)) (λ e. rw e))))
+
 -- pages below n
 abbrev pagesFree : Server → ℕ → ℕ → Server
 pagesFree m i n = setWl (setAsked m (bulk (m .asked) (own i (m .wl)) nowhere n)) (bulk (m .wl) (own i (m .wl)) zeros n)
@@ -87,15 +102,17 @@ locks-to {s} {m} h i (suc n) q =
     subst (Is (freeOneB i t n)) (bulk-more (setOl m) (m .ol) (own i (m .ol)) zeros n)
     (cond-rel Is (eqb (lockOf t n) (i + 1)) (eqb (m .ol n) (suc i)) (rw (e, add-one i)) (one-free r n q) r)
 
-pub finish-is : {s : List ℕ} {m : Server} → Is s m → (i : ℕ) → i < 8
-    → Is (finishB i s)
+pub finish-is : {s : List ℕ} {m : Server} → Is s m → (i : ℕ) (b : Bool) → i < 8
+    → Is (finishB i (cond b 1 0) s)
+    (setAgeKept
     (setFin
     (setOl (setWl (setAsked m (λ p. not (eqb (m .wl p) (suc i)) && m .asked p)) (λ p. cond (eqb (m .wl p) (suc i)) 0 (m .wl p)))
     (λ a. cond (eqb (m .ol a) (suc i)) 0 (m .ol a)))
     (upd (m .fin) i true))
+    (upd (m .ageKept) i b))
 unfolding finishB
-finish-is {s} {m} h i l =
-    subst (Is (finishB i s)) three (fin-is (locks-to (pages-to h i 32 (omega arith)) i 256 (omega arith)) i l)
+finish-is {s} {m} h i b l =
+    subst (Is (finishB i (cond b 1 0) s)) three (kept-is (fin-is (locks-to (pages-to h i 32 (omega arith)) i 256 (omega arith)) i l) i b l)
   where
     asked : (p : ℕ) → bulk (m .asked) (own i (m .wl)) nowhere 32 p ≡ (not (eqb (m .wl p) (suc i)) && m .asked p)
     asked p =
@@ -108,9 +125,12 @@ finish-is {s} {m} h i l =
     lock : (a : ℕ) → bulk (m .ol) (own i (m .ol)) zeros 256 a ≡ cond (eqb (m .ol a) (suc i)) 0 (m .ol a)
     lock a = byB (ltb a 256) (λ e. rw e) (λ e. rw (e, lock-high h a (ltb-no a 256 e), eqb·zero-suc i))
 
-    three : setFin (setOl (pagesFree m i 32) (bulk (m .ol) (own i (m .ol)) zeros 256)) (upd (m .fin) i true)
-        ≡ setFin
+    three : setAgeKept (setFin (setOl (pagesFree m i 32) (bulk (m .ol) (own i (m .ol)) zeros 256)) (upd (m .fin) i true)) (upd (m .ageKept) i b)
+        ≡ setAgeKept
+        (setFin
         (setOl (setWl (setAsked m (λ p. not (eqb (m .wl p) (suc i)) && m .asked p)) (λ p. cond (eqb (m .wl p) (suc i)) 0 (m .wl p)))
         (λ a. cond (eqb (m .ol a) (suc i)) 0 (m .ol a)))
-        (upd (m .fin) i true)
-    three = λ t. setFin (setOl (setWl (setAsked m (fun-ext asked t)) (fun-ext whole t)) (fun-ext lock t)) (upd (m .fin) i true)
+        (upd (m .fin) i true))
+        (upd (m .ageKept) i b)
+    three =
+        λ t. setAgeKept (setFin (setOl (setWl (setAsked m (fun-ext asked t)) (fun-ext whole t)) (fun-ext lock t)) (upd (m .fin) i true)) (upd (m .ageKept) i b)

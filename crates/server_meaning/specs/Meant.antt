@@ -12,7 +12,7 @@ use Rattle.cells.specs.Cells.{Cells, view, Holds, begin}
 use Rattle.line.specs.Messages.{Work}
 use Rattle.line.specs.Server.{Server, Waiter, Want, NoWant, WantRead, WantWrite, WantCommit, noWork}
 use Rattle.station_meaning.specs.Meant.{within, valueIf}
-use Rattle.server_state.specs.Layout.{valueCell, readValueCell, writtenValueCell, ageCell, arrivalCell, nextAgeCell, nextArrivalCell, versionCell, sentVersionCell, workCell, latestCell, listedCell, lastCell, askedCell, lockCell, wholeCell, readSetCell, writtenSetCell, kindCell, wantCell, requestCell, calledCell, pendCell, busyCell, unfinishedCell, table, serverLength}
+use Rattle.server_state.specs.Layout.{valueCell, readValueCell, writtenValueCell, ageCell, arrivalCell, nextAgeCell, nextArrivalCell, versionCell, sentVersionCell, workCell, latestCell, listedCell, lastCell, askedCell, lockCell, wholeCell, readSetCell, writtenSetCell, kindCell, wantCell, requestCell, calledCell, pendCell, busyCell, unfinishedCell, ageKeptCell, table, serverLength}
 
 -- "0 nothing, 1 a read, 2 a write, 3 a commit"
 abbrev pub wantAs : ℕ → Want
@@ -57,6 +57,7 @@ meantC C =
       fin = λ i. eqb (C unfinishedCell i 0) 0;
       age = λ i. C ageCell i 0;
       ages = C nextAgeCell 0 0;
+      ageKept = λ i. not (eqb (C ageKeptCell i 0) 0);
       arrivals = C nextArrivalCell 0 0;
       queue = waiterC C;
     }

@@ -25,7 +25,9 @@ use Rattle.line.specs.Server.{Server, isWant, waits, other, wants, wantsPage, w
 use Rattle.message.specs.Commit.{recordAt, addressesAt}
 use Rattle.record.specs.Check.{writeCountFrom, readCountFrom}
 use Rattle.station_state.specs.Layout.{pageSetWidth, numberWidth, valueWidth, hasBit}
-use Rattle.server_state.specs.Layout.{ageWidth, valueCell, readValueCell, writtenValueCell, ageCell, arrivalCell, nextAgeCell, nextArrivalCell, versionCell, sentVersionCell, latestCell, listedCell, lastCell, askedCell, lockCell, wholeCell, readSetCell, writtenSetCell, kindCell, wantCell, requestCell, calledCell, pendCell, busyCell, unfinishedCell, valueFrom, table, ageFrom, arrivalFrom, nextAgeFrom, nextArrivalFrom, versionFrom, latestFrom, listedFrom, lastFrom, askedFrom, lockFrom, wholeFrom, kindFrom, wantFrom, requestFrom, calledFrom, pendFrom, busyFrom, unfinishedFrom, sentVersionsFrom, readSetFrom, writtenSetFrom, valueOf, ageOf, arrivalOf, agesOf, arrivalsOf, versionOf, sentVersion, latestOf, listedOf, lastOf, askedOf, lockOf, wholeOf, readSet, writtenSet, kindOf, wantOf, requestOf, calledOf, pendOf, busyOf, unfinishedOf, waitsB, otherB, wantedOn}
+use Rattle.line.specs.Apart.{ageCounts}
+use Rattle.server_state.specs.Valid.{ageless}
+use Rattle.server_state.specs.Layout.{ageWidth, valueCell, readValueCell, writtenValueCell, ageCell, arrivalCell, nextAgeCell, nextArrivalCell, versionCell, sentVersionCell, latestCell, listedCell, lastCell, askedCell, lockCell, wholeCell, readSetCell, writtenSetCell, kindCell, wantCell, requestCell, calledCell, pendCell, busyCell, unfinishedCell, ageKeptCell, valueFrom, table, ageFrom, arrivalFrom, nextAgeFrom, nextArrivalFrom, versionFrom, latestFrom, listedFrom, lastFrom, askedFrom, lockFrom, wholeFrom, kindFrom, wantFrom, requestFrom, calledFrom, pendFrom, busyFrom, unfinishedFrom, ageKeptFrom, sentVersionsFrom, readSetFrom, writtenSetFrom, valueOf, ageOf, arrivalOf, agesOf, arrivalsOf, versionOf, sentVersion, latestOf, listedOf, lastOf, askedOf, lockOf, wholeOf, readSet, writtenSet, kindOf, wantOf, requestOf, calledOf, pendOf, busyOf, unfinishedOf, ageKeptOf, waitsB, otherB, wantedOn}
 use Rattle.server_state.specs.Valid.{valid}
 use Rattle.server_state.specs.Facts.{valid-ranged}
 use Rattle.server_tests.specs.Tests.{lockAtB, lockOnB, badNumberB, unlockedAt, unlockedB, dropsLockedB, dropsOwnB, openCallB, openAskB, staleAt, staleB, lockedAtB, lockedOnB, lockedB, faultB, earlierB, blocksB, blockedAtB, blockedOnB, blockedB, shutB, shutOutB, concernsAt, concernedB, concernedSet, hindersB, hinderedB, waitsToWriteB, unavailableAt, unavailableB, informedB, edgeAtB, edgeOnB, edgeB, edgeSet}
@@ -158,6 +160,20 @@ module _ {s : List ℕ} {m : Server} (h : Is s m) where
 
   pub fin-at : (i : ℕ) → i < 8 → eqb (unfinishedOf s i) 0 ≡ m .fin i
   fin-at i l = rw (get8 (start h) unfinishedCell i 0 (unfinishedFrom + i) refl (omega arith) l (omega arith)) (ap (λ (n : Server). n .fin i) (h .is))
+
+  pub ageKept-at : (i : ℕ) → i < 8 → not (eqb (ageKeptOf s i) 0) ≡ m .ageKept i
+  ageKept-at i l = rw (get8 (start h) ageKeptCell i 0 (ageKeptFrom + i) refl (omega arith) l (omega arith)) (ap (λ (n : Server). n .ageKept i) (h .is))
+
+  -- a station's age counts
+  pub ageless-at : (i : ℕ) → i < 8 → ageless s i ≡ not (ageCounts (m .fin i) (m .ageKept i))
+  unfolding ageless
+  ageless-at i l = rw (← fin-at i l, ← ageKept-at i l) (split (eqb (unfinishedOf s i) 0) (eqb (ageKeptOf s i) 0))
+    where
+      split : (a b : Bool) → (a && b) ≡ not (not a || not b)
+      split true true = refl
+      split true false = refl
+      split false true = refl
+      split false false = refl
 
   -- they fit their fields
 

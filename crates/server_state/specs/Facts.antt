@@ -16,8 +16,8 @@ use Rattle.lists.specs.Tests.{allTo, allTo-at, allTo-of, and-l, and-r}
 use Rattle.sets.specs.Laws.{byB}
 use Rattle.limits.specs.Limit.{limit}
 use Rattle.station_state.specs.Layout.{hasBit, countIn, noneIn}
-use Rattle.server_state.specs.Layout.{counterLimit, kindFrom, wantFrom, calledFrom, unfinishedFrom, serverLength, ageOf, arrivalOf, agesOf, arrivalsOf, workNumber, latestOf, askedOf, lockFrom, lockOf, wholeOf, readSetFrom, writtenSetFrom, kindOf, wantOf, requestOf, calledOf, pendOf, busyOf, unfinishedOf}
-use Rattle.server_state.specs.Valid.{mostAt, most, rangesOk, countersOk, wordOf, onlyIn, blankOk, fewOk, commitOk, requestOk, waiterOk, entryOk, owesAt, callsOk, agedOk, stationOk, holderOk, holderAt, besideAt, pageOk, askedAt, apartAt, apartOk, valid, kindsOk}
+use Rattle.server_state.specs.Layout.{counterLimit, kindFrom, wantFrom, calledFrom, unfinishedFrom, serverLength, ageOf, arrivalOf, agesOf, arrivalsOf, workNumber, latestOf, askedOf, lockFrom, lockOf, wholeOf, readSetFrom, writtenSetFrom, kindOf, wantOf, requestOf, calledOf, pendOf, busyOf, unfinishedOf, ageKeptFrom, ageKeptOf}
+use Rattle.server_state.specs.Valid.{mostAt, most, rangesOk, countersOk, wordOf, onlyIn, blankOk, fewOk, commitOk, requestOk, waiterOk, entryOk, owesAt, callsOk, agedOk, stationOk, holderOk, holderAt, besideAt, pageOk, askedAt, apartAt, apartOk, valid, kindsOk, ageless}
 
 -- TESTS
 
@@ -90,6 +90,7 @@ pub record Ranged (s : List ℕ) : Type 0 where
   pub want-fits : (i : ℕ) → i < 8 → wantOf s i ≤ 3
   pub called-fits : (i : ℕ) → i < 8 → calledOf s i ≤ 1
   pub unfinished-fits : (i : ℕ) → i < 8 → unfinishedOf s i ≤ 1
+  pub age-kept-fits : (i : ℕ) → i < 8 → ageKeptOf s i ≤ 1
   pub ages-fit : agesOf s < counterLimit
   pub arrivals-fit : arrivalsOf s < counterLimit
   pub age-given : (i : ℕ) → i < 8 → ageOf s i < agesOf s
@@ -103,7 +104,7 @@ pub record Ranged (s : List ℕ) : Type 0 where
   -- beside a whole lock there are only its holder's locks
   pub beside : (p o : ℕ) → p < 32 → o < 8 → wholeOf s p ≢ 0 → lockOf s (p * 8 + o) ≢ 0 → lockOf s (p * 8 + o) ≡ wholeOf s p
   pub asked-held : (p : ℕ) → p < 32 → hasBit (askedOf s) p ≡ true → wholeOf s p ≢ 0
-  pub ages-apart : (i j : ℕ) → i < 8 → j < 8 → i ≢ j → unfinishedOf s i ≢ 0 → unfinishedOf s j ≢ 0 → ageOf s i ≢ ageOf s j
+  pub ages-apart : (i j : ℕ) → i < 8 → j < 8 → i ≢ j → ageless s i ≡ false → ageless s j ≡ false → ageOf s i ≢ ageOf s j
   pub arrivals-apart : (i j : ℕ) → i < 8 → j < 8 → i ≢ j → wantOf s i ≢ 0 → wantOf s j ≢ 0 → arrivalOf s i ≢ arrivalOf s j
 
 -- A STATION
@@ -243,16 +244,16 @@ module _ (s : List ℕ) (p : ℕ) (h : pageOk s p ≡ true) where
 
 module _ (s : List ℕ) (i j : ℕ) (h : apartAt s i j ≡ true) where
   abbrev ages : Bool
-  ages = eqb (unfinishedOf s i) 0 || eqb (unfinishedOf s j) 0 || not (eqb (ageOf s i) (ageOf s j))
+  ages = ageless s i || ageless s j || not (eqb (ageOf s i) (ageOf s j))
 
   abbrev arrivals : Bool
   arrivals = eqb (wantOf s i) 0 || eqb (wantOf s j) 0 || not (eqb (arrivalOf s i) (arrivalOf s j))
 
-  ages-differ : unfinishedOf s i ≢ 0 → unfinishedOf s j ≢ 0 → ageOf s i ≢ ageOf s j
+  ages-differ : ageless s i ≡ false → ageless s j ≡ false → ageOf s i ≢ ageOf s j
   unfolding apartAt
   ages-differ u v =
       eqb-false (ageOf s i) (ageOf s j)
-      (not-true (eqb (ageOf s i) (ageOf s j)) (rw (ne-eqb (unfinishedOf s i) 0 u, ne-eqb (unfinishedOf s j) 0 v) at (and-l ages arrivals h)))
+      (not-true (eqb (ageOf s i) (ageOf s j)) (rw (u, v) at (and-l ages arrivals h)))
 
   arrivals-differ : wantOf s i ≢ 0 → wantOf s j ≢ 0 → arrivalOf s i ≢ arrivalOf s j
   unfolding apartAt
@@ -280,7 +281,8 @@ valid-ranged s h =
     let front = rangesOk s && countersOk s && stations in
     let u = all-4 front pages asked apart (and-r sized (front && pages && asked && apart) h) in
     let v = all-3 (rangesOk s) (countersOk s) stations (u .0) in
-    let r = all-4 (most s kindFrom 1 8) (most s wantFrom 3 8) (most s calledFrom 1 8) (most s unfinishedFrom 1 8) (v .0) in
+    let flags = most s kindFrom 1 8 && most s wantFrom 3 8 && most s calledFrom 1 8 && most s unfinishedFrom 1 8 in
+    let r = all-4 (most s kindFrom 1 8) (most s wantFrom 3 8) (most s calledFrom 1 8) (most s unfinishedFrom 1 8) (and-l flags (most s ageKeptFrom 1 8) (v .0)) in
     let station : (i : ℕ) → i < 8 → stationOk s i ≡ true = allTo-at (stationOk s) 8 (v .2) in
     let page : (p : ℕ) → p < 32 → pageOk s p ≡ true = allTo-at (pageOk s) 32 (u .1) in
     record {
@@ -289,6 +291,7 @@ valid-ranged s h =
       want-fits = most-at s wantFrom 3 8 (r .1);
       called-fits = most-at s calledFrom 1 8 (r .2);
       unfinished-fits = most-at s unfinishedFrom 1 8 (r .3);
+      age-kept-fits = most-at s ageKeptFrom 1 8 (and-r flags (most s ageKeptFrom 1 8) (v .0));
       ages-fit = ltb-true (agesOf s) counterLimit (and-l (ltb (agesOf s) counterLimit) (ltb (arrivalsOf s) counterLimit) (v .1));
       arrivals-fit = ltb-true (arrivalsOf s) counterLimit (and-r (ltb (agesOf s) counterLimit) (ltb (arrivalsOf s) counterLimit) (v .1));
       age-given = λ i l. station-age s i (station i l);
@@ -348,12 +351,12 @@ pub none-asked : (s : List ℕ) → askedOf s ≡ 0 → true ≡ allTo (askedAt 
 unfolding askedAt
 none-asked s e = sym (allTo-of (askedAt s) 32 (λ p l. rw (e, no-bit p)))
 
--- a station that neither works nor waits
-pub apart-idle : (s : List ℕ) (i : ℕ) → (eqb (unfinishedOf s i) 0 && eqb (wantOf s i) 0) ≡ true → true ≡ apartOk s i
+-- a station whose age does not count and that does not wait
+pub apart-idle : (s : List ℕ) (i : ℕ) → (ageless s i && eqb (wantOf s i) 0) ≡ true → true ≡ apartOk s i
 unfolding apartOk apartAt
 apart-idle s i e =
-    let a = and-l (eqb (unfinishedOf s i) 0) (eqb (wantOf s i) 0) e in
-    let b = and-r (eqb (unfinishedOf s i) 0) (eqb (wantOf s i) 0) e in
+    let a = and-l (ageless s i) (eqb (wantOf s i) 0) e in
+    let b = and-r (ageless s i) (eqb (wantOf s i) 0) e in
     sym (allTo-of (apartAt s i) i (λ j l. rw (a, b) refl))
 
 -- the last of four words, the others being as they should

@@ -42,6 +42,7 @@ table =
     ∷ region 1 8 1  -- pend
     ∷ region 1 8 1  -- busy
     ∷ region 1 8 1  -- unfinished
+    ∷ region 1 8 1  -- age kept
     ∷ []
 
 abbrev pub serverLength : ℕ
@@ -127,6 +128,9 @@ busyCell = pendCell + 1
 
 abbrev pub unfinishedCell : ℕ
 unfinishedCell = busyCell + 1
+
+abbrev pub ageKeptCell : ℕ
+ageKeptCell = unfinishedCell + 1
 
 -- the bytes of a row: a station's values by address, its versions by page, an object set for each page; of a page's eight values
 abbrev rowOf : ℕ → ℕ
@@ -310,6 +314,13 @@ unfinishedFrom = base table unfinishedCell
 
 abbrev pub unfinishedOf : List ℕ → ℕ → ℕ
 unfinishedOf s i = getD s (unfinishedFrom + i) 0
+
+-- 1 while the station keeps its age (wish 2)
+abbrev pub ageKeptFrom : ℕ
+ageKeptFrom = base table ageKeptCell
+
+abbrev pub ageKeptOf : List ℕ → ℕ → ℕ
+ageKeptOf s i = getD s (ageKeptFrom + i) 0
 
 -- small questions, as in crate line
 

@@ -11,7 +11,7 @@ use lib.Bits.{bitOr}
 use Rattle.le.specs.Le.{u64At, setU64}
 use Rattle.limits.specs.Limit.{limit}
 use Rattle.station_state.specs.Layout.{hasBit, countIn, noneIn}
-use Rattle.server_state.specs.Layout.{counterLimit, nextAgeFrom, nextArrivalFrom, kindFrom, wantFrom, calledFrom, unfinishedFrom, serverLength, ageOf, arrivalOf, agesOf, arrivalsOf, workNumber, latestOf, askedOf, lockOf, wholeOf, readSetFrom, writtenSetFrom, kindOf, wantOf, requestOf, calledOf, pendOf, busyOf, unfinishedOf}
+use Rattle.server_state.specs.Layout.{counterLimit, nextAgeFrom, nextArrivalFrom, kindFrom, wantFrom, calledFrom, unfinishedFrom, serverLength, ageOf, arrivalOf, agesOf, arrivalsOf, workNumber, latestOf, askedOf, lockOf, wholeOf, readSetFrom, writtenSetFrom, kindOf, wantOf, requestOf, calledOf, pendOf, busyOf, unfinishedOf, ageKeptFrom, ageKeptOf}
 
 -- a byte is at most n
 unfoldable pub mostAt : List ℕ → ℕ → ℕ → ℕ → Bool
@@ -23,7 +23,7 @@ most s at n m = allTo (mostAt s at n) m
 
 -- kinds and flags
 unfoldable pub rangesOk : List ℕ → Bool
-rangesOk s = most s kindFrom 1 8 && most s wantFrom 3 8 && most s calledFrom 1 8 && most s unfinishedFrom 1 8
+rangesOk s = most s kindFrom 1 8 && most s wantFrom 3 8 && most s calledFrom 1 8 && most s unfinishedFrom 1 8 && most s ageKeptFrom 1 8
 
 -- "each transaction gets a new age, 2^63 being out of range": the counters stand above every age and arrival
 unfoldable pub countersOk : List ℕ → Bool
@@ -108,10 +108,14 @@ pageOk s p = cond (eqb (wholeOf s p) 0) (allTo (holderAt s p) 8) (holderOk s (wh
 unfoldable pub askedAt : List ℕ → ℕ → Bool
 askedAt s p = not (hasBit (askedOf s) p) || not (eqb (wholeOf s p) 0)
 
--- "equal ages or arrivals": of unfinished transactions, of waiters
+-- a station's age does not count: its transaction is finished, and it keeps no age
+unfoldable pub ageless : List ℕ → ℕ → Bool
+ageless s i = eqb (unfinishedOf s i) 0 && eqb (ageKeptOf s i) 0
+
+-- "equal ages or arrivals": of unfinished transactions and of stations that keep their age, of waiters
 unfoldable pub apartAt : List ℕ → ℕ → ℕ → Bool
 apartAt s i j =
-    (eqb (unfinishedOf s i) 0 || eqb (unfinishedOf s j) 0 || not (eqb (ageOf s i) (ageOf s j)))
+    (ageless s i || ageless s j || not (eqb (ageOf s i) (ageOf s j)))
     && (eqb (wantOf s i) 0 || eqb (wantOf s j) 0 || not (eqb (arrivalOf s i) (arrivalOf s j)))
 
 -- each pair is looked at once

@@ -4,7 +4,7 @@ ghost use Prim.Native.Nat.{_+_, _≤_, _<_};
 ghost use lib.ListN.{length, replicate};
 ghost use Rattle.lists.specs.Tests.{allTo};
 ghost use Rattle.server_state.specs.Layout.{serverLength, otherB};
-ghost use Rattle.server_state.specs.Valid.{mostAt, most as Valid·most, rangesOk, countersOk, wordOf, onlyIn, blankOk, fewOk, commitOk, requestOk, waiterOk, entryOk, owesAt, callsOk, agedOk, stationOk, holderOk, holderAt, besideAt, pageOk, askedAt, apartAt, apartOk, valid as Valid·valid, kindsOk, kindsTo, freshened, freshOf};
+ghost use Rattle.server_state.specs.Valid.{mostAt, most as Valid·most, rangesOk, countersOk, wordOf, onlyIn, blankOk, fewOk, commitOk, requestOk, waiterOk, entryOk, owesAt, callsOk, agedOk, stationOk, holderOk, holderAt, besideAt, pageOk, askedAt, apartAt, apartOk, valid as Valid·valid, kindsOk, kindsTo, freshened, freshOf, ageless};
 ghost use Rattle.server_state.specs.Eights.{groupFree, groupOk};
 ghost use Rattle.server_state.specs.Ages.{agedOf};
 use station_state::NUMBER_WIDTH;
@@ -73,7 +73,9 @@ pub const BUSY: usize = PEND + 8;
 
 pub const UNFINISHED: usize = BUSY + 8;
 
-pub const LENGTH: usize = UNFINISHED + 8;
+pub const AGE_KEPT: usize = UNFINISHED + 8;
+
+pub const LENGTH: usize = AGE_KEPT + 8;
 
 // "each transaction gets a new age, 2^63 being out of range": of ages and arrivals.
 pub const COUNTER_LIMIT: u64 = 9223372036854775808;
@@ -111,7 +113,11 @@ fn ranges_ok(s: &[u8]) -> bool
     requires { ⌜ length (now s) ≡ serverLength ⌝ }
     ensures { λ r. ⌜ r ≡ rangesOk (now (s .entry)) ⌝ }
 {
-    most(s, KIND, 1, 8) & most(s, WANT, 3, 8) & most(s, CALLED, 1, 8) & most(s, UNFINISHED, 1, 8)
+    most(s, KIND, 1, 8)
+        & most(s, WANT, 3, 8)
+        & most(s, CALLED, 1, 8)
+        & most(s, UNFINISHED, 1, 8)
+        & most(s, AGE_KEPT, 1, 8)
 }
 
 fn counters_ok(s: &[u8]) -> bool
@@ -459,25 +465,33 @@ fn asked_ok(s: &[u8]) -> bool
     ok
 }
 
-// Whether the unfinished transactions of stations i and j differ in age, and their requests in arrival.
+// Whether the age of station i does not count: its transaction is finished, and it keeps no age.
+fn ageless_at(s: &[u8], i: usize) -> bool
+    requires { ⌜ (length (now s) ≡ serverLength) × (i < 8) ⌝ }
+    ensures { λ r. ⌜ r ≡ ageless (now (s .entry)) i ⌝ }
+{
+    (s[UNFINISHED + i] == 0) & (s[AGE_KEPT + i] == 0)
+}
+
+// Whether stations i and j differ in age, where both ages count, and their requests in arrival.
 fn apart_at(s: &[u8], i: usize, j: usize) -> bool
     requires { ⌜ (length (now s) ≡ serverLength) × (i < 8) × (j < 8) ⌝ }
     ensures { λ r. ⌜ r ≡ apartAt (now (s .entry)) i j ⌝ }
 {
-    ((s[UNFINISHED + i] == 0)
-        | (s[UNFINISHED + j] == 0)
+    (ageless_at(s, i)
+        | ageless_at(s, j)
         | (le::get_u64(s, AGE + i * AGE_WIDTH) != le::get_u64(s, AGE + j * AGE_WIDTH)))
         & ((s[WANT + i] == 0)
             | (s[WANT + j] == 0)
             | (le::get_u64(s, ARRIVAL + i * AGE_WIDTH) != le::get_u64(s, ARRIVAL + j * AGE_WIDTH)))
 }
 
-// A station that neither works nor waits is passed over; the others are looked at beside those before them.
+// A station whose age does not count and that does not wait is passed over; the others are looked at beside those before them.
 fn apart_ok(s: &[u8], i: usize) -> bool
     requires { ⌜ (length (now s) ≡ serverLength) × (i < 8) ⌝ }
     ensures { λ r. ⌜ r ≡ apartOk (now (s .entry)) i ⌝ }
 {
-    if (s[UNFINISHED + i] == 0) & (s[WANT + i] == 0) {
+    if ageless_at(s, i) & (s[WANT + i] == 0) {
         return true;
     }
     let mut ok = true;

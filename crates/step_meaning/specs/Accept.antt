@@ -14,7 +14,7 @@ use Rattle.cells.specs.Num.{AllBytes, all-bytes, bytes-all}
 use Rattle.cells.specs.Upd.{cond-rel, branch-rel}
 use Rattle.cells.specs.Bits.{tb, tb-zero, tb-pow}
 use Rattle.line.specs.Messages.{address, locking, lastNumber, Work, ReadRequest, WriteRequest, Commit, Abort, Purge, Busy, Done, WrittenSet, NoLock, Committed}
-use Rattle.line.specs.Server.{Server, Waiter, WantRead, WantWrite, WantCommit, noWaiter, waiterPend, waiterBusy, setOl, setWl, setAsked, setQueue, onServer, openCall, openAsk, unexpected, notice, finish, join, leave, sendPage, readWaiter, writeWaiter, commitWaiter, serveNow, joinRead, joinWrite, joinCommit, write, archive, informFrom, install, commitNow, unlist, markBusy, answered, loosen, accept, start}
+use Rattle.line.specs.Server.{ByCommit, ByMessage, Server, Waiter, WantRead, WantWrite, WantCommit, noWaiter, waiterPend, waiterBusy, setOl, setWl, setAsked, setQueue, onServer, openCall, openAsk, unexpected, notice, finish, join, leave, sendPage, readWaiter, writeWaiter, commitWaiter, serveNow, joinRead, joinWrite, joinCommit, write, archive, informFrom, install, commitNow, unlist, markBusy, answered, loosen, accept, start}
 use Rattle.line.specs.Server as Model
 use Rattle.message.specs.Layout.{stationOf, pageOf, requesterOf, objectOf, transactionOf, pagesOf, setOf}
 use Rattle.message.specs.Layout as Message
@@ -155,12 +155,12 @@ module _ {b : Serving} {z : Model.Serving} (h : Serves b z) where
       (sendPage-means h NoLock i a 0 l la (omega arith) n)
 
   -- "every transaction's end frees its locks"
-  finish-means : (i : ℕ) → i < 8 → Serves (onState b (finishB i (b .state))) (finish i z)
+  finish-means : (i : ℕ) → i < 8 → Serves (onState b (finishB i 0 (b .state))) (finish i ByMessage z)
   unfolding finish
   finish-means i l =
       record {
-        state = finish-is (h .state) i l;
-        wanting = wanting-finish (b .state) (h .wanting) i;
+        state = finish-is (h .state) i false l;
+        wanting = wanting-finish (b .state) (h .wanting) i 0;
         sound = sound-same _ refl refl refl refl (sound-finish (h .sound) i);
         sent = h .sent;
         recs = h .recs;
@@ -231,7 +231,7 @@ unfolding install
 install-same i w z y e =
     ap
     (λ (u : Model.Serving).
-    informFrom 8 0 i w (Model.send (finish i (archive i w (write w u))) i (Committed (w .transaction) (finish i (archive i w (write w u)) .server .last)))) e
+    informFrom 8 0 i w (Model.send (finish i ByCommit (archive i w (write w u))) i (Committed (w .transaction) (finish i ByCommit (archive i w (write w u)) .server .last)))) e
 
 left-again : (i : ℕ) (y : Waiter) (z : Model.Serving) → leave i (onServer z (setQueue (z .server) (upd (upd (z .server .queue) i noWaiter) i y))) ≡ leave i z
 unfolding leave

@@ -1,7 +1,7 @@
 -- The actions over bytes mean document 01's: a page sent, an abort, an install.
 use Prim.Native.Nat.{ℕ, zero, suc, _+_, _*_, _/_, _%_, _^_, _≤_, _<_}
 use mathlib.Core.Path.{_≡_, refl, sym, ap, ap₂, subst, _∙_, fun-ext}
-use mathlib.Core.Bool.{Bool, true, not, _&&_, cond}
+use mathlib.Core.Bool.{Bool, true, false, not, _&&_, cond}
 use mathlib.Core.List.{List}
 use mathlib.Core.Logic.{_≢_}
 use native.Mathlib.Omega.{arith}
@@ -18,13 +18,13 @@ use Rattle.layout.specs.Record.{bytesOf}
 use Rattle.entries.specs.Entries.{entriesFrom, entriesOf}
 use Rattle.recs.specs.Recs.{asRecord}
 use Rattle.line.specs.Messages.{locking, Work, Lock, Invalidate}
-use Rattle.line.specs.Server.{Server, onServer, setListed, wrotePage, sendPage, leave, finish, abort, write, archive, inform, informFrom, install, recordOf}
+use Rattle.line.specs.Server.{ByCause, Server, onServer, setListed, wrotePage, sendPage, leave, finish, abort, write, archive, inform, informFrom, install, recordOf}
 use Rattle.line.specs.Server as Model
 use Rattle.station_state.specs.Layout.{numberWidth, valueWidth, hasBit, member}
 use Rattle.set_record.specs.Record.{valuesAt}
 use Rattle.server_state.specs.Layout.{readValueCell, writtenValueCell, workCell, readSetCell, writtenSetCell, table, workFrom, readValuesFrom, writtenValuesFrom, workNumber, lastOf, readSetFrom, writtenSetFrom, writtenSet}
 use Rattle.server_tests.specs.Tests.{writtenPageB, writtenPagesB, informedB}
-use Rattle.server_changes.specs.Changes.{finishB, leaveB, writeB}
+use Rattle.server_changes.specs.Changes.{keepsAgeB, finishB, leaveB, writeB}
 use Rattle.server_actions.specs.Actions.{Serving, recordB, sendPageB, abortB, informB, informTo, installB}
 use Rattle.station_meaning.specs.Meant.{within, valueIf}
 use Rattle.station_meaning.specs.Tests.{has-if}
@@ -54,19 +54,19 @@ module _ {b : Serving} {x : Model.Serving} (h : Serves b x) where
       }
 
   -- a transaction's end: its entry goes, then its locks
-  pub ended-state : (i : ℕ) → i < 8 → Is (finishB i (leaveB i (b .state))) (finish i (leave i x) .server)
-  unfolding finish leave
-  ended-state i l = finish-is (leave-is (h .state) i l) i l
+  pub ended-state : (i c : ℕ) → i < 8 → Is (finishB i (keepsAgeB c) (leaveB i (b .state))) (finish i (ByCause c) (leave i x) .server)
+  unfolding finish leave keepsAgeB
+  ended-state i c l = finish-is (leave-is (h .state) i l) i (eqb c 1) l
 
   -- 22: "its locks and request go"
   pub abort-means : (i c : ℕ) → i < 8 → 1 ≤ c → c ≤ 4 → x .server .latest i ≢ 0 → Serves (abortB i c b) (abort i c x)
   unfolding abortB abort finish leave
   abort-means i c l c1 c4 n =
-      let k = ended-state i l in
+      let k = ended-state i c l in
       let s = leaveB i (b .state) in
       record {
         state = k;
-        wanting = wanting-finish s (wanting-leave (b .state) (h .wanting) i l) i;
+        wanting = wanting-finish s (wanting-leave (b .state) (h .wanting) i l) i (keepsAgeB c);
         sound = sound-same _ refl refl refl refl (sound-finish (sound-leave (h .sound) i) i);
         sent =
             sent-snoc (b .sent) (x .sent) _ _ (h .sent)
@@ -185,14 +185,14 @@ install-means {b} {x} h i w l e n ln =
     let s = writeB i (b .state) in
     let v = workOf (b .state) i in
     let wrote = write-is (h .state) i l ln in
-    let k = finish-is (leave-is wrote i l) i l in
+    let k = finish-is (leave-is wrote i l) i false l in
     let named : v .transaction ≢ 0 = subst (λ (u : Work). u .transaction ≢ 0) (sym e) n in
     let next : m .last + 1 < 2 ^ 32 = rw (← last-at (h .state)) ln in
     subst (λ (u : Work). Serves (installB i b) (install i u x)) e
     (informs-means
     (record {
       state = k;
-      wanting = wanting-finish (leaveB i s) (wanting-leave s (wanting-write (b .state) (h .wanting) i) i l) i;
+      wanting = wanting-finish (leaveB i s) (wanting-leave s (wanting-write (b .state) (h .wanting) i) i l) i 0;
       sound = sound-same _ refl refl refl refl (sound-finish (sound-leave (h .sound) i) i);
       sent =
           sent-snoc (b .sent) (x .sent) _ _ (h .sent)

@@ -19,8 +19,8 @@ use Rattle.message.specs.Commit.{recordAt, addressesAt}
 use Rattle.record.specs.Check.{writeCountFrom, readCountFrom}
 use Rattle.station_state.specs.Layout.{pageSetWidth, numberWidth, valueWidth, hasBit, member}
 use Rattle.station_state.specs.Changes.{addTo, pageOn, pageOff, clearTo}
-use Rattle.server_state.specs.Layout.{ageWidth, valueFrom, valueRow, setRow, ageFrom, arrivalFrom, nextAgeFrom, nextArrivalFrom, versionFrom, workFrom, latestFrom, listedFrom, lastFrom, askedFrom, lockFrom, wholeFrom, wantFrom, requestFrom, calledFrom, pendFrom, busyFrom, unfinishedFrom, readValuesFrom, sentVersionsFrom, readSetFrom, agesOf, latestOf, lockOf, wholeOf, writtenSet, writtenSetFrom, writtenValuesFrom}
-use Rattle.server_changes.specs.Changes.{noticeB, freePageB, freePagesTo, freeOneB, freeTo, finishB, leaveB, joinB, joinReadB, joinWriteB, unpackOne, unpackTo, versionsIn, unpackB, joinCommitB, listB, unlistB, markBusyB, answeredB, lockOneB, lockTo, loosenB, askedB, calledB, lockPageB, lockObjectB, versionOneB, versionsTo, valueOneB, valuesTo, writeB}
+use Rattle.server_state.specs.Layout.{ageWidth, valueFrom, valueRow, setRow, ageFrom, arrivalFrom, nextAgeFrom, nextArrivalFrom, versionFrom, workFrom, latestFrom, listedFrom, lastFrom, askedFrom, lockFrom, wholeFrom, wantFrom, requestFrom, calledFrom, pendFrom, busyFrom, unfinishedFrom, ageKeptFrom, readValuesFrom, sentVersionsFrom, readSetFrom, agesOf, ageKeptOf, latestOf, lockOf, wholeOf, writtenSet, writtenSetFrom, writtenValuesFrom}
+use Rattle.server_changes.specs.Changes.{newAgeB, ageB, noticeB, freePageB, freePagesTo, freeOneB, freeTo, finishB, leaveB, joinB, joinReadB, joinWriteB, unpackOne, unpackTo, versionsIn, unpackB, joinCommitB, listB, unlistB, markBusyB, answeredB, lockOneB, lockTo, loosenB, askedB, calledB, lockPageB, lockObjectB, versionOneB, versionsTo, valueOneB, valuesTo, writeB}
 use Rattle.server_meaning.specs.Tests.{Wanting}
 use Rattle.step_meaning.specs.Relation.{Sound}
 
@@ -163,20 +163,23 @@ module _ (s : List ℕ) (k : Wanting s) where
   wanting-unlist i d l = want-u32 here (listedFrom + i * pageSetWidth) _ (omega arith) .wants
 
   noticed : (i t : ℕ) → i < 8 → Ok (noticeB i t s)
-  unfolding noticeB
+  unfolding noticeB ageB newAgeB
   noticed i t l =
-      let ages = want-u64 (want-u64 here (ageFrom + i * ageWidth) (agesOf s) (omega arith)) nextAgeFrom (agesOf s + 1) (omega arith) in
+      let new = want-u64 (want-u64 here (ageFrom + i * ageWidth) (agesOf s) (omega arith)) nextAgeFrom (agesOf s + 1) (omega arith) in
+      let ages = want-cond (eqb (ageKeptOf s i) 0) new here in
       want-cond (eqb t (latestOf s i)) here (want-u32 (want-set ages (unfinishedFrom + i) 1 (λ j q e. omega arith)) (latestFrom + i * numberWidth) t (omega arith))
 
   pub wanting-notice : (i t : ℕ) → i < 8 → Wanting (noticeB i t s)
   wanting-notice i t l = noticed i t l .wants
 
-  finished : (i : ℕ) → Ok (finishB i s)
+  finished : (i k : ℕ) → Ok (finishB i k s)
   unfolding finishB
-  finished i = want-set (want-locks (want-pages here i 32 (omega arith)) i 256 (omega arith)) (unfinishedFrom + i) 0 (λ j l e. omega arith)
+  finished i k =
+      let freed = want-locks (want-pages here i 32 (omega arith)) i 256 (omega arith) in
+      want-set (want-set freed (unfinishedFrom + i) 0 (λ j l e. omega arith)) (ageKeptFrom + i) k (λ j l e. omega arith)
 
-  pub wanting-finish : (i : ℕ) → Wanting (finishB i s)
-  wanting-finish i = finished i .wants
+  pub wanting-finish : (i k : ℕ) → Wanting (finishB i k s)
+  wanting-finish i k = finished i k .wants
 
   pub wanting-leave : (i : ℕ) → i < 8 → Wanting (leaveB i s)
   wanting-leave i l = left here i l .wants

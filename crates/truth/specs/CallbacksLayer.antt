@@ -10,7 +10,7 @@ use Rattle.sets.specs.Base.{upd}
 use Rattle.sets.specs.Laws.{byEq, eqb-same, eqb-yes, and-l, and-r}
 use Rattle.line.specs.Messages.{Work, Up, ReadRequest, WriteRequest, Commit, Abort, Purge, Busy, Done, WrittenSet, Lock, NoLock, Down, Answer, Nothing, Begun, Value, Waits, Written, CommittedAs, AbortedFor, Purged, Refused, Empty}
 use Rattle.line.specs.Station.{Station, Did, stationStep}
-use Rattle.line.specs.Server.{Server, Serving, WantRead, Waiter, waits, badNumber, unexpected, notice, finish, join, sendPage, abort, ask, serveRead, serveNow, joinRead, joinWrite, joinCommit, readWaiter, writeWaiter, commitWaiter, commitNow, unlist, openCall, markBusy, answered, loosen, accept, call, grantObject, grantPage, install, installWaiter, start}
+use Rattle.line.specs.Server.{End, ByMessage, Server, Serving, WantRead, Waiter, waits, badNumber, unexpected, notice, finish, join, sendPage, abort, ask, serveRead, serveNow, joinRead, joinWrite, joinCommit, readWaiter, writeWaiter, commitWaiter, commitNow, unlist, openCall, markBusy, answered, loosen, accept, call, grantObject, grantPage, install, installWaiter, start}
 use Rattle.line.specs.Pass.{Clear, Ready}
 use Rattle.line.specs.Apart.{good-number}
 use Rattle.line.specs.Line.{World, worldDown, Op, perform, tell, carryUp, carryDown, sentTo, isRefused, fresh}
@@ -164,9 +164,9 @@ module _ (t : ℕ → Station) (u : ℕ → List Up) (d : ℕ → List Down) whe
   under-commit : (i : ℕ) (w : Work) (x : Serving) → Under t u d x → Under t u d (commitNow i w x)
   under-commit i w x h = record { callbacks = λ r j a b. commit-calls t u d r j i w x (h .callbacks r j a b); waiters = commit-G4 i w x (h .waiters) }
 
-  under-finish : (i : ℕ) (x : Serving) → waits (x .server) i ≡ false → Under t u d x → Under t u d (finish i x)
+  under-finish : (i : ℕ) (e : End) (x : Serving) → waits (x .server) i ≡ false → Under t u d x → Under t u d (finish i e x)
   unfolding finish
-  under-finish i x n h = record { callbacks = λ r j a b. finish-calls t u d r j i x n (h .callbacks r j a b); waiters = h .waiters }
+  under-finish i e x n h = record { callbacks = λ r j a b. finish-calls t u d r j i e x n (h .callbacks r j a b); waiters = h .waiters }
 
   under-unlist : (i : ℕ) (p : ℕ → Bool) (x : Serving) → Under t u d x → Under t u d (unlist i p x)
   unfolding unlist
@@ -246,7 +246,7 @@ module _ (i : ℕ) (l : List Up) (w : World) (b : i < 8) (h : Inv w) (g : Arrive
         write-waits = λ a T n e q. joined (WriteRequest a T) T (writeWaiter ((notice i T x) .server) a) n refl refl q;
         commit-now = λ k n f e q. under-commit t u d i k (notice i (k .transaction) x) (noted (Commit k) (k .transaction) n q);
         commit-waits = λ k n e q. joined (Commit k) (k .transaction) (commitWaiter ((notice i (k .transaction) x) .server) k) n refl refl q;
-        aborts = λ T n e q. under-finish t u d i (notice i T x) (noticed-idle t u d i T x n) (noted (Abort T) T n q);
+        aborts = λ T n e q. under-finish t u d i ByMessage (notice i T x) (noticed-idle t u d i T x n) (noted (Abort T) T n q);
         purges = λ p e q. under-unlist t u d i (λ k. eqb k p) x (lost-head (Purge p) q);
         busy = λ k T e q. under-busy t u d i k x (lost-head (Busy k T) q);
         busy-late = λ k T e q. lost-head (Busy k T) q;

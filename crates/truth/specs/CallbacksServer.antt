@@ -10,7 +10,7 @@ use Rattle.sets.specs.Base.{upd, upd2, snoc}
 use Rattle.sets.specs.Laws.{byB, byEq, eqb-same, eqb-yes, eqb-no, any-no, not-yes}
 use Rattle.line.specs.Messages.{pageOf, lastNumber, Work, Up, Lock, NoLock, ObjectLock, WholeLock, Down, Page, Deescalate, Committed, Aborted, Invalidate, Sent, To}
 use Rattle.line.specs.Station.{Station}
-use Rattle.line.specs.Server.{Server, Serving, onServer, send, setListed, setAsked, setOl, setWl, wrotePage, valuesOn, unavailable, Waiter, isWant, noWaiter, waits, badNumber, notice, finish, join, leave, sendPage, abort, write, archive, install, commitNow, markBusy, answered, ask, serveRead, concerned, call, grantObject, grantPage, allAnswered}
+use Rattle.line.specs.Server.{End, ByCommit, ByCause, Server, Serving, onServer, send, setListed, setAsked, setOl, setWl, wrotePage, valuesOn, unavailable, Waiter, isWant, noWaiter, waits, badNumber, notice, finish, join, leave, sendPage, abort, write, archive, install, commitNow, markBusy, answered, ask, serveRead, concerned, call, grantObject, grantPage, allAnswered}
 use Rattle.line.specs.Line.{sentTo}
 use Rattle.line.specs.Laws.{sentTo-snoc}
 use Rattle.line.specs.Apart.{GoodNumber, good-number}
@@ -42,14 +42,14 @@ module _ (t : ℕ → Station) (u : ℕ → List Up) (d : ℕ → List Down) (r 
       byEq r i (λ e. rw e (changes h noWaiter false (λ f. no-token h f (n e)) (λ a b. false≢true a))) (λ e. rw e h)
 
   -- its waiter goes, its transaction is over
-  pub end-calls : (i : ℕ) (x : Serving) → CallsIn t u d r j x → CallsIn t u d r j (finish i (leave i x))
+  pub end-calls : (i : ℕ) (f : End) (x : Serving) → CallsIn t u d r j x → CallsIn t u d r j (finish i f (leave i x))
   unfolding finish leave
-  end-calls i x h = byEq r i (λ e. rw e (over h noWaiter false refl)) (λ e. rw e h)
+  end-calls i f x h = byEq r i (λ e. rw e (over h noWaiter false refl)) (λ e. rw e h)
 
   -- the transaction of a station that does not wait is over
-  pub finish-calls : (i : ℕ) (x : Serving) → waits (x .server) i ≡ false → CallsIn t u d r j x → CallsIn t u d r j (finish i x)
+  pub finish-calls : (i : ℕ) (f : End) (x : Serving) → waits (x .server) i ≡ false → CallsIn t u d r j x → CallsIn t u d r j (finish i f x)
   unfolding finish
-  finish-calls i x n h =
+  finish-calls i f x n h =
       byEq r i (λ e. rw e (over h (x .server .queue r) (x .server .queue r .pend j) (rw (eqb-yes r i e) n))) (λ e. rw e h)
 
   -- a new entry, not called
@@ -80,9 +80,9 @@ module _ (t : ℕ → Station) (u : ℕ → List Up) (d : ℕ → List Down) (r 
 
   pub abort-calls : (i c : ℕ) (x : Serving) → CallsIn t u d r j x → CallsIn t u d r j (abort i c x)
   unfolding abort
-  abort-calls i c x h = send-calls i (Aborted ((finish i (leave i x)) .server .latest i) c) (finish i (leave i x)) refl tt (end-calls i x h)
+  abort-calls i c x h = send-calls i (Aborted ((finish i (ByCause c) (leave i x)) .server .latest i) c) (finish i (ByCause c) (leave i x)) refl tt (end-calls i (ByCause c) x h)
 
-  installed-calls : (i : ℕ) (w : Work) (x : Serving) → CallsIn t u d r j x → CallsIn t u d r j (finish i (archive i w (write w (leave i x))))
+  installed-calls : (i : ℕ) (w : Work) (x : Serving) → CallsIn t u d r j x → CallsIn t u d r j (finish i ByCommit (archive i w (write w (leave i x))))
   unfolding archive write finish leave
   installed-calls i w x h = byEq r i (λ e. rw e (over h noWaiter false refl)) (λ e. rw e h)
 
@@ -90,7 +90,7 @@ module _ (t : ℕ → Station) (u : ℕ → List Up) (d : ℕ → List Down) (r 
   install-calls i w x h =
       installs (CallsIn t u d r j) i w
       (λ k y e g. send-calls k (Invalidate (wrotePage w)) (onServer y (setListed (y .server) (λ h p. cond (eqb h k) (y .server .listed h p && not (wrotePage w p)) (y .server .listed h p)))) refl tt g)
-      x (send-calls i (Committed (w .transaction) _) (finish i (archive i w (write w (leave i x)))) refl tt (installed-calls i w x h))
+      x (send-calls i (Committed (w .transaction) _) (finish i ByCommit (archive i w (write w (leave i x)))) refl tt (installed-calls i w x h))
 
   pub commit-calls : (i : ℕ) (w : Work) (x : Serving) → CallsIn t u d r j x → CallsIn t u d r j (commitNow i w x)
   unfolding commitNow

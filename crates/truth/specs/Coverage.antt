@@ -12,7 +12,7 @@ use Rattle.line.specs.All.{All, all-map}
 use Rattle.line.specs.Messages.{pageOf, address, locking, lastNumber, Work, Up, ReadRequest, WriteRequest, Commit, Abort, Purge, Busy, Done, WrittenSet, Lock, NoLock, ObjectLock, WholeLock, Down, Page, Deescalate, Callback, Committed, Aborted, Invalidate, AbortedFor}
 use Rattle.line.specs.Station.{Station, Did, does, setKept, Wait, Idle, ForRead, ForWrite, ForCommit, forRead, forWrite, requested, live, usedAt, usedPage, drops, dropPages, mark, recordRead, writeLocal, doCallback, closed, close, undo, readLocal, readAsk, writeAsk, arrive, takeLock, onDeescalate, onCommitted, onAborted, stationStep, workOf}
 use Rattle.line.specs.Station as S
-use Rattle.line.specs.Server.{Server, Serving, send, onServer, setQueue, setListed, setAsked, setOl, setWl, valuesOn, unavailable, wrotePage, Waiter, waiterPend, waiterCalled, Want, NoWant, WantRead, WantWrite, WantCommit, waits, unexpected, notice, finish, join, leave, sendPage, abort, write, archive, install, serveNow, joinRead, joinWrite, joinCommit, commitNow, unlist, markBusy, answered, loosen, accept, ask, serveRead, concerned, call, grantPage, grantObject, installWaiter, start}
+use Rattle.line.specs.Server.{ByCommit, ByCause, Server, Serving, send, onServer, setQueue, setListed, setAsked, setOl, setWl, valuesOn, unavailable, wrotePage, Waiter, waiterPend, waiterCalled, Want, NoWant, WantRead, WantWrite, WantCommit, waits, unexpected, notice, finish, join, leave, sendPage, abort, write, archive, install, serveNow, joinRead, joinWrite, joinCommit, commitNow, unlist, markBusy, answered, loosen, accept, ask, serveRead, concerned, call, grantPage, grantObject, installWaiter, start}
 use Rattle.line.specs.Line.{Op, Call, fresh, run, perform, sentTo}
 use Rattle.line.specs.Pass.{Atomic, if-keeps, step-keeps}
 use Rattle.line.specs.Runs.{Moves, run-keeps}
@@ -454,14 +454,14 @@ module _ (st : ℕ → Station) (u : ℕ → List Up) (d : ℕ → List Down) wh
   unfolding abort finish
   abort-cover i c x h =
       let g = leave-cover i x h in
-      let y : Serving = finish i (leave i x) in
+      let y : Serving = finish i (ByCause c) (leave i x) in
       send-cover i (Aborted (y .server .latest i) c) y (λ p. refl) (record { kinds = g .kinds; cover = g .cover })
 
   install-cover : (i : ℕ) (w : Work) (x : Serving) → InCover x → InCover (install i w x)
   unfolding archive write finish
   install-cover i w x h =
       let g = leave-cover i x h in
-      let y : Serving = finish i (archive i w (write w (leave i x))) in
+      let y : Serving = finish i ByCommit (archive i w (write w (leave i x))) in
       installs InCover i w
       (λ j z e c.
       let v : locking (st j .kind) ≡ false = rw (c .kinds j) at (not-yes (locking (z .server .kind j)) (and-r (not (eqb j i)) _ (and-l (not (eqb j i) && not (locking (z .server .kind j))) _ e))) in

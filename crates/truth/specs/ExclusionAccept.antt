@@ -9,7 +9,7 @@ use Rattle.sets.specs.Base.{upd, none, has}
 use Rattle.sets.specs.Laws.{byB, byEq, eqb-same, eqb-yes, and-l, and-r}
 use Rattle.line.specs.Messages.{pageOf, lastNumber, locking, Work, Up, Done, WrittenSet, Down}
 use Rattle.line.specs.Station.{Station}
-use Rattle.line.specs.Server.{Server, Serving, Waiter, waiterBusy, waiterPend, isWant, waits, other, badNumber, unexpected, notice, finish, join, leave, sendPage, abort, write, archive, install, serveNow, joinRead, joinWrite, joinCommit, commitNow, unlist, openCall, markBusy, answered, loosen, accept, start}
+use Rattle.line.specs.Server.{End, ByMessage, Server, Serving, Waiter, waiterBusy, waiterPend, isWant, waits, other, badNumber, unexpected, notice, finish, join, leave, sendPage, abort, write, archive, install, serveNow, joinRead, joinWrite, joinCommit, commitNow, unlist, openCall, markBusy, answered, loosen, accept, start}
 use Rattle.line.specs.Line.{World, carryDown}
 use Rattle.line.specs.Apart.{good-number}
 use Rattle.line.specs.Truth.{count}
@@ -68,9 +68,9 @@ module _ (t : ℕ → Station) (u : ℕ → List Up) (e : ℕ → List Down) whe
   unfolding commitNow
   commit-keeps i w x h = if-serving During (eqb (x .server .last) lastNumber) (λ p. abort-keeps i 4 x h) (λ p. install-keeps i w x h)
 
-  finished : (i : ℕ) (x : Serving) → During x → During (finish i x)
+  finished : (i : ℕ) (e : End) (x : Serving) → During x → During (finish i e x)
   unfolding finish
-  finished i x h = finish-keeps h i
+  finished i e x h = finish-keeps h i
 
   busy-keeps : (i r : ℕ) (x : Serving) → During x → During (markBusy i r x)
   unfolding markBusy
@@ -190,7 +190,7 @@ module _ (apart : KnownApart) where
             write-waits = λ a n o k p. join-keeps t u′ (w .down) i _ (notice i n x) refl (seen n _ o p);
             commit-now = λ v o f k p. commit-keeps t u′ (w .down) i v (notice i (v .transaction) x) (seen (v .transaction) _ o p);
             commit-waits = λ v o k p. join-keeps t u′ (w .down) i _ (notice i (v .transaction) x) refl (seen (v .transaction) _ o p);
-            aborts = λ n o k p. finished t u′ (w .down) i (notice i n x) (seen n _ o p);
+            aborts = λ n o k p. finished t u′ (w .down) i ByMessage (notice i n x) (seen n _ o p);
             purges = λ n o p. fewer t u′ (w .down) i x (λ c. eqb c n) (base _ p);
             busy = λ r n o p. busy-keeps t u′ (w .down) i r x (base _ p);
             busy-late = λ r n o p. base _ p;

@@ -11,7 +11,7 @@ use Rattle.sets.specs.Laws.{byB, byEq, eqb-same, eqb-yes, eqb-no, ltb-yes, ltb-
 use Rattle.line.specs.All.{All, all-append}
 use Rattle.line.specs.Messages.{pageOf, locking, Work, Up, ReadRequest, WriteRequest, Commit, Abort, Purge, Busy, Done, WrittenSet, Lock, NoLock, ObjectLock, WholeLock, Down, Page, Deescalate, Callback, Committed, Aborted, Invalidate, Sent, To, Nothing, Begun, Value, Waits, Written, AbortedFor, Purged, Refused}
 use Rattle.line.specs.Station.{Station, Did, does, didStation, unless, setKept, setNum, setOpened, setWait, Wait, Idle, ForRead, ForWrite, ForCommit, waiting, forRead, forWrite, forCommit, requested, Kept, NotKept, KeptCall, live, usedAt, usedPage, shown, mayWrite, workOf, ended, fits, fitsPage, checkBegin, openThen, checkOpen, longRead, longWrite, checkAddress, checkPurge, dropPages, recordRead, writeLocal, doCallback, doKept, doAllKept, closed, close, undo, ownBegin, readLocal, readAsk, readAs, ownRead, writeAsk, ownWrite, ownCommit, ownAbort, ownPurge, arrive, takeLock, answerWait, onPage, onDeescalate, onCallback, onCommitted, onAborted, onInvalidate, onDown, stationStep, inUse, touched, ignored}
-use Rattle.line.specs.Server.{Server, Serving, onServer, send, setListed, wrotePage, informed, write, archive, inform, informFrom, install, badNumber, unlocked, lockOn, unexpected, notice, finish, leave, serveNow, joinRead, joinWrite, joinCommit, commitNow, unlist, openCall, markBusy, answered, openAsk, loosen, accept, concerned, callsFrom}
+use Rattle.line.specs.Server.{Server, Serving, onServer, send, setListed, wrotePage, informed, write, archive, inform, informFrom, install, badNumber, unlocked, lockOn, unexpected, notice, finish, leave, serveNow, joinRead, joinWrite, joinCommit, commitNow, unlist, openCall, markBusy, answered, openAsk, loosen, accept, concerned, callsFrom, ByCommit, ByMessage}
 use Rattle.line.specs.Line.{Op, Begin, Read, Write, Commits, Aborts, Purges, perform, sentTo}
 use Rattle.line.specs.Laws.{sentTo-snoc}
 use Rattle.line.specs.Apart.{good-number}
@@ -375,7 +375,7 @@ pub record Accepts (i : ℕ) (x : Serving) (P : Up → Serving → Type 0) : Typ
   pub write-waits : (a t : ℕ) → badNumber (x .server) i t ≡ false → locking (x .server .kind i) ≡ true → P (WriteRequest a t) (joinWrite i a (notice i t x))
   pub commit-now : (w : Work) → badNumber (x .server) i (w .transaction) ≡ false → unlocked (x .server) i w ≡ false → locking (x .server .kind i) ≡ true → P (Commit w) (commitNow i w (notice i (w .transaction) x))
   pub commit-waits : (w : Work) → badNumber (x .server) i (w .transaction) ≡ false → locking (x .server .kind i) ≡ false → P (Commit w) (joinCommit i w (notice i (w .transaction) x))
-  pub aborts : (t : ℕ) → badNumber (x .server) i t ≡ false → locking (x .server .kind i) ≡ true → P (Abort t) (finish i (notice i t x))
+  pub aborts : (t : ℕ) → badNumber (x .server) i t ≡ false → locking (x .server .kind i) ≡ true → P (Abort t) (finish i ByMessage (notice i t x))
   pub purges : (p : ℕ) → lockOn (x .server) i p ≡ false → P (Purge p) (unlist i (λ q. eqb q p) x)
   pub busy : (r t : ℕ) → openCall (x .server) i r t ≡ true → P (Busy r t) (markBusy i r x)
   pub busy-late : (r t : ℕ) → openCall (x .server) i r t ≡ false → P (Busy r t) x
@@ -418,6 +418,6 @@ module _ (P : Serving → Type 0) (i : ℕ) (w : Work)
   informs-keep zero j x h = h
   informs-keep (suc n) j x h = informs-keep n (suc j) (inform i w j x) (inform-keeps j x h)
 
-  pub installs : (x : Serving) → (let y = finish i (archive i w (write w (leave i x))) in P (send y i (Committed (w .transaction) (y .server .last)))) → P (install i w x)
+  pub installs : (x : Serving) → (let y = finish i ByCommit (archive i w (write w (leave i x))) in P (send y i (Committed (w .transaction) (y .server .last)))) → P (install i w x)
   unfolding install
   installs x h = informs-keep 8 0 _ h

@@ -10,7 +10,7 @@ use Rattle.sets.specs.Laws.{byEq, eqb-yes}
 use Rattle.line.specs.All.{All}
 use Rattle.line.specs.Messages.{Work, Up, Commit, Down, Page, Deescalate, Callback, Committed, Aborted, Invalidate, Sent, To, Rec}
 use Rattle.line.specs.Station.{Wait}
-use Rattle.line.specs.Server.{Serving, Want, NoWant, WantRead, WantWrite, WantCommit, isWant, finish, leave, abort, write, archive, install}
+use Rattle.line.specs.Server.{ByCommit, Serving, Want, NoWant, WantRead, WantWrite, WantCommit, isWant, finish, leave, abort, write, archive, install}
 use Rattle.line.specs.Line.{World, sentTo, carryDown}
 use Rattle.line.specs.Truth.{count, ofTransaction}
 use Rattle.truth.specs.Clauses.{tokenUp, tokenDown, tokens, FitWaiter, isCommitted, OwnedAt}
@@ -99,7 +99,7 @@ module _ (w : World) where
       let r : Rec = record { number = x .server .last + 1; transaction = k .transaction; station = i; kind = x .server .kind i; reads = k .reads; writes = k .writes } in
       let m : Down = Committed (k .transaction) (x .server .last + 1) in
       let c : count isCommitted (w .down i ++ sentTo i (x .sent)) ≡ 0 = none-committed (w .down i ++ sentTo i (x .sent)) z in
-      let y : Serving = finish i (archive i k (write k (leave i x))) in
+      let y : Serving = finish i ByCommit (archive i k (write k (leave i x))) in
       let u : count (ofTransaction i (k .transaction)) (w .archive ++ x .recs) ≡ 0 = rw t (unrecorded (h .owned i b8) o c) in
       installs (λ n. GoalsOf (carryDown n w)) i k
       (λ j n e p. quiet-keeps n _ (To j (Invalidate _) ∷ []) refl refl refl refl (refl, tt) p) x

@@ -12,7 +12,7 @@ use Rattle.line.specs.All.{All, all-map}
 use Rattle.line.specs.Messages.{pageOf, locking, lastNumber, Work, Up, ReadRequest, WriteRequest, Commit, Abort, Purge, Busy, Done, WrittenSet, Lock, NoLock, ObjectLock, WholeLock, Down, Page, Deescalate, Callback, Committed, Aborted, Invalidate, AbortedFor, Written}
 use Rattle.line.specs.Station.{Station, Did, does, Wait, Idle, ForRead, ForWrite, ForCommit, waiting, forRead, forWrite, forCommit, live, dropPages, mark, recordRead, writeLocal, doCallback, closed, close, undo, readLocal, readAsk, writeAsk, arrive, takeLock, onDeescalate, onCommitted, onAborted, stationStep, workOf}
 use Rattle.line.specs.Station as S
-use Rattle.line.specs.Server.{Server, Serving, send, onServer, setListed, setAsked, setOl, setWl, valuesOn, unavailable, wrotePage, Waiter, noWaiter, waiterPend, waiterCalled, waiterBusy, Want, NoWant, WantRead, WantWrite, WantCommit, isWant, waits, badNumber, unexpected, notice, finish, join, leave, sendPage, abort, write, archive, install, readWaiter, writeWaiter, commitWaiter, serveNow, joinRead, joinWrite, joinCommit, commitNow, unlist, openCall, markBusy, answered, loosen, accept, ask, serveRead, concerned, call, grantPage, grantObject, installWaiter, start}
+use Rattle.line.specs.Server.{End, ByCommit, ByCause, ByMessage, Server, Serving, send, onServer, setListed, setAsked, setOl, setWl, valuesOn, unavailable, wrotePage, Waiter, noWaiter, waiterPend, waiterCalled, waiterBusy, Want, NoWant, WantRead, WantWrite, WantCommit, isWant, waits, badNumber, unexpected, notice, finish, join, leave, sendPage, abort, write, archive, install, readWaiter, writeWaiter, commitWaiter, serveNow, joinRead, joinWrite, joinCommit, commitNow, unlist, openCall, markBusy, answered, loosen, accept, ask, serveRead, concerned, call, grantPage, grantObject, installWaiter, start}
 use Rattle.line.specs.Line.{Op, Call, fresh, run, perform, sentTo}
 use Rattle.line.specs.Pass.{Atomic, if-keeps, step-keeps}
 use Rattle.line.specs.Apart.{good-number}
@@ -671,9 +671,9 @@ module _ (st : ℕ → Station) (u : ℕ → List Up) (d : ℕ → List Down) wh
       let k = g .here in
       record { far = λ j f. rw f (g .far j f); here = rw (eqb-same i) (record { kinds = k .kinds; empty = refl; no-up = k .no-up; no-down = k .no-down; fits-up = k .fits-up; fits-down = k .fits-down }); mine = g .mine }
 
-  finish-gone : (i : ℕ) (x : Serving) → Gone i x → Gone i (finish i x)
+  finish-gone : (i : ℕ) (e : End) (x : Serving) → Gone i x → Gone i (finish i e x)
   unfolding finish
-  finish-gone i x g = record { far = λ j f. rw f (g .far j f); here = g .here; mine = g .mine }
+  finish-gone i e x g = record { far = λ j f. rw f (g .far j f); here = g .here; mine = g .mine }
 
   join-back : (i : ℕ) (v : Waiter) (x : Serving) → FitWaiter (st i .kind) (st i .num) (st i .opened) (st i .wait) (x .server .latest i) (v .want) (v .req) → WaitingWork (st i .rd) (st i .wr) (x .server .latest i) (v .want) (v .work) → Shape (v .want) v → x .server .fin i ≡ false → Gone i x → InStep (join i v x)
   unfolding join
@@ -703,7 +703,7 @@ module _ (st : ℕ → Station) (u : ℕ → List Up) (d : ℕ → List Down) wh
 
   abort-back : (i c : ℕ) (x : Serving) → Fit false (x .server .latest i) (st i .num) (st i .opened) (abortWait (st i .kind) (st i .wait)) → Gone i (leave i x) → InStep (abort i c x)
   unfolding abort finish leave
-  abort-back i c x f g = let y : Serving = finish i (leave i x) in send-back i (Aborted (y .server .latest i) c) y f (finish-gone i (leave i x) g)
+  abort-back i c x f g = let y : Serving = finish i (ByCause c) (leave i x) in send-back i (Aborted (y .server .latest i) c) y f (finish-gone i (ByCause c) (leave i x) g)
 
   -- 21, then the 23s
   install-back : (i : ℕ) (w : Work) (x : Serving) → Fit false (w .transaction) (st i .num) (st i .opened) (forCommit (st i .wait)) → Gone i (leave i x) → InStep (install i w x)
@@ -712,7 +712,7 @@ module _ (st : ℕ → Station) (u : ℕ → List Up) (d : ℕ → List Down) wh
       let y : Serving = archive i w (write w (leave i x)) in
       installs InStep i w
       (λ j z e h. send-plain j (Invalidate (wrotePage w)) (onServer z (setListed (z .server) (λ k p. cond (eqb k j) (z .server .listed k p && not (wrotePage w p)) (z .server .listed k p)))) (λ old. refl) (λ kind num opened v. tt) h) x
-      (send-back i (Committed (w .transaction) ((finish i y) .server .last)) (finish i y) f (finish-gone i y (record { far = g .far; here = g .here; mine = g .mine })))
+      (send-back i (Committed (w .transaction) ((finish i ByCommit y) .server .last)) (finish i ByCommit y) f (finish-gone i ByCommit y (record { far = g .far; here = g .here; mine = g .mine })))
 
   -- a waiter of a locking station; its page
   call-in : (i : ℕ) (x : Serving) → waits (x .server) i ≡ true → (x .server .queue i .want ≡ WantRead → ⊥) → InStep x → InStep (call i x)
@@ -868,7 +868,7 @@ module _ (i : ℕ) (l : List Up) (s : Server) (st : ℕ → Station) (u : ℕ �
       (renumbered (answered-now a t (y .server .latest i) (y .server .ver (pageOf a)) nowhere (valuesOn (pageOf a) (y .server .val)) (noticed-own i t x) g) (y .server .latest i) (y .server .fin i) (idle t b))))
       (λ e. rw (send-far i j (d j) (y .sent) m e) (notice-far t b j e))
 
-  abort-taken : (t : ℕ) → badNumber s i t ≡ false → Head (Abort t) → Then (finish i (notice i t (start s)))
+  abort-taken : (t : ℕ) → badNumber s i t ≡ false → Head (Abort t) → Then (finish i ByMessage (notice i t (start s)))
   unfolding finish
   abort-taken t b g j =
       let x : Serving = start s in

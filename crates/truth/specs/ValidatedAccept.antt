@@ -9,7 +9,7 @@ use Rattle.sets.specs.Base.{zeros}
 use Rattle.line.specs.All.{All}
 use Rattle.line.specs.Messages.{locking, lastNumber, Work, Up, Commit, Down, Rec}
 use Rattle.line.specs.Station.{Station}
-use Rattle.line.specs.Server.{Serving, readWaiter, writeWaiter, commitWaiter, notice, serveNow, joinRead, joinWrite, joinCommit, commitNow, unlist, unexpected, accept}
+use Rattle.line.specs.Server.{ByMessage, Serving, readWaiter, writeWaiter, commitWaiter, notice, serveNow, joinRead, joinWrite, joinCommit, commitNow, unlist, unexpected, accept}
 use Rattle.line.specs.Line.{sentTo}
 use Rattle.line.specs.Truth.{left}
 use Rattle.truth.specs.Clauses.{TrueReads, SameVersions, WorkUp}
@@ -78,7 +78,7 @@ module _ (A : List Rec) (t : ℕ → Station) (u : ℕ → List Up) (d : ℕ →
         write-waits = λ a n b e g. writes-join a n e;
         commit-now = λ k b o e g. commits-now k e;
         commit-waits = λ k b e g. commits-join k g;
-        aborts = λ n b e g. finishes A t u d i (notice i n x) (noticed n);
+        aborts = λ n b e g. finishes A t u d i ByMessage (notice i n x) (noticed n);
         purges = λ p b g. unlists A t u d i _ x h;
         busy = λ r n o g. marks A t u d i r x h;
         busy-late = λ r n o g. h;

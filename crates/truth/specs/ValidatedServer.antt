@@ -11,7 +11,7 @@ use Rattle.sets.specs.Laws.{byB, byEq, eqb-same, eqb-yes, ltb-yes, ltb-no}
 use Rattle.line.specs.All.{All}
 use Rattle.line.specs.Messages.{pageOf, locking, Work, Up, Lock, NoLock, Down, Page, Deescalate, Committed, Invalidate, Sent, To, Rec}
 use Rattle.line.specs.Station.{Station}
-use Rattle.line.specs.Server.{Server, Serving, onServer, send, setQueue, setListed, setAsked, Waiter, noWaiter, waiterPend, waiterCalled, wrotePage, valuesOn, informed, write, archive, install, notice, finish, join, leave, sendPage, abort, unlist, markBusy, answered, loosen, ask, concerned, call}
+use Rattle.line.specs.Server.{End, ByCommit, ByCause, Server, Serving, onServer, send, setQueue, setListed, setAsked, Waiter, noWaiter, waiterPend, waiterCalled, wrotePage, valuesOn, informed, write, archive, install, notice, finish, join, leave, sendPage, abort, unlist, markBusy, answered, loosen, ask, concerned, call}
 use Rattle.line.specs.Line.{sentTo}
 use Rattle.line.specs.Laws.{sentTo-snoc}
 use Rattle.line.specs.Truth.{left}
@@ -107,9 +107,9 @@ module _ (A : List Rec) (t : ℕ → Station) (u : ℕ → List Up) (d : ℕ →
   unfolding notice
   notices i n x h = if-serving In (eqb n (x .server .latest i)) (λ e. h) (λ e. record { versions = h .versions; validated = h .validated })
 
-  pub finishes : (i : ℕ) (x : Serving) → In x → In (finish i x)
+  pub finishes : (i : ℕ) (e : End) (x : Serving) → In x → In (finish i e x)
   unfolding finish
-  finishes i x h = record { versions = h .versions; validated = h .validated }
+  finishes i e x h = record { versions = h .versions; validated = h .validated }
 
   pub leaves : (i : ℕ) (x : Serving) → In x → In (leave i x)
   unfolding leave
@@ -137,7 +137,7 @@ module _ (A : List Rec) (t : ℕ → Station) (u : ℕ → List Up) (d : ℕ →
 
   pub aborts : (i c : ℕ) (x : Serving) → In x → In (abort i c x)
   unfolding abort
-  aborts i c x h = sends (finish i (leave i x)) i _ (λ b f. record { page = tt; number = tt; available = tt }) (finishes i (leave i x) (leaves i x h))
+  aborts i c x h = sends (finish i (ByCause c) (leave i x)) i _ (λ b f. record { page = tt; number = tt; available = tt }) (finishes i (ByCause c) (leave i x) (leaves i x h))
 
   pub asks : (h p : ℕ) (x : Serving) → In x → In (ask h p x)
   unfolding ask
@@ -184,7 +184,7 @@ module _ (A : List Rec) (t : ℕ → Station) (u : ℕ → List Up) (d : ℕ →
       (numbers : (j : ℕ) → j < 8 → All (NumberBelow (x .server .last)) (d j ++ sentTo j (x .sent)))
       (own : (r : Rec) → r .writes ≡ k .writes → i < 8 → locking (t i .kind) ≡ false → Installed (snoc (A ++ x .recs) r) (t i .cached) (t i .copy) (t i .wr) (Committed (k .transaction) (x .server .last + 1)))
       (h : In x) where
-    written : In (finish i (archive i k (write k (leave i x))))
+    written : In (finish i ByCommit (archive i k (write k (leave i x))))
     unfolding finish archive write leave
     written =
         let g = leaves i x h in
@@ -194,10 +194,10 @@ module _ (A : List Rec) (t : ℕ → Station) (u : ℕ → List Up) (d : ℕ →
           validated = λ j b f. rw (append-assoc A (x .recs) (r ∷ [])) (grown (g .validated j b f) (r ∷ []) (x .server .last + 1) len (omega arith) (numbers j b));
         }
 
-    told : In (send (finish i (archive i k (write k (leave i x)))) i (Committed (k .transaction) ((finish i (archive i k (write k (leave i x)))) .server .last)))
+    told : In (send (finish i ByCommit (archive i k (write k (leave i x)))) i (Committed (k .transaction) ((finish i ByCommit (archive i k (write k (leave i x)))) .server .last)))
     unfolding finish archive write leave
     told =
-        sends (finish i (archive i k (write k (leave i x)))) i _
+        sends (finish i ByCommit (archive i k (write k (leave i x)))) i _
         (λ b f. record { page = tt; number = rw (append-assoc A (x .recs) (_ ∷ [])) (own _ refl b f); available = tt })
         written
 

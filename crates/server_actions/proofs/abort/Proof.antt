@@ -7,6 +7,9 @@ use Rattle.server_actions.proofs.abort.Tie as tie
 leave-requires : tie.Need-leave-requires
 leave-requires c κs = search needs
 
+keeps-age-requires : tie.Need-keeps-age-requires
+keeps-age-requires c κs = search needs
+
 finish-requires : tie.Need-finish-requires
 finish-requires c κs = search needs
 
@@ -26,7 +29,7 @@ cast-put-message : tie.Need-cast-put-message
 cast-put-message c = search needs
 
 put-message-requires : tie.Need-put-message-requires
-put-message-requires c κs = let h = abort-fits _ _ _ _ _ _ (c .before .before .before .before .before .before .before .before .before .before .before .before .before .before .before .pre .2) in search needs
+put-message-requires c κs = let h = abort-fits _ _ _ _ _ _ (c .before .before .before .before .before .before .before .before .before .before .before .before .before .before .before .before .pre .2) in search needs
 
 one-more-requires : tie.Need-one-more-requires
 one-more-requires c κs = search needs
@@ -38,13 +41,14 @@ same-length-2 : tie.Need-same-length-2
 same-length-2 c = search needs
 
 returns : tie.Need-returns
-returns c = abort-chain _ _ _ _ _ _ (c .before .before .before .before .before .before .before .before .before .before .before .before .before .before .leave .ensures) (c .before .before .before .before .before .before .before .before .before .before .finish .ensures) (c .before .before .before .before .before .before .get-u32 .ensures) (c .before .before .before .put-message .ensures) (c .one-more .ensures)
+returns c = abort-chain _ _ _ _ _ _ (c .before .before .before .before .before .before .before .before .before .before .before .before .before .before .before .leave .ensures) (c .before .before .before .before .before .before .before .before .before .before .before .keeps-age .ensures) (c .before .before .before .before .before .before .before .before .before .before .finish .ensures) (c .before .before .before .before .before .before .get-u32 .ensures) (c .before .before .before .put-message .ensures) (c .one-more .ensures)
 
 pub abort-spec : {M : Type 1} → statement M
 abort-spec =
     tie.close
     (tie.spec
     leave-requires
+    keeps-age-requires
     finish-requires
     mul-get-u32
     add-get-u32

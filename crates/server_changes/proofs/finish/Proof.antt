@@ -16,6 +16,12 @@ add-put-u8 c = search needs
 put-u8-requires : tie.Need-put-u8-requires
 put-u8-requires c κs = search needs
 
+add-put-u8-2 : tie.Need-add-put-u8-2
+add-put-u8-2 c = search needs
+
+put-u8-requires-2 : tie.Need-put-u8-requires-2
+put-u8-requires-2 c κs = search needs
+
 same-length : tie.Need-same-length
 same-length c = search needs
 
@@ -26,4 +32,4 @@ returns c = cc
 pub finish-spec : {M : Type 1} → statement M
 finish-spec =
     tie.close
-    (tie.spec free-pages-requires free-requires add-put-u8 put-u8-requires same-length returns)
+    (tie.spec free-pages-requires free-requires add-put-u8 put-u8-requires add-put-u8-2 put-u8-requires-2 same-length returns)

@@ -22,8 +22,8 @@ returns : tie.Need-returns
 unfolding noticeB
 returns c = simp (sym (c .before .get-u32 .ensures), eq-eqb _ _ (c .if1 .taken))
 
-new-age-requires : tie.Need-new-age-requires
-new-age-requires c κs = search needs
+age-requires : tie.Need-age-requires
+age-requires c κs = search needs
 
 add-put-u8 : tie.Need-add-put-u8
 add-put-u8 c = search needs
@@ -45,7 +45,7 @@ same-length-2 c = search needs
 
 returns-2 : tie.Need-returns-2
 unfolding noticeB
-returns-2 c = simp (sym (c .before .before .before .before .before .before .before .before .before .before .before .before .before .get-u32 .ensures), ne-eqb _ _ (c .before .before .before .before .before .before .before .before .before .before .before .before .if1 .left), sym (c .before .before .before .before .before .before .before .before .before .before .new-age .ensures), sym (c .before .before .before .before .before .before .put-u8 .ensures)) (c .before .before .put-u32 .ensures)
+returns-2 c = simp (sym (c .before .before .before .before .before .before .before .before .before .before .before .before .before .get-u32 .ensures), ne-eqb _ _ (c .before .before .before .before .before .before .before .before .before .before .before .before .if1 .left), sym (c .before .before .before .before .before .before .before .before .before .before .age .ensures), sym (c .before .before .before .before .before .before .put-u8 .ensures)) (c .before .before .put-u32 .ensures)
 
 pub notice-spec : {M : Type 1} → statement M
 notice-spec =
@@ -56,7 +56,7 @@ notice-spec =
     get-u32-requires
     same-length
     returns
-    new-age-requires
+    age-requires
     add-put-u8
     put-u8-requires
     mul-put-u32

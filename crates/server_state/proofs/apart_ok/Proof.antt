@@ -16,20 +16,17 @@ Inv-loop s i ok₀ j₀ ok j = (j ≤ i) × (ok ≡ allTo (apartAt s i) j)
 abbrev μ-loop : tie.MeasureT-loop
 μ-loop s i ok₀ j₀ ok j = i - j
 
+ageless-at-requires : tie.Need-ageless-at-requires Inv-loop μ-loop
+ageless-at-requires c κs = search needs
+
 add-if1 : tie.Need-add-if1 Inv-loop μ-loop
 add-if1 c = search needs
 
 shared-slice-read-if1 : tie.Need-shared-slice-read-if1 Inv-loop μ-loop
 shared-slice-read-if1 c = search needs
 
-add-if1-2 : tie.Need-add-if1-2 Inv-loop μ-loop
-add-if1-2 c = search needs
-
-shared-slice-read-if1-2 : tie.Need-shared-slice-read-if1-2 Inv-loop μ-loop
-shared-slice-read-if1-2 c = search needs
-
 returns : tie.Need-returns Inv-loop μ-loop
-returns c = apart-idle _ _ (c .if1 .taken)
+returns c = apart-idle _ _ (rw (c .before .before .ageless-at .ensures) at (c .if1 .taken))
 
 loop-holds : tie.Need-loop-holds Inv-loop μ-loop
 unfolding allTo
@@ -58,10 +55,9 @@ apart-ok-spec =
     (tie.spec
     Inv-loop
     μ-loop
+    ageless-at-requires
     add-if1
     shared-slice-read-if1
-    add-if1-2
-    shared-slice-read-if1-2
     returns
     loop-holds
     apart-at-requires
