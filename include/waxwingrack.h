@@ -383,7 +383,7 @@ uint32_t wax_counts_entry(const uint8_t *file, size_t length, size_t at, uint32_
 #define WAX_NOTHING   UINT64_C(8) /* a message was taken that tells the owner nothing */
 
 /* Causes. */
-#define WAX_CAUSE_DEADLOCK   1
+#define WAX_CAUSE_DEADLOCK   1 /* the station keeps its age: a repeat is beaten again only by an older transaction */
 #define WAX_CAUSE_STALE      2
 #define WAX_CAUSE_LOCKED     3
 #define WAX_CAUSE_NO_NUMBERS 4
@@ -463,7 +463,7 @@ uint32_t wax_up_check(const uint8_t *kinds, size_t kinds_length, const uint8_t *
  *
  * Bytes of messages and records behind what is given stay as they are. Any answer but WAX_OK changes nothing at all.
  */
-#define WAX_SERVER_LENGTH   37072
+#define WAX_SERVER_LENGTH   37080
 #define WAX_SERVER_MESSAGES 14336 /* 128 messages */
 #define WAX_SERVER_RECORDS  7040  /* 8 records of WAX_LONGEST_SENT */
 

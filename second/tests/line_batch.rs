@@ -1,6 +1,7 @@
 //! A batch of random crossings: all checks hold, and everything is reached.
 
 use second::line::counts::Counts;
+use second::line::hot::{self, Hot};
 use second::line::runs;
 use second::line::shorten::shorten;
 
@@ -25,4 +26,17 @@ fn shortens_to_what_matters() {
     let calls: Vec<u32> = (0..200).collect();
     let fails = |kept: &[u32]| kept.contains(&17) && kept.contains(&170);
     assert_eq!(shorten(&calls, fails), [17, 170]);
+}
+
+/// Document 02, wish 2: on hot counters the same station is beaten less often in a row where it keeps its age.
+#[test]
+fn beaten_in_a_row() {
+    let [mut forgotten, mut kept] = [Hot::default(); 2];
+    for seed in 1..=20 {
+        forgotten.join(hot::forgotten(seed, 20_000));
+        kept.join(hot::kept(seed, 20_000));
+    }
+    assert!(forgotten.panel.beaten > 100 && kept.panel.beaten > 100);
+    assert!(kept.panel.most_in_a_row < forgotten.panel.most_in_a_row);
+    assert!(kept.heads.most_in_a_row < forgotten.heads.most_in_a_row);
 }

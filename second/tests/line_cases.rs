@@ -134,6 +134,26 @@ fn c6_cycle() {
     line.call("station 0", "written", &[]);
 }
 
+/// Document 02, wish 2: the loser of C6 repeats behind a new transaction of 0, and wins.
+#[test]
+fn c6_again() {
+    let mut line = with_2_reading(8, false);
+    line.run("station 2; server 2; write 2 8 7; server 2; station 2; server 2; station 0");
+    line.run("commit 0; server 0; station 0; begin 0; read 0 16; server 0; station 0; read 0 8");
+    line.run("begin 2; read 2 8; server 2; station 2");
+    line.call("write 0 8 6", "waits", &[write(0, 1, 0, 2)]);
+    line.call("write 2 8 7", "waits", &[write(2, 1, 0, 2)]);
+    line.call("server 0", "none", &[callback(2, 0, 2, &[(1, 1)])]);
+    line.call("server 2", "none", &[]);
+    line.call("station 2", "none", &[busy(2, 0, 2)]);
+    let messages = [aborted(0, 2, 1), callback(0, 2, 2, &[(1, 1)])];
+    line.call("server 2", "none", &messages);
+    line.call("station 0", "aborted 1", &[]);
+    line.call("station 0", "none", &[done(0, 2, 2, PAGE_1)]);
+    line.run("server 0");
+    line.call("station 2", "written", &[]);
+}
+
 /// C6 with the younger one's write first.
 #[test]
 fn c6_cycle_other_way() {

@@ -38,7 +38,7 @@ fn busy() -> Vec<u8> {
 #[test]
 fn the_fields_are_the_tables() {
     assert_eq!(rows("The server's state"), fields::<Field>());
-    assert_eq!(Field::Unfinished.range().end, LENGTH);
+    assert_eq!(Field::AgeKept.range().end, LENGTH);
     assert_eq!(Field::of(0), Some(Field::Value));
     assert_eq!(Field::of(36_215), Some(Field::Asked));
     assert_eq!(Field::of(LENGTH), None);
@@ -143,6 +143,13 @@ fn number_1_ages_and_arrivals() {
     assert!(put(Field::Age, 0, 0) && !put(Field::Age, 0, 6) && !put(Field::Age, 0, 2));
     // 7's transaction is none
     assert!(put(Field::Age, 7, 5) && put(Field::Age, 7, 2) && !put(Field::Age, 7, 6));
+    // unless it keeps its age
+    let kept = |age: u64| {
+        let mut bytes = with(&good, Field::AgeKept.start() + 7, 1);
+        Field::Age.put_long(&mut bytes, 7, age);
+        valid(&bytes)
+    };
+    assert!(kept(0) && !kept(5) && !kept(2) && !kept(6));
     assert!(put(Field::Arrival, 2, 0) && !put(Field::Arrival, 2, 6));
     assert!(!put(Field::Arrival, 2, 5) && !put(Field::Arrival, 0, 1));
 }

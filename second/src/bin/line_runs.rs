@@ -1,6 +1,7 @@
 //! Random crossings on whole lines, each call checked, and demand 3 at the end of each.
 
 use second::line::counts::Counts;
+use second::line::hot::{self, Hot};
 use second::line::runs::{self, Failed};
 use second::options::Options;
 use std::panic;
@@ -8,11 +9,13 @@ use std::process;
 use std::sync::atomic::{AtomicU64, Ordering};
 use std::time::{Duration, Instant};
 
-const USAGE: &str = "line_runs [--seed N|random] [--runs N] [--seconds N] [--calls N]
+const USAGE: &str = "line_runs [--seed N|random] [--runs N] [--seconds N] [--calls N] [--hot]
   --seed     of the first run; each next run's is one more
   --runs     how many, 10000 if nothing is said; with --seconds no end but the time's
   --seconds  stop after so long
-  --calls    calls of a run before it is drained, 300 if nothing is said";
+  --calls    calls of a run before it is drained, 300 if nothing is said
+  --hot      instead, hot counters: how often the same station is beaten in a row, without and with kept ages;
+             100 runs of 20000 calls if nothing is said";
 
 /// Of the run being made.
 static SEED: AtomicU64 = AtomicU64::new(0);
@@ -22,10 +25,14 @@ struct Settings {
     runs: u64,
     time: Duration,
     calls: usize,
+    hot: bool,
 }
 
 fn main() {
     let settings = settings();
+    if settings.hot {
+        return hot_counters(&settings);
+    }
     let start = Instant::now();
     let mut counts = Counts::default();
     panic::set_hook(Box::new(|cause| panicked(&cause.to_string())));
@@ -46,15 +53,42 @@ fn main() {
 }
 
 fn settings() -> Settings {
-    let options = Options::read(USAGE, &["--seed", "--runs", "--seconds", "--calls"], &[]);
+    let options = Options::read(
+        USAGE,
+        &["--seed", "--runs", "--seconds", "--calls"],
+        &["--hot"],
+    );
     let options = options.without_words();
     let timed = options.has("--seconds");
+    let hot = options.has("--hot");
+    let runs = match (timed, hot) {
+        (true, _) => u64::MAX,
+        (_, true) => 100,
+        _ => 10_000,
+    };
     Settings {
         seed: options.seed("--seed", 1),
-        runs: options.number("--runs", if timed { u64::MAX } else { 10_000 }),
+        runs: options.number("--runs", runs),
         time: Duration::from_secs(options.number("--seconds", u64::MAX)),
-        calls: options.number("--calls", 300) as usize,
+        calls: options.number("--calls", if hot { 20_000 } else { 300 }) as usize,
+        hot,
     }
+}
+
+/// The same owners and the same chance under both rules.
+fn hot_counters(settings: &Settings) {
+    let start = Instant::now();
+    let [mut forgotten, mut kept] = [Hot::default(); 2];
+    let mut runs = 0;
+    while runs < settings.runs && start.elapsed() < settings.time {
+        let seed = settings.seed.wrapping_add(runs);
+        forgotten.join(hot::forgotten(seed, settings.calls));
+        kept.join(hot::kept(seed, settings.calls));
+        runs += 1;
+    }
+    println!("{runs} runs of {} calls", settings.calls);
+    println!("without kept ages: {forgotten}");
+    println!("with kept ages:    {kept}");
 }
 
 /// A panic that unwinds is caught and shortened like any failure; one that aborts can only be named.

@@ -58,10 +58,12 @@ enum Before {
     Station(Station),
 }
 
-/// "the server saw its transaction's first message later": by station, its latest transaction and that order.
+/// "the server saw its transaction's first message later": by station, its latest transaction and that order, which
+/// it keeps once it is beaten, until an end that is reported.
 #[derive(Default)]
 struct FirstMessages {
     by_station: [(u32, u64); STATIONS],
+    beaten: [bool; STATIONS],
     seen: u64,
 }
 
@@ -70,9 +72,25 @@ impl FirstMessages {
         if (1..=4).contains(&Field::Kind.byte(message)) {
             let station = Field::Station.byte(message) as usize;
             let transaction = Field::Transaction.word(message, 0);
-            if self.by_station[station].0 != transaction {
+            let (latest, order) = &mut self.by_station[station];
+            if *latest != transaction && !self.beaten[station] {
                 self.seen += 1;
-                self.by_station[station] = (transaction, self.seen);
+                *order = self.seen;
+            }
+            *latest = transaction;
+        }
+    }
+
+    /// The ends that a step reports: its own message's, if that is a 4, and those of the 21s and 22s that it sends.
+    fn note_ends(&mut self, message: &[u8], sent: &[Vec<u8>]) {
+        if Field::Kind.byte(message) == 4 {
+            self.beaten[Field::Station.byte(message) as usize] = false;
+        }
+        for told in sent {
+            if let 21 | 22 = Field::Kind.byte(told) {
+                // 21 names no cause
+                let beaten = Field::ObjectOrCause.byte(told) == 1;
+                self.beaten[Field::Station.byte(told) as usize] = beaten;
             }
         }
     }
@@ -110,8 +128,10 @@ impl<'a> Watched<'a> {
             Reply::Accepted(outcome) => {
                 self.sent_fits(call, outcome)?;
                 if let Call::Server(_) | Call::ServerRaw(_) = call {
-                    self.first_messages.note(&taken.unwrap_or_default());
+                    let taken = taken.unwrap_or_default();
+                    self.first_messages.note(&taken);
                     self.server_stepped(outcome)?;
+                    self.first_messages.note_ends(&taken, &outcome.sent);
                 }
                 self.honest &= !matches!(call, Call::ServerRaw(_) | Call::StationRaw(..));
             }

@@ -7,6 +7,7 @@ pub mod checks;
 pub mod counts;
 pub mod crossing;
 pub mod damage;
+pub mod hot;
 pub mod lent;
 pub mod little;
 pub mod message;

@@ -102,7 +102,7 @@ pub mod station {
     }
 }
 
-/// "The server's state, 37,072 bytes"
+/// "The server's state, 37,080 bytes"
 pub mod server {
     use super::{ADDRESSES, LONG, PAGES, STATIONS, WORD};
 
@@ -132,6 +132,7 @@ pub mod server {
         Pend: STATIONS,
         Busy: STATIONS,
         Unfinished: STATIONS,
+        AgeKept: STATIONS,
     }
 }
 

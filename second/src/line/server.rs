@@ -28,12 +28,31 @@ pub struct Server {
     waiting: Vec<Waiter>,
 }
 
-/// A station's latest transaction and its age, which counts while it is unfinished.
+/// A station's latest transaction and its age, which counts while it is unfinished or kept.
 #[derive(Clone, Copy, Debug, PartialEq, Eq)]
 struct Seen {
     latest: u32,
     age: u64,
     unfinished: bool,
+    /// Document 02, wish 2: the age is kept for the station's next transactions.
+    kept: bool,
+}
+
+/// How a transaction ends at the server.
+#[derive(Clone, Copy, Debug, PartialEq, Eq)]
+enum End {
+    Committed,
+    Aborted(Cause),
+    /// "an abort message arrives"
+    Given,
+}
+
+impl End {
+    /// "A station aborted for cause 1 now keeps its age for its next transactions, until one commits, the server aborts
+    /// one for cause 2, 3 or 4, or an abort message arrives."
+    fn keeps_age(self) -> bool {
+        self == End::Aborted(Cause::Cycle)
+    }
 }
 
 #[derive(Clone, Copy, Debug, PartialEq, Eq)]
@@ -149,6 +168,7 @@ impl Server {
                 latest,
                 age: 0,
                 unfinished: false,
+                kept: false,
             }),
             next_age: 1,
             next_arrival: 1,
@@ -230,16 +250,25 @@ impl Server {
         self.whole[page as usize].is_some_and(|lock| lock.holder == station)
     }
 
-    /// "each transaction gets a new age", at its first message; readings 8 and 9.
+    /// "each transaction gets a new age", at its first message; readings 8 and 9. One of a station that keeps its age
+    /// has that, and no counter moves.
     fn note_transaction(&mut self, from: u8, transaction: u32) {
         let seen = &mut self.seen[from as usize];
-        if transaction != seen.latest {
-            *seen = Seen {
-                latest: transaction,
-                age: self.next_age,
-                unfinished: true,
-            };
+        if transaction == seen.latest {
+            return;
+        }
+        if !seen.kept {
+            seen.age = self.next_age;
             self.next_age += 1;
+        }
+        seen.latest = transaction;
+        seen.unfinished = true;
+    }
+
+    /// Document 01 without document 02's wish 2, to measure what the wish changes: no age is kept.
+    pub fn forget_ages(&mut self) {
+        for seen in &mut self.seen {
+            seen.kept = false;
         }
     }
 
@@ -255,7 +284,7 @@ impl Server {
             (Up::Commit(commit), Kind::Validating) => self.join(Waiter::commit(from, commit)),
             (Up::Commit(commit), _) => self.locking_commit(from, &commit, step),
             // "every transaction's end frees its locks"
-            (Up::Abort { .. }, _) => self.end(from),
+            (Up::Abort { .. }, _) => self.end(from, End::Given),
             (Up::Purge { page }, _) => self.unlist(from, page_bit(page)),
             (
                 Up::Busy {
@@ -353,9 +382,11 @@ impl Server {
         self.waiting.iter().any(|waiter| waiter.station == station)
     }
 
-    /// The transaction is finished; its locks and its request go.
-    fn end(&mut self, station: u8) {
-        self.seen[station as usize].unfinished = false;
+    /// The transaction is finished; its locks and its request go, and its age if it is not kept.
+    fn end(&mut self, station: u8, end: End) {
+        let seen = &mut self.seen[station as usize];
+        seen.unfinished = false;
+        seen.kept = end.keeps_age();
         self.locks[station as usize] = Addresses::default();
         for lock in &mut self.whole {
             if lock.is_some_and(|lock| lock.holder == station) {
@@ -366,7 +397,7 @@ impl Server {
     }
 
     fn abort(&mut self, station: u8, cause: Cause, step: &mut Step) {
-        self.end(station);
+        self.end(station, End::Aborted(cause));
         let transaction = self.seen[station as usize].latest;
         step.send(station, Down::Aborted { transaction, cause });
     }
@@ -387,7 +418,7 @@ impl Server {
             ..commit.record.clone()
         };
         step.records.push(archived.encode());
-        self.end(station);
+        self.end(station, End::Committed);
         let committed = Down::Committed {
             transaction: archived.transaction,
             commit: self.last,

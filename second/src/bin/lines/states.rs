@@ -72,7 +72,7 @@ impl Density {
 /// What number 1 takes, and little that a run could not reach.
 fn taken(random: &mut Random) -> Vec<u8> {
     let mut state = random.bytes(LENGTH);
-    for field in [Field::Kind, Field::Unfinished] {
+    for field in [Field::Kind, Field::Unfinished, Field::AgeKept] {
         for byte in &mut state[field.range()] {
             *byte &= 1;
         }
@@ -215,7 +215,8 @@ fn beside(random: &mut Random) -> Vec<u8> {
     for _ in 0..1 + random.below(4) {
         let station = random.below(STATIONS);
         let byte = random.byte();
-        match random.below(8) {
+        match random.below(9) {
+            8 => Field::AgeKept.put_byte_of(&mut state, station, byte & 1),
             0 => Field::Called.put_byte_of(&mut state, station, byte & 1),
             1 => Field::Unfinished.put_byte_of(&mut state, station, byte & 1),
             2 => Field::Request.put_byte_of(&mut state, station, byte),

@@ -13,19 +13,21 @@ pub use crate::line::places::server::{Field, LENGTH};
 
 impl Field {
     /// Bytes that have a range of their own, one for each station: the highest that is in it.
-    pub const RANGES: [(Field, u8); 4] = [
+    pub const RANGES: [(Field, u8); 5] = [
         (Field::Kind, 1),
         (Field::Want, 3),
         (Field::Called, 1),
         (Field::Unfinished, 1),
+        (Field::AgeKept, 1),
     ];
 }
 
 /// "below 2^63"
 pub const COUNTERS_END: u64 = 1 << 63;
 
-/// Not number 1: "the length is not 37,072; a field is out of the range above; beside a whole lock an object of the page
-/// is locked by another; two stations' unfinished transactions have one age; or two waiting stations have one arrival".
+/// Not number 1: "the length is not 37,080; a field is out of the range above; beside a whole lock an object of the page
+/// is locked by another; two stations whose transactions are unfinished or that keep their age have one age; or two
+/// waiting stations have one arrival".
 #[inline]
 pub fn valid(bytes: &[u8]) -> bool {
     bytes.len() == LENGTH
@@ -33,8 +35,8 @@ pub fn valid(bytes: &[u8]) -> bool {
         && (0..STATIONS).all(|station| station_fits(bytes, station))
         && (0..PAGES).all(|page| locks_fit(bytes, page))
         && asked_are_held(bytes)
-        && apart(bytes, Field::Unfinished, Field::Age)
-        && apart(bytes, Field::Want, Field::Arrival)
+        && apart(bytes, &[Field::Unfinished, Field::AgeKept], Field::Age)
+        && apart(bytes, &[Field::Want], Field::Arrival)
 }
 
 fn in_range(bytes: &[u8]) -> bool {
@@ -135,9 +137,13 @@ fn station_of(holder: u8) -> Option<u8> {
     holder.checked_sub(1)
 }
 
-/// No two stations that count have one number.
-fn apart(bytes: &[u8], counts: Field, number: Field) -> bool {
-    let counted = |station: &usize| counts.byte_of(bytes, *station) != 0;
+/// No two stations that count, one of these bytes not being 0, have one number.
+fn apart(bytes: &[u8], counts: &[Field], number: Field) -> bool {
+    let counted = |station: &usize| {
+        counts
+            .iter()
+            .any(|field| field.byte_of(bytes, *station) != 0)
+    };
     let equal = |a: usize, b: usize| number.long(bytes, a) == number.long(bytes, b);
     (0..STATIONS)
         .filter(counted)
@@ -173,6 +179,7 @@ fn seen(bytes: &[u8], station: usize) -> Seen {
         latest: Field::Latest.word(bytes, station),
         age: Field::Age.long(bytes, station),
         unfinished: Field::Unfinished.byte_of(bytes, station) != 0,
+        kept: Field::AgeKept.byte_of(bytes, station) != 0,
     }
 }
 
@@ -300,11 +307,13 @@ pub fn lay(server: &Server, bytes: &mut [u8]) {
             latest,
             age,
             unfinished,
+            kept,
         } = server.seen[station];
         Field::Kind.put_byte_of(bytes, station, server.kinds[station] as u8);
         Field::Latest.put_word(bytes, station, latest);
         Field::Age.put_long(bytes, station, age);
         Field::Unfinished.put_byte_of(bytes, station, unfinished.into());
+        Field::AgeKept.put_byte_of(bytes, station, kept.into());
         Field::Listed.put_word(bytes, station, server.listed[station]);
     }
     lay_entries(&server.waiting, bytes);
