@@ -94,7 +94,7 @@ other-no x h i o e =
     (λ u. byEq x (suc i) (λ v. omega (arith, eqb-yes x (suc i) v)) (λ v. absurd (false≢true (sym (rw (u, v) at o)))))
 
 -- a lock left by `finish` was there, and is not the finished station's
-left-lock : (x i h : ℕ) → cond (eqb x (suc i)) 0 x ≡ suc h → (x ≡ suc h) × (eqb h i ≡ false)
+pub left-lock : (x i h : ℕ) → cond (eqb x (suc i)) 0 x ≡ suc h → (x ≡ suc h) × (eqb h i ≡ false)
 left-lock x i h q =
     byEq x (suc i) (λ e. let z : 0 ≡ suc h = rw e at q in absurd (omega arith))
     (λ e.
@@ -387,7 +387,7 @@ module _ (i : ℕ) (x : Serving) (b : i < 8) (h : ApartIn x) where
       record { station = b; unfinished = k .waits-open (ap isWant w); locks = k .writes-lock w }
 
   -- a page that a writer has passed is not locked whole by another
-  passed : x .server .queue i .want ≡ WantWrite → Clear i x → x .server .queue i .req < 256 → (g : ℕ) → x .server .wl (pageOf (x .server .queue i .req)) ≡ suc g → g ≡ i
+  pub passed : x .server .queue i .want ≡ WantWrite → Clear i x → x .server .queue i .req < 256 → (g : ℕ) → x .server .wl (pageOf (x .server .queue i .req)) ≡ suc g → g ≡ i
   passed w c u g e =
       let s : Server = x .server in
       let a : ℕ = s .queue i .req in

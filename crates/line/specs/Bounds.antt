@@ -39,7 +39,7 @@ one-kind true false = refl
 one-kind false true = refl
 one-kind false false = refl
 
-both-n : (n j i : ℕ) (k : ℕ → ℕ) → others n j i (locks k) + others n j i (validates k) ≤ n
+pub both-n : (n j i : ℕ) (k : ℕ → ℕ) → others n j i (locks k) + others n j i (validates k) ≤ n
 unfolding others
 both-n zero j i k = omega arith
 both-n (suc n) j i k = omega (arith, one-kind (eqb j i) (locks k j), nb-1 (not (eqb j i)), both-n n (suc j) i k)
@@ -72,7 +72,7 @@ room s = waitersLeft s + pagesCost s
 abbrev pub total : Serving → ℕ
 total x = length (x .sent) + room (x .server)
 
-left-9 : (k : ℕ → ℕ) (i : ℕ) (w : Waiter) → i < 8 → left k i w ≤ 9
+pub left-9 : (k : ℕ → ℕ) (i : ℕ) (w : Waiter) → i < 8 → left k i w ≤ 9
 left-9 k i w b =
     let t = seven i k b in
     byB (isWant (w .want)) (λ e. byB (w .called) (λ f. rw (e, f) (omega arith)) (λ f. rw (e, f) (omega arith))) (λ e. rw e (omega arith))
@@ -102,11 +102,11 @@ left-2 k i w e = byB (w .called) (λ f. rw (e, f) (omega arith)) (λ f. rw (e, f
 
 -- no action of the pass raises what is sent and what can still be sent, taken together
 
-abort-sent : (i c : ℕ) (x : Serving) → length ((abort i c x) .sent) ≡ length (x .sent) + 1
+pub abort-sent : (i c : ℕ) (x : Serving) → length ((abort i c x) .sent) ≡ length (x .sent) + 1
 unfolding abort finish leave
 abort-sent i c x = one-more (x .sent) _
 
-abort-room : (i c : ℕ) (x : Serving) → i < 8 → room ((abort i c x) .server) + left (x .server .kind) i (x .server .queue i) ≤ room (x .server)
+pub abort-room : (i c : ℕ) (x : Serving) → i < 8 → room ((abort i c x) .server) + left (x .server .kind) i (x .server .queue i) ≤ room (x .server)
 unfolding abort finish leave
 abort-room i c x b = omega (arith, waiter-goes (x .server .kind) (x .server .queue) i b, frees (x .server .wl) (x .server .asked) i)
 
@@ -188,14 +188,14 @@ informs-few (suc n) j i w x k e =
     omega arith
 
 -- an install sends 21 and 23s; its waiter, if it was one, is gone
-install-sent : (i : ℕ) (w : Work) (x : Serving) → length ((install i w x) .sent) ≤ length (x .sent) + 1 + others 8 0 i (validates (x .server .kind))
+pub install-sent : (i : ℕ) (w : Work) (x : Serving) → length ((install i w x) .sent) ≤ length (x .sent) + 1 + others 8 0 i (validates (x .server .kind))
 unfolding install finish archive write leave
 install-sent i w x =
     let y : Serving = finish i ByCommit (archive i w (write w (leave i x))) in
     let z : Serving = send y i (Committed (w .transaction) (y .server .last)) in
     omega (arith, informs-few 8 0 i w z (x .server .kind) refl, one-more (x .sent) (To i (Committed (w .transaction) (y .server .last))))
 
-install-room : (i : ℕ) (w : Work) (x : Serving) → i < 8 → room ((install i w x) .server) + left (x .server .kind) i (x .server .queue i) ≤ room (x .server)
+pub install-room : (i : ℕ) (w : Work) (x : Serving) → i < 8 → room ((install i w x) .server) + left (x .server .kind) i (x .server .queue i) ≤ room (x .server)
 unfolding install finish archive write leave
 install-room i w x b = rw (informs-room 8 0 i w) (omega (arith, waiter-goes (x .server .kind) (x .server .queue) i b, frees (x .server .wl) (x .server .asked) i))
 
@@ -203,7 +203,7 @@ install-total : (i : ℕ) (x : Serving) → i < 8 → waits (x .server) i ≡ tr
 unfolding installWaiter
 install-total i x b t = omega (arith, install-sent i (x .server .queue i .work) x, install-room i (x .server .queue i .work) x b, left-2 (x .server .kind) i (x .server .queue i) t)
 
-atomic-total : (k : ℕ) → Atomic (λ x. total x ≤ k)
+pub atomic-total : (k : ℕ) → Atomic (λ x. total x ≤ k)
 atomic-total k =
     record {
       aborts = λ i c x b t h. let l = abort-total i c x b t in omega arith;
@@ -217,7 +217,7 @@ atomic-total k =
 
 -- every step, of any state, on any message: at most 9 messages before the pass, and 104 that the pass can send
 
-notice-sent : (i t : ℕ) (x : Serving) → (notice i t x) .sent ≡ x .sent
+pub notice-sent : (i t : ℕ) (x : Serving) → (notice i t x) .sent ≡ x .sent
 unfolding notice
 notice-sent i t x = byB (eqb t (x .server .latest i)) (λ e. rw e refl) (λ e. rw e refl)
 
@@ -453,7 +453,7 @@ step-bound i m s b u =
 
 -- a station's call: kept callbacks are one each, and none is the station's own ("a kept callback from the station itself" is number 1)
 
-kept-one : (r : ℕ) (k : Kept) (d : Did) → length ((doKept r k d) .sent) ≤ length (d .sent) + 1
+pub kept-one : (r : ℕ) (k : Kept) (d : Did) → length ((doKept r k d) .sent) ≤ length (d .sent) + 1
 unfolding doKept doCallback
 kept-one r NotKept d = omega arith
 kept-one r (KeptCall t set) d = rw one-more (omega arith)

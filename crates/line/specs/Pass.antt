@@ -170,7 +170,7 @@ held-by : (x i : ℕ) → other x i ≡ true → x ≡ suc (holder x)
 held-by zero i e = absurd (false≢true e)
 held-by (suc h) i e = refl
 
-shut-by : (i p : ℕ) (x : Serving) → shut (x .server) i p ≡ true → Shut i (holder (x .server .wl p)) p x
+pub shut-by : (i p : ℕ) (x : Serving) → shut (x .server) i p ≡ true → Shut i (holder (x .server .wl p)) p x
 shut-by i p x e = record { page = e; held = held-by (x .server .wl p) i (and-r (wantsPage (x .server) i p) _ e) }
 
 -- the list holds stations

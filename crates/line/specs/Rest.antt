@@ -30,21 +30,21 @@ after x y z a b =
     record { longer = omega arith; same = λ h. b .same (omega arith) ∙ a .same (omega arith) }
 
 -- an action sends something
-abbrev Sends : Serving → Serving → Type 0
+abbrev pub Sends : Serving → Serving → Type 0
 Sends x y = length (x .sent) + 1 ≤ length (y .sent)
 
 sends : (x y : Serving) → Sends x y → Still x y
 sends x y h = record { longer = omega arith; same = λ k. absurd (omega arith) }
 
-abort-sends : (i c : ℕ) (x : Serving) → Sends x (abort i c x)
+pub abort-sends : (i c : ℕ) (x : Serving) → Sends x (abort i c x)
 unfolding abort finish leave
 abort-sends i c x = simp length-append (omega arith)
 
-ask-sends : (h p : ℕ) (x : Serving) → Sends x (ask h p x)
+pub ask-sends : (h p : ℕ) (x : Serving) → Sends x (ask h p x)
 unfolding ask
 ask-sends h p x = simp length-append (omega arith)
 
-read-sends : (i : ℕ) (x : Serving) → Sends x (serveRead i x)
+pub read-sends : (i : ℕ) (x : Serving) → Sends x (serveRead i x)
 unfolding serveRead sendPage leave
 read-sends i x = simp length-append (omega arith)
 
@@ -56,7 +56,7 @@ page-sends : (i : ℕ) (x : Serving) → Sends x (grantPage i x)
 unfolding grantPage sendPage leave
 page-sends i x = simp length-append (omega arith)
 
-grant-sends : (i : ℕ) (x : Serving) → Sends x (grant i x)
+pub grant-sends : (i : ℕ) (x : Serving) → Sends x (grant i x)
 unfolding grant
 grant-sends i x = if-keeps (Sends x) (any 8 (hinders (x .server) i (pageOf (x .server .queue i .req)))) (λ e. object-sends i x) (λ e. page-sends i x)
 
@@ -76,7 +76,7 @@ install-sends i w x =
     let z : Serving = send y i (Committed (w .transaction) (y .server .last)) in
     omega (arith, simp length-append at (informs-longer 8 0 i w z))
 
-waiter-sends : (i : ℕ) (x : Serving) → Sends x (installWaiter i x)
+pub waiter-sends : (i : ℕ) (x : Serving) → Sends x (installWaiter i x)
 unfolding installWaiter
 waiter-sends i x = install-sends i (x .server .queue i .work) x
 
@@ -97,13 +97,13 @@ unfolding call
 call-pend i x = rw (eqb-same i) refl
 
 -- a call that leaves somebody to answer was sent
-call-sends : (i : ℕ) (x : Serving) → allAnswered ((call i x) .server) i ≡ false → Sends x (call i x)
+pub call-sends : (i : ℕ) (x : Serving) → allAnswered ((call i x) .server) i ≡ false → Sends x (call i x)
 call-sends i x h =
     let k : any 8 (concerned (x .server) i) ≡ true = not-no (any 8 (concerned (x .server) i)) (rw (call-pend i x) at h) in
     let z = any-some 8 (concerned (x .server) i) k in
     omega (arith, call-length i x, calls-some 8 0 (x .server) i (z .0) (omega arith) (omega (arith, z .1)) (z .2))
 
-once-longer : (i : ℕ) (x : Serving) → length (x .sent) ≤ length ((callOnce i x) .sent)
+pub once-longer : (i : ℕ) (x : Serving) → length (x .sent) ≤ length ((callOnce i x) .sent)
 unfolding callOnce
 once-longer i x =
     if-keeps (λ y. length (x .sent) ≤ length (y .sent)) (x .server .queue i .called) (λ e. omega arith) (λ e. omega (arith, call-length i x))
@@ -127,7 +127,7 @@ proceed-still WantRead i x = sends x (serveRead i x) (read-sends i x)
 proceed-still WantWrite i x = turn-still i x (grant i) (grant-sends i)
 proceed-still WantCommit i x = turn-still i x (installWaiter i) (waiter-sends i)
 
-asks-still : (n p i : ℕ) (x : Serving) → Still x (askFrom n p i x)
+pub asks-still : (n p i : ℕ) (x : Serving) → Still x (askFrom n p i x)
 unfolding askFrom
 asks-still zero p i x = unmoved x
 asks-still (suc n) p i x =
@@ -142,7 +142,7 @@ gates-still w i x =
     if-keeps (Still x) (blocked (x .server) i) (λ e. unmoved x)
     (λ e. if-keeps (Still x) (any 32 (shut (x .server) i)) (λ f. asks-still 32 0 i x) (λ f. proceed-still w i x))
 
-visit-still : (w : Want) (i : ℕ) (x : Serving) → Still x (visit w i x)
+pub visit-still : (w : Want) (i : ℕ) (x : Serving) → Still x (visit w i x)
 unfolding visit
 visit-still NoWant i x = unmoved x
 visit-still WantRead i x = gates-still WantRead i x

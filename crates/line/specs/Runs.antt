@@ -24,7 +24,7 @@ pub record Moves (R Q : Server → (ℕ → Station) → (ℕ → List Up) → (
   pub station : (i : ℕ) (m : Down) (l : List Down) (s : Server) (t : ℕ → Station) (u : ℕ → List Up) (d : ℕ → List Down) → d i ≡ m ∷ l → R s t u d → Q s (upd t i ((stationStep m (t i)) .station)) (upd u i (u i ++ (stationStep m (t i)) .sent)) (upd d i l)
 
 -- to tell an owner changes none of these
-tell-keeps : (R : Server → (ℕ → Station) → (ℕ → List Up) → (ℕ → List Down) → Type 0) (i : ℕ) (op : Op) (n : Answer) (w : World) → Of R w → Of R (tell i op n w)
+pub tell-keeps : (R : Server → (ℕ → Station) → (ℕ → List Up) → (ℕ → List Down) → Type 0) (i : ℕ) (op : Op) (n : Answer) (w : World) → Of R w → Of R (tell i op n w)
 unfolding tell
 tell-keeps R i op Nothing w h = h
 tell-keeps R i op (Begun t) w h = h

@@ -16,7 +16,7 @@ use Rattle.layout.specs.Record.{archiveOf}
 use Rattle.recs.specs.Recs.{recordsOf}
 use Rattle.line.specs.Messages.{Up, Down, Sent, To, Rec, Answer, Nothing, Begun, Value, Waits, Written, CommittedAs, AbortedFor, Purged, Refused, Empty}
 use Rattle.line.specs.Station.{Station, Did, stationStep}
-use Rattle.line.specs.Server.{Server, serverStep, unexpected}
+use Rattle.line.specs.Server.{Server, accept, start, serverStep, unexpected}
 use Rattle.line.specs.Server as Model
 use Rattle.line.specs.Line.{Op, Told, World, worldUp, worldDown, Call, Owner, ServerTakes, StationTakes, Broken, tell, sentTo, carryUp, carryDown, perform, ownerActs, isRefused, stationTakes, serverTakes, act}
 use Rattle.line.specs.All.{All}
@@ -27,7 +27,7 @@ use Rattle.truth.specs.ValidatedMoves.{perform-kind, step-kind}
 use Rattle.message.specs.Layout.{stationOf}
 use Rattle.message.specs.Number.{kindsOk, downNumber}
 use Rattle.message.specs.Commit.{recordsRoom, serverRoom}
-use Rattle.message_meaning.specs.Meant.{downOf}
+use Rattle.message_meaning.specs.Meant.{upOf, downOf}
 use Rattle.message_meaning.specs.Sent.{Reads}
 use Rattle.station_state.specs.Layout.{station}
 use Rattle.station_state.specs.Valid.{valid}
@@ -42,7 +42,7 @@ use Rattle.server_state.specs.Valid as ServerValid
 use Rattle.server_state.specs.Facts.{valid-ranged}
 use Rattle.server_meaning.specs.Meant as ServerMeant
 use Rattle.server_meaning.specs.Tests.{wanting}
-use Rattle.server_actions.specs.Actions.{Serving}
+use Rattle.server_actions.specs.Actions.{Serving, serving, acceptB}
 use Rattle.server_actions.specs.Pass.{serverStepB}
 use Rattle.server_actions.specs.Step.{kindsOf, checkStepB, refused, laid, serverCalled}
 use Rattle.server_actions.specs.Step as ServerCall
@@ -392,14 +392,21 @@ module _ (kinds : List ℕ) (size : length kinds ≡ 8) (i : ℕ) (l : i < 8) (b
       let six = unexpected-at is (wanting s (t .state)) kinds x (k .accepted) (all-bytes x (k .bytes-are)) in
       rw (known, k .accepted, six, k .station-is, k .meant)
 
-  -- the step
-  pub serves : (x : List ℕ) (u : Up) → Reads kinds i (length x) x u → Lent (b .server) o q → Sim kinds b w → Serves (serverStepB x (b .server)) (serverStep i u (w .server))
-  serves x u k t h =
+  -- the message's own effect
+  accepts-as : (x : List ℕ) (u : Up) → Reads kinds i (length x) x u → Lent (b .server) o q → Sim kinds b w → Serves (acceptB x (serving (b .server) [] [])) (accept i (upOf x) (start (w .server)))
+  accepts-as x u k t h =
       let s = b .server in
       let is = h .line .server in
       let r = valid-ranged s (t .state) in
-      let taken = accept-means is (wanting s (t .state)) (sound-of is (t .state)) kinds x (k .accepted) (all-bytes x (k .bytes-are)) (omega (arith, r .ages-fit)) (omega (arith, r .arrivals-fit)) in
-      subst (λ (v : Up). Serves (serverStepB x s) (serverStep i v (w .server))) (k .meant) (step-means x s i (w .server) (rw (k .station-is) at taken))
+      rw (k .station-is) at (accept-means is (wanting s (t .state)) (sound-of is (t .state)) kinds x (k .accepted) (all-bytes x (k .bytes-are)) (omega (arith, r .ages-fit)) (omega (arith, r .arrivals-fit)))
+
+  pub accepts : (x : List ℕ) (u : Up) → Reads kinds i (length x) x u → Lent (b .server) o q → Sim kinds b w → Serves (acceptB x (serving (b .server) [] [])) (accept i u (start (w .server)))
+  accepts x u k t h = subst (λ (v : Up). Serves (acceptB x (serving (b .server) [] [])) (accept i v (start (w .server)))) (k .meant) (accepts-as x u k t h)
+
+  -- the step
+  pub serves : (x : List ℕ) (u : Up) → Reads kinds i (length x) x u → Lent (b .server) o q → Sim kinds b w → Serves (serverStepB x (b .server)) (serverStep i u (w .server))
+  serves x u k t h =
+      subst (λ (v : Up). Serves (serverStepB x (b .server)) (serverStep i v (w .server))) (k .meant) (step-means x (b .server) i (w .server) (accepts-as x u k t h))
 
   -- what it archives is within the limit
   pub archives : (x : List ℕ) (u : Up) → Reads kinds i (length x) x u → Lent (b .server) o q → Sim kinds b w → unexpected i u (w .server) ≡ false

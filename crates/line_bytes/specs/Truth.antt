@@ -30,17 +30,17 @@ use Rattle.line_bytes.specs.Runs.{kind-small, callsOf, calls-fit, run-si
 -- WHAT WAS SENT
 
 -- each message sent over bytes is one of the model, and the other way
-record Found (m : List ℕ) (xs : List Sent) : Type 0 where
-  it : Sent
-  there-is : In it xs
-  read : ReadAs m it
+pub record Found (m : List ℕ) (xs : List Sent) : Type 0 where
+  pub it : Sent
+  pub there-is : In it xs
+  pub read : ReadAs m it
 
 record Put (x : Sent) (ms : List (List ℕ)) : Type 0 where
   bytes : List ℕ
   there-are : In bytes ms
   read : ReadAs bytes x
 
-found : {m : List ℕ} {ms : List (List ℕ)} → In m ms → (xs : List Sent) → AllSent ms xs → Found m xs
+pub found : {m : List ℕ} {ms : List (List ℕ)} → In m ms → (xs : List Sent) → AllSent ms xs → Found m xs
 found here [] h = absurd h
 found here (x ∷ xs) h = record { it = x; there-is = here; read = h .0 }
 found (there k) [] h = absurd h

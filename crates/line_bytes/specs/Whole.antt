@@ -67,7 +67,7 @@ module _ (kinds : List ℕ) (ok : kindsOk kinds ≡ true) where
   k i = getD kinds i 0
 
   -- behind the calls ds, the calls cs
-  same-run : (cs ds : List CallB) → AllFit ds → AllFit cs → AllRoom cs
+  pub same-run : (cs ds : List CallB) → AllFit ds → AllFit cs → AllRoom cs
       → run (callsOf cs (runB ds (freshB kinds))) (run (callsOf ds (freshB kinds)) (fresh k)) ≡ run (namesOf cs) (run (callsOf ds (freshB kinds)) (fresh k))
   unfolding run
   same-run [] ds f g r = refl

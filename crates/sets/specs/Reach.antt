@@ -4,8 +4,9 @@ use mathlib.Core.Path.{_≡_, refl, sym, _∙_}
 use mathlib.Core.Bool.{Bool, true, false, not, _&&_, _||_, false≢true}
 use Prim.Native.Nat.{ℕ, zero, suc, _+_, _≤_, _<_}
 use native.Mathlib.Omega.{arith}
+use lib.Dec.{eqb}
 use Rattle.sets.specs.Base.{any, memo}
-use Rattle.sets.specs.Laws.{byB, and-l, and-r, or-yes, not-yes, not-no, any-no, any-yes, any-some, memo-is}
+use Rattle.sets.specs.Laws.{byB, eqb-same, eqb-yes, and-l, and-r, or-yes, not-yes, not-no, any-no, any-yes, any-some, memo-is}
 use Rattle.sets.specs.Size.{size, size-most, size-none, size-less}
 
 -- nodes reached from a set by one edge more
@@ -127,3 +128,41 @@ cycle-found {n} {e} {i} p =
     let z = path-edge p in
     let first : any n (e i) ≡ true = any-yes n (e i) (z .0) (z .1) (z .2) in
     rw first (path-into (growBy n n e (e i)) (closes n e n (e i) (size-most n (λ j. not (e i j)))) (λ k c u. by-in n e n (e i) k c u) p)
+
+-- two paths make one
+pub path-and : {n : ℕ} {e : ℕ → ℕ → Bool} {i j k : ℕ} → Path n e i j → Path n e j k → Path n e i k
+path-and (Last a b t) q = Then a t q
+path-and (Then a t p) q = Then a t (path-and p q)
+
+-- a path's last edge
+pub path-last : {n : ℕ} {e : ℕ → ℕ → Bool} {i j : ℕ} → Path n e i j → (k : ℕ) × (k < n) × (j < n) × (e k j ≡ true)
+path-last (Last {i} {j} a b t) = (i, a, b, t)
+path-last (Then a t p) = path-last p
+
+-- where no path leads back and every member of a set has an edge, a path leads from each member out of the set
+module _ (n : ℕ) (e : ℕ → ℕ → Bool) (acyclic : (j : ℕ) → j < n → Path n e j j → ⊥) (x : ℕ → Bool) (on : (i : ℕ) → i < n → x i ≡ true → (j : ℕ) × (j < n) × (e i j ≡ true)) where
+  abbrev Out : ℕ → Type 0
+  Out i = (j : ℕ) × (j < n) × Path n e i j × (x j ≡ false)
+
+  on-by : (i j : ℕ) → i < n → e i j ≡ true → Out j → Out i
+  on-by i j b t o = (o .0, o .1, Then b t (o .2), o .3)
+
+  -- from the nodes passed, paths lead to the node reached; so it is a new one, and m is enough for those not passed
+  walk : (m : ℕ) (passed : ℕ → Bool) (i : ℕ) → size n (λ k. not (passed k)) ≤ m → ((k : ℕ) → k < n → passed k ≡ true → Path n e k i) → i < n → x i ≡ true → Out i
+  walk zero passed i h back b t = absurd (acyclic i b (back i b (not-no (passed i) (size-none n (λ k. not (passed k)) h i b))))
+  walk (suc m) passed i h back b t =
+      let z = on i b t in
+      let j : ℕ = z .0 in
+      let now : ℕ → Bool = λ k. passed k || eqb k i in
+      let next : size n (λ k. not (now k)) ≤ m → ((k : ℕ) → k < n → now k ≡ true → Path n e k j) → x j ≡ true → Out j = λ p q u. walk m now j p q (z .1) u in
+      let new : passed i ≡ false = byB (passed i) (λ u. absurd (acyclic i b (back i b u))) (λ u. u) in
+      let less : size n (λ k. not (now k)) + 1 ≤ size n (λ k. not (passed k)) =
+      size-less n (λ k. not (now k)) (λ k. not (passed k)) i (λ k c u. byB (passed k) (λ v. absurd (false≢true (rw v at u))) (λ v. rw v refl)) b (rw (new, eqb-same i) refl) (rw new refl) in
+      byB (x j)
+      (λ u.
+      on-by i j b (z .2)
+      (next (omega arith) (λ k c v. or-yes (passed k) (eqb k i) v (λ y. path-on (back k c y) (z .1) (z .2)) (λ y. rw (eqb-yes k i y) (Last b (z .1) (z .2)))) u))
+      (λ u. (j, z .1, Last b (z .1) (z .2), u))
+
+  pub walks-out : (i : ℕ) → i < n → x i ≡ true → Out i
+  walks-out i b t = walk n (λ k. false) i (size-most n (λ k. true)) (λ k c u. absurd (false≢true u)) b t

@@ -22,10 +22,10 @@ abbrev pub CallsIn : (ℕ → Station) → (ℕ → List Up) → (ℕ → List D
 CallsIn t u d r j x = CallbacksAt (x .server) t u (λ k. d k ++ sentTo k (x .sent)) r j
 
 -- the line of the station that is sent to
-send-to : (i j : ℕ) (d : List Down) (l : List Sent) (m : Down) → eqb j i ≡ true → d ++ sentTo j (snoc l (To i m)) ≡ snoc (d ++ sentTo j l) m
+pub send-to : (i j : ℕ) (d : List Down) (l : List Sent) (m : Down) → eqb j i ≡ true → d ++ sentTo j (snoc l (To i m)) ≡ snoc (d ++ sentTo j l) m
 send-to i j d l m e = rw (sentTo-snoc j i m l, e) (append-assoc d (sentTo j l) _)
 
-send-past : (i j : ℕ) (d : List Down) (l : List Sent) (m : Down) → eqb j i ≡ false → d ++ sentTo j (snoc l (To i m)) ≡ d ++ sentTo j l
+pub send-past : (i j : ℕ) (d : List Down) (l : List Sent) (m : Down) → eqb j i ≡ false → d ++ sentTo j (snoc l (To i m)) ≡ d ++ sentTo j l
 send-past i j d l m e = rw (sentTo-snoc j i m l, e) refl
 
 module _ (t : ℕ → Station) (u : ℕ → List Up) (d : ℕ → List Down) (r j : ℕ) where

@@ -16,7 +16,7 @@ use Rattle.truth.specs.Frame.{append-nil, append-assoc, Owns, performs, 
 use Rattle.truth.specs.Callbacks.{pop-down, push-up, call-kept, call-done, kept-done}
 
 -- what no move of a transaction's end or a page's arrival touches
-undo-kept : (s : Station) (r : ℕ) → (undo s) .kept r ≡ s .kept r
+pub undo-kept : (s : Station) (r : ℕ) → (undo s) .kept r ≡ s .kept r
 unfolding undo mark dropPages
 undo-kept s r = byB (locking (s .kind)) (λ e. rw e refl) (λ e. rw e refl)
 

@@ -279,6 +279,28 @@ G4 w e =
 abbrev pub G4At : Server → ℕ → ℕ → Type 0
 G4At s i j = G4 (s .queue i) (s .queue j)
 
+-- DE-ESCALATION tokens of (p, t): a 19 in Dn, an 8 in Up. No clause of truth speaks of them; crates progress and jams do.
+abbrev pub askOf : ℕ → ℕ → Down → Bool
+askOf p t (Page l a u v x y) = false
+askOf p t (Deescalate q u) = eqb q p && eqb u t
+askOf p t (Callback r u set) = false
+askOf p t (Committed u n) = false
+askOf p t (Aborted u c) = false
+askOf p t (Invalidate d) = false
+
+abbrev pub setOf : ℕ → ℕ → Up → Bool
+setOf p t (ReadRequest a u) = false
+setOf p t (WriteRequest a u) = false
+setOf p t (Commit w) = false
+setOf p t (Abort u) = false
+setOf p t (Purge q) = false
+setOf p t (Busy r u) = false
+setOf p t (Done r u d) = false
+setOf p t (WrittenSet q u set) = eqb q p && eqb u t
+
+abbrev pub askTokens : ℕ → ℕ → List Up → List Down → ℕ
+askTokens p t U D = count (askOf p t) D + count (setOf p t) U
+
 -- 4. EXCLUSION
 
 -- a page message that shows the address

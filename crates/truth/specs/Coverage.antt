@@ -227,10 +227,10 @@ unused s p a n e =
     or-no (has (s .rd a)) (has (s .wr a)) (rw (on-page a p e) at z)
 
 -- a callback drops no page used or asked for
-drops-unused : (set : ℕ → Bool) (s : Station) (p : ℕ) → drops set s p ≡ true → usedPage s p ≡ false
+pub drops-unused : (set : ℕ → Bool) (s : Station) (p : ℕ) → drops set s p ≡ true → usedPage s p ≡ false
 drops-unused set s p e = not-yes (usedPage s p) (and-r (s .cached p && any 8 (λ o. set (address p o))) _ (and-l (s .cached p && any 8 (λ o. set (address p o)) && not (usedPage s p)) _ e))
 
-drops-unasked : (set : ℕ → Bool) (s : Station) (p : ℕ) → drops set s p ≡ true → requested (s .wait) p ≡ false
+pub drops-unasked : (set : ℕ → Bool) (s : Station) (p : ℕ) → drops set s p ≡ true → requested (s .wait) p ≡ false
 drops-unasked set s p e = not-yes (requested (s .wait) p) (and-r (s .cached p && any 8 (λ o. set (address p o)) && not (usedPage s p)) _ e)
 
 -- what is read stays cached when pages not used are dropped

@@ -45,7 +45,7 @@ module _ (s : Server) (t : ℕ → Station) (u : ℕ → List Up) (d : ℕ → L
     unblocked j e = let z : blockedAt s i a ≡ false = any-no 256 (blockedAt s i) un a c in any-no 8 (blocks s i a) (rw wn at z) j e
 
     -- no other has a locked
-    held : (h : ℕ) → s .ol a ≡ suc h → eqb h i ≡ false → ⊥
+    pub held : (h : ℕ) → s .ol a ≡ suc h → eqb h i ≡ false → ⊥
     held h e n =
         let z : blocks s i a h ≡ false = unblocked h (k .apart .locks .object-open h a e .station) in
         let y : (eqb (s .ol a) (suc h) && not (eqb h i)) ≡ false = or-no (eqb (s .ol a) (suc h) && not (eqb h i)) _ z .0 in
@@ -124,7 +124,7 @@ module _ (s : Server) (t : ℕ → Station) (u : ℕ → List Up) (d : ℕ → L
       let z : Shape WantRead (s .queue i) = rw e at (k .tokens i b .S7) in
       rw (z .0 (s .queue i .req), eqb-same (s .queue i .req)) refl
 
-  write-range : s .queue i .want ≡ WantWrite → s .queue i .req < 256
+  pub write-range : s .queue i .want ≡ WantWrite → s .queue i .req < 256
   write-range e =
       let z : FitWaiter (t i .kind) (t i .num) (t i .opened) (t i .wait) (s .latest i) WantWrite (s .queue i .req) = rw e at (k .tokens i b .S1b-waiter) in
       let f : forWrite (t i .wait) (s .queue i .req) ≡ true = and-r (locking (t i .kind)) _ (z .waits refl) in
@@ -135,7 +135,7 @@ module _ (s : Server) (t : ℕ → Station) (u : ℕ → List Up) (d : ℕ → L
       let z : Shape WantWrite (s .queue i) = rw e at (k .tokens i b .S7) in
       z .1 (s .queue i .req) ∙ eqb-same (s .queue i .req)
 
-  write-wants : s .queue i .want ≡ WantWrite → wants s i (s .queue i .req) ≡ true
+  pub write-wants : s .queue i .want ≡ WantWrite → wants s i (s .queue i .req) ≡ true
   write-wants e = or-right (s .queue i .reads (s .queue i .req)) _ (write-own e)
 
   -- P.17: each other station has answered, so it is hidden and unread there [G2d, F3b]

@@ -74,10 +74,14 @@ pub record Acts (P Q : Serving → Type 0) : Type 0 where
   pub pages : (i : ℕ) (x : Serving) → i < 8 → x .server .queue i .want ≡ WantWrite → Ready i x → any 8 (hinders (x .server) i (pageOf (x .server .queue i .req))) ≡ false → P x → Q (grantPage i x)
   pub installs : (i : ℕ) (x : Serving) → i < 8 → x .server .queue i .want ≡ WantCommit → fault (x .server) i ≡ 0 → Ready i x → P x → Q (installWaiter i x)
 
--- what a layer owes
-pub record Layer (L : World → Type 0) : Type 0 where
+-- what a layer L owes where the whole property of a world is I
+pub record Over (I L : World → Type 0) : Type 0 where
   pub begins : (kinds : ℕ → ℕ) → L (fresh kinds)
-  pub owner : (i : ℕ) (op : Op) (w : World) → i < 8 → Inv w → L (afterOwner i op w)
-  pub station : (i : ℕ) (m : Down) (l : List Down) (w : World) → i < 8 → w .down i ≡ m ∷ l → isRefused ((stationStep m (w .station i)) .answer) ≡ false → Inv w → L (afterStation i m l w)
-  pub accepted : (i : ℕ) (m : Up) (l : List Up) (w : World) → i < 8 → w .up i ≡ m ∷ l → unexpected i m (w .server) ≡ false → Inv w → L (carryDown (accept i m (start (w .server))) (taken i l w))
-  pub acts : (w : World) → Acts (λ x. Inv (carryDown x w)) (λ x. L (carryDown x w))
+  pub owner : (i : ℕ) (op : Op) (w : World) → i < 8 → I w → L (afterOwner i op w)
+  pub station : (i : ℕ) (m : Down) (l : List Down) (w : World) → i < 8 → w .down i ≡ m ∷ l → isRefused ((stationStep m (w .station i)) .answer) ≡ false → I w → L (afterStation i m l w)
+  pub accepted : (i : ℕ) (m : Up) (l : List Up) (w : World) → i < 8 → w .up i ≡ m ∷ l → unexpected i m (w .server) ≡ false → I w → L (carryDown (accept i m (start (w .server))) (taken i l w))
+  pub acts : (w : World) → Acts (λ x. I (carryDown x w)) (λ x. L (carryDown x w))
+
+-- .. and where it is the invariant
+abbrev pub Layer : (World → Type 0) → Type 0
+Layer L = Over Inv L

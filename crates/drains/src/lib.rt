@@ -1,0 +1,1 @@
+// No code: that deliveries come to an end, and waits with them, is in specs/.

@@ -1,0 +1,295 @@
+-- What "no message of a rule-keeper is refused" needs beside the invariant of crate truth: statements only. Each is over plain values of
+-- one station and its lines, so that an action that leaves these values is seen to keep the clause.
+use mathlib.Core.Path.{_≡_}
+use mathlib.Core.Bool.{Bool, true, false, not, _&&_, _||_, cond}
+use mathlib.Core.List.{List, [], _∷_}
+use mathlib.Core.Logic.{_⊎_, _≢_}
+use Prim.Native.Nat.{ℕ, suc, _+_, _≤_, _<_}
+use lib.Dec.{eqb}
+use Rattle.sets.specs.Base.{Val, has, any}
+use Rattle.line.specs.All.{All}
+use Rattle.line.specs.Messages.{pageOf, address, locking, Up, ReadRequest, WriteRequest, Commit, Abort, Purge, Busy, Done, WrittenSet, Lock, NoLock, ObjectLock, WholeLock, Down, Page, Deescalate, Callback, Committed, Aborted, Invalidate}
+use Rattle.line.specs.Station.{Station, NotKept}
+use Rattle.line.specs.Server.{Server, Want, WantWrite, lockOn}
+use Rattle.line.specs.Line.{World}
+use Rattle.line.specs.Truth.{count}
+use Rattle.truth.specs.Clauses.{dropped, askOf, setOf, askTokens}
+use Rattle.truth.specs.Inv.{Inv}
+
+-- 1. NUMBERS, of one station
+
+-- "2, 4, 6, 7, 8 from a validating station" are refused
+abbrev pub KindUp : ℕ → Up → Type 0
+KindUp kind (ReadRequest a t) = Unit {0}
+KindUp kind (WriteRequest a t) = locking kind ≡ true
+KindUp kind (Commit w) = Unit {0}
+KindUp kind (Abort t) = locking kind ≡ true
+KindUp kind (Purge p) = Unit {0}
+KindUp kind (Busy r t) = locking kind ≡ true
+KindUp kind (Done r t d) = locking kind ≡ true
+KindUp kind (WrittenSet p t set) = locking kind ≡ true
+
+-- 17 to 20 go to locking stations alone, 23 to validating ones
+abbrev pub KindDown : ℕ → Down → Type 0
+KindDown kind (Page NoLock a t v u x) = Unit {0}
+KindDown kind (Page ObjectLock a t v u x) = locking kind ≡ true
+KindDown kind (Page WholeLock a t v u x) = locking kind ≡ true
+KindDown kind (Deescalate p t) = locking kind ≡ true
+KindDown kind (Callback r t set) = locking kind ≡ true
+KindDown kind (Committed t n) = Unit {0}
+KindDown kind (Aborted t c) = Unit {0}
+KindDown kind (Invalidate d) = locking kind ≡ false
+
+-- kinds 1 to 4 name the station's own transaction
+abbrev pub numbered : Up → Bool
+numbered (ReadRequest a t) = true
+numbered (WriteRequest a t) = true
+numbered (Commit w) = true
+numbered (Abort t) = true
+numbered (Purge p) = false
+numbered (Busy r t) = false
+numbered (Done r t d) = false
+numbered (WrittenSet p t set) = false
+
+abbrev pub named : Up → ℕ
+named (ReadRequest a t) = t
+named (WriteRequest a t) = t
+named (Commit w) = w .transaction
+named (Abort t) = t
+named (Purge p) = 0
+named (Busy r t) = 0
+named (Done r t d) = 0
+named (WrittenSet p t set) = 0
+
+abbrev pub Above : ℕ → Up → Type 0
+Above t m = numbered m ≡ true → t < named m
+
+-- their numbers rise strictly along the line
+abbrev pub Rising : List Up → Type 0
+Rising [] = Unit {0}
+Rising (m ∷ l) = (numbered m ≡ true → All (Above (named m)) l) × Rising l
+
+-- a number that the server takes next: above the latest, or the latest while it is unfinished
+abbrev pub Next : ℕ → Bool → Up → Type 0
+Next latest fin m = numbered m ≡ true → (latest < named m) ⊎ ((named m ≡ latest) × (fin ≡ false))
+
+-- a 4 of transaction t
+abbrev pub abortOf : ℕ → Up → Bool
+abortOf t (ReadRequest a u) = false
+abortOf t (WriteRequest a u) = false
+abortOf t (Commit w) = false
+abortOf t (Abort u) = eqb u t
+abortOf t (Purge p) = false
+abortOf t (Busy r u) = false
+abortOf t (Done r u d) = false
+abortOf t (WrittenSet p u set) = false
+
+-- a 4 names a transaction that is over
+abbrev pub AbortOver : ℕ → Bool → Up → Type 0
+AbortOver num opened (ReadRequest a t) = Unit {0}
+AbortOver num opened (WriteRequest a t) = Unit {0}
+AbortOver num opened (Commit w) = Unit {0}
+AbortOver num opened (Abort t) = (t < num) ⊎ ((t ≡ num) × (opened ≡ false))
+AbortOver num opened (Purge p) = Unit {0}
+AbortOver num opened (Busy r t) = Unit {0}
+AbortOver num opened (Done r t d) = Unit {0}
+AbortOver num opened (WrittenSet p t set) = Unit {0}
+
+-- a 21 or 22
+abbrev pub isEnd : Down → Bool
+isEnd (Page l a t v u x) = false
+isEnd (Deescalate p t) = false
+isEnd (Callback r t set) = false
+isEnd (Committed t n) = true
+isEnd (Aborted t c) = true
+isEnd (Invalidate d) = false
+
+-- a page for the open transaction names the server's latest, unfinished; a 21 or 22 names it finished
+abbrev pub Latest : ℕ → Bool → ℕ → Bool → Down → Type 0
+Latest num opened latest fin (Page l a t v u x) = (opened && eqb t num) ≡ true → (t ≡ latest) × (fin ≡ false)
+Latest num opened latest fin (Deescalate p t) = Unit {0}
+Latest num opened latest fin (Callback r t set) = Unit {0}
+Latest num opened latest fin (Committed t n) = (t ≡ latest) × (fin ≡ true)
+Latest num opened latest fin (Aborted t c) = (t ≡ latest) × (fin ≡ true)
+Latest num opened latest fin (Invalidate d) = Unit {0}
+
+pub record Numbers (kind num : ℕ) (opened : Bool) (latest : ℕ) (fin : Bool) (U : List Up) (D : List Down) : Type 0 where
+  pub N1-up : All (KindUp kind) U
+  pub N1-down : All (KindDown kind) D
+  pub N2 : Rising U  -- kinds 1 to 4 in Up: numbers rise strictly
+  pub N3 : All (Next latest fin) U  -- .. above the latest, or the latest and unfinished
+  pub N4 : locking kind ≡ true → fin ≡ false → ((opened ≡ true) × (latest ≡ num)) ⊎ (1 ≤ count (abortOf latest) U)  -- unfinished: open, or its 4 is under way
+  pub N5 : opened ≡ true → latest ≡ num → fin ≡ true → 1 ≤ count isEnd D  -- open and finished: its 21 or 22 is under way
+  pub N6 : latest ≤ num
+  pub N7 : All (AbortOver num opened) U
+  pub N8 : All (Latest num opened latest fin) D
+
+abbrev pub NumbersAt : Server → (ℕ → Station) → (ℕ → List Up) → (ℕ → List Down) → ℕ → Type 0
+NumbersAt s t u d i = Numbers (t i .kind) (t i .num) (t i .opened) (s .latest i) (s .fin i) (u i) (d i)
+
+-- callbacks are kept at locking stations alone, so that a validating one has no 7 to send
+abbrev pub KeptAt : (ℕ → Station) → ℕ → Type 0
+KeptAt t i = locking (t i .kind) ≡ false → (r : ℕ) → t i .kept r ≡ NotKept
+
+-- 2. LOCKS, of one station i; OL and WL are the server's, ol and wl the station's own
+
+-- a 17 for the address, an 18 for the page
+abbrev pub grantsObject : ℕ → Down → Bool
+grantsObject b (Page NoLock a t v u x) = false
+grantsObject b (Page ObjectLock a t v u x) = eqb b a
+grantsObject b (Page WholeLock a t v u x) = false
+grantsObject b (Deescalate p t) = false
+grantsObject b (Callback r t set) = false
+grantsObject b (Committed t n) = false
+grantsObject b (Aborted t c) = false
+grantsObject b (Invalidate d) = false
+
+abbrev pub grantsWhole : ℕ → Down → Bool
+grantsWhole p (Page NoLock a t v u x) = false
+grantsWhole p (Page ObjectLock a t v u x) = false
+grantsWhole p (Page WholeLock a t v u x) = eqb p (pageOf a)
+grantsWhole p (Deescalate q t) = false
+grantsWhole p (Callback r t set) = false
+grantsWhole p (Committed t n) = false
+grantsWhole p (Aborted t c) = false
+grantsWhole p (Invalidate d) = false
+
+-- a 2 for the page
+abbrev pub asksLock : ℕ → Up → Bool
+asksLock p (ReadRequest a t) = false
+asksLock p (WriteRequest a t) = eqb p (pageOf a)
+asksLock p (Commit w) = false
+asksLock p (Abort t) = false
+asksLock p (Purge q) = false
+asksLock p (Busy r t) = false
+asksLock p (Done r t d) = false
+asksLock p (WrittenSet q t set) = false
+
+-- something is written on the page
+abbrev pub meets : (ℕ → Val) → ℕ → Bool
+meets wr p = any 8 (λ o. has (wr (address p o)))
+
+-- along the line, up to the first message that passes `ends`, none passes `bad`
+abbrev pub NoneUntil : (Up → Bool) → (Up → Bool) → List Up → Type 0
+NoneUntil ends bad [] = Unit {0}
+NoneUntil ends bad (m ∷ l) = (bad m ≡ false) × ((ends m ≡ true) ⊎ NoneUntil ends bad l)
+
+-- a lock brought by a page message stands at the server
+abbrev pub Granted : ℕ → (ℕ → ℕ) → (ℕ → ℕ) → Down → Type 0
+Granted i OL WL (Page NoLock a t v u x) = Unit {0}
+Granted i OL WL (Page ObjectLock a t v u x) = OL a ≡ suc i
+Granted i OL WL (Page WholeLock a t v u x) = WL (pageOf a) ≡ suc i
+Granted i OL WL (Deescalate p t) = Unit {0}
+Granted i OL WL (Callback r t set) = Unit {0}
+Granted i OL WL (Committed t n) = Unit {0}
+Granted i OL WL (Aborted t c) = Unit {0}
+Granted i OL WL (Invalidate d) = Unit {0}
+
+pub record Locks (i kind num : ℕ) (opened : Bool) (wr : ℕ → Val) (ol wl : ℕ → Bool) (OL WL : ℕ → ℕ) (latest : ℕ) (U : List Up) (D : List Down) : Type 0 where
+  -- an object lock: its 4 is under way, or the object is written, or its 17 is under way
+  pub K1a : (a : ℕ) → OL a ≡ suc i → (1 ≤ count (abortOf latest) U) ⊎ ((opened ≡ true) × (has (wr a) ≡ true)) ⊎ (1 ≤ count (grantsObject a) D)
+  -- a whole lock: its 4 is under way, or the page is written and the station has it whole or its 8 is under way, or its 18 is under way
+  pub K1b : (p : ℕ) → WL p ≡ suc i → (1 ≤ count (abortOf latest) U) ⊎ ((opened ≡ true) × (meets wr p ≡ true) × ((wl p ≡ true) ⊎ (1 ≤ count (setOf p latest) U))) ⊎ (1 ≤ count (grantsWhole p) D)
+  -- what is written and not ended is locked at the server
+  pub K2a : locking kind ≡ true → opened ≡ true → count isEnd D ≡ 0 → (a : ℕ) → has (wr a) ≡ true → (OL a ≡ suc i) ⊎ (WL (pageOf a) ≡ suc i)
+  pub K2b : locking kind ≡ true → opened ≡ true → count isEnd D ≡ 0 → (p : ℕ) → wl p ≡ true → WL p ≡ suc i
+  -- own locks are on what is written
+  pub K3a : (a : ℕ) → ol a ≡ true → has (wr a) ≡ true
+  pub K3b : (p : ℕ) → wl p ≡ true → meets wr p ≡ true
+  pub K7 : All (Granted i OL WL) D
+  -- who has written under a lock is known to the server
+  pub K9 : locking kind ≡ true → opened ≡ true → (a : ℕ) → has (wr a) ≡ true → latest ≡ num
+  -- a drop of a page with a lock of its own comes behind the 4
+  pub N9 : (p : ℕ) → ((a : ℕ) → pageOf a ≡ p → OL a ≡ suc i → NoneUntil (abortOf latest) (dropped p) U) × (WL p ≡ suc i → NoneUntil (abortOf latest) (dropped p) U)
+
+abbrev pub LocksAt : Server → (ℕ → Station) → (ℕ → List Up) → (ℕ → List Down) → ℕ → Type 0
+LocksAt s t u d i =
+    Locks i (t i .kind) (t i .num) (t i .opened) (t i .wr) (t i .ol) (t i .wl) (s .ol) (s .wl) (s .latest i) (u i) (d i)
+
+-- 3. DE-ESCALATION of page p at station i; WL and asked are the server's for p, OL its object locks, wl the station's own
+
+-- what a token for any page names is not above t
+abbrev pub AskBelow : ℕ → Down → Type 0
+AskBelow t (Page l a u v x y) = Unit {0}
+AskBelow t (Deescalate q u) = u ≤ t
+AskBelow t (Callback r u set) = Unit {0}
+AskBelow t (Committed u n) = Unit {0}
+AskBelow t (Aborted u c) = Unit {0}
+AskBelow t (Invalidate d) = Unit {0}
+
+abbrev pub SetBelow : ℕ → Up → Type 0
+SetBelow t (ReadRequest a u) = Unit {0}
+SetBelow t (WriteRequest a u) = Unit {0}
+SetBelow t (Commit w) = Unit {0}
+SetBelow t (Abort u) = Unit {0}
+SetBelow t (Purge q) = Unit {0}
+SetBelow t (Busy r u) = Unit {0}
+SetBelow t (Done r u d) = Unit {0}
+SetBelow t (WrittenSet q u set) = u ≤ t
+
+-- an 8 of (p, t) has every written object of the page that is not locked by itself already ..
+abbrev pub SetFull : ℕ → ℕ → ℕ → (ℕ → Val) → (ℕ → ℕ) → Up → Type 0
+SetFull i p t wr OL (ReadRequest a u) = Unit {0}
+SetFull i p t wr OL (WriteRequest a u) = Unit {0}
+SetFull i p t wr OL (Commit w) = Unit {0}
+SetFull i p t wr OL (Abort u) = Unit {0}
+SetFull i p t wr OL (Purge q) = Unit {0}
+SetFull i p t wr OL (Busy r u) = Unit {0}
+SetFull i p t wr OL (Done r u d) = Unit {0}
+SetFull i p t wr OL (WrittenSet q u set) = q ≡ p → u ≡ t → (a : ℕ) → pageOf a ≡ p → has (wr a) ≡ true → (set a ≡ true) ⊎ (OL a ≡ suc i)
+
+-- .. and nothing that is not written
+abbrev pub SetWritten : ℕ → ℕ → (ℕ → Val) → Up → Type 0
+SetWritten p t wr (ReadRequest a u) = Unit {0}
+SetWritten p t wr (WriteRequest a u) = Unit {0}
+SetWritten p t wr (Commit w) = Unit {0}
+SetWritten p t wr (Abort u) = Unit {0}
+SetWritten p t wr (Purge q) = Unit {0}
+SetWritten p t wr (Busy r u) = Unit {0}
+SetWritten p t wr (Done r u d) = Unit {0}
+SetWritten p t wr (WrittenSet q u set) = q ≡ p → u ≡ t → (a : ℕ) → set a ≡ true → has (wr a) ≡ true
+
+-- behind the 19 of (p, t) no 18 for the page
+abbrev pub NoWholeBehind : ℕ → ℕ → List Down → Type 0
+NoWholeBehind p t [] = Unit {0}
+NoWholeBehind p t (m ∷ l) = (askOf p t m ≡ true → count (grantsWhole p) l ≡ 0) × NoWholeBehind p t l
+
+-- an 8 of (p, t), or a 4 of t
+abbrev pub givesUp : ℕ → ℕ → Up → Bool
+givesUp p t m = setOf p t m || abortOf t m
+
+pub record Deescalation (i p kind num : ℕ) (opened : Bool) (wr : ℕ → Val) (wl : Bool) (OL : ℕ → ℕ) (WL : ℕ) (asked : Bool) (want : Want) (req latest : ℕ) (fin : Bool) (U : List Up) (D : List Down) : Type 0 where
+  pub K4 : opened ≡ true → fin ≡ false → latest ≡ num → WL ≡ suc i → All (SetFull i p latest wr OL) U
+  pub K4b : opened ≡ true → fin ≡ false → latest ≡ num → All (SetWritten p latest wr) U
+  pub K6a-down : All (AskBelow latest) D
+  pub K6a-up : All (SetBelow latest) U
+  pub K6b : fin ≡ false → 1 ≤ askTokens p latest U D → (WL ≡ suc i) × (asked ≡ true)  -- a token of the unfinished latest: the lock stands and is asked for
+  pub K6c : fin ≡ false → askTokens p latest U D ≤ 1  -- .. and there is one only
+  pub K6d-up : fin ≡ false → 1 ≤ count (setOf p latest) U → (wl ≡ false) × (count (grantsWhole p) D ≡ 0)  -- the 8 is under way: the station has the page whole no more
+  pub K6d-down : fin ≡ false → NoWholeBehind p latest D
+  pub K10 : want ≡ WantWrite → pageOf req ≡ p → WL ≢ suc i  -- who waits for a lock on the page has not got it whole
+  pub K10-up : WL ≡ suc i → NoneUntil (givesUp p latest) (asksLock p) U  -- .. nor who asks, but behind an 8 or 4
+
+abbrev pub DeescalationAt : Server → (ℕ → Station) → (ℕ → List Up) → (ℕ → List Down) → ℕ → ℕ → Type 0
+DeescalationAt s t u d i p =
+    Deescalation i p (t i .kind) (t i .num) (t i .opened) (t i .wr) (t i .wl p) (s .ol) (s .wl p) (s .asked p) (s .queue i .want) (s .queue i .req) (s .latest i) (s .fin i) (u i) (d i)
+
+-- THE WHOLE, of a world
+abbrev pub NumbersOf : World → Type 0
+NumbersOf w = (i : ℕ) → i < 8 → NumbersAt (w .server) (w .station) (w .up) (w .down) i
+
+abbrev pub KeptOf : World → Type 0
+KeptOf w = (i : ℕ) → i < 8 → KeptAt (w .station) i
+
+abbrev pub LocksOf : World → Type 0
+LocksOf w = (i : ℕ) → i < 8 → LocksAt (w .server) (w .station) (w .up) (w .down) i
+
+abbrev pub DeescalationOf : World → Type 0
+DeescalationOf w = (i p : ℕ) → i < 8 → p < 32 → DeescalationAt (w .server) (w .station) (w .up) (w .down) i p
+
+pub record Orderly (w : World) : Type 0 where
+  pub inv : Inv w
+  pub numbers : NumbersOf w
+  pub kept : KeptOf w
+  pub locks : LocksOf w
+  pub deescalation : DeescalationOf w

@@ -1,0 +1,335 @@
+-- Locks of one station (K1, K2, K3, K7, K9, N9): what one event does to them. Over values only.
+use mathlib.Core.Path.{_≡_, refl, sym, ap, _∙_}
+use mathlib.Core.Bool.{Bool, true, false, _&&_, _||_, cond, false≢true}
+use mathlib.Core.List.{List, [], _∷_}
+use mathlib.Core.Logic.{_⊎_, inl, inr, _≢_}
+use Prim.Native.Nat.{ℕ, suc, _%_, _≤_}
+use native.Mathlib.Omega.{arith}
+use lib.Dec.{eqb}
+use Rattle.sets.specs.Base.{upd, snoc, nowhere, Val, none, some, has, noneAt}
+use Rattle.sets.specs.Laws.{byB, byEq, eqb-same, eqb-yes, or-yes, any-yes, any-some}
+use Rattle.line.specs.All.{All}
+use Rattle.line.specs.Messages.{pageOf, address, locking, Up, Abort, WrittenSet, NoLock, ObjectLock, WholeLock, Down, Page, Deescalate, Callback, Committed, Aborted, Invalidate}
+use Rattle.line.specs.Truth.{count}
+use Rattle.truth.specs.Clauses.{dropped, setOf, brings}
+use Rattle.truth.specs.Frame.{count-snoc, count-less, all-snoc}
+use Rattle.truth.specs.Coverage.{on-page}
+use Rattle.truth.specs.GoalsLists.{either}
+use Rattle.jams.specs.Clauses.{abortOf, isEnd, grantsObject, grantsWhole, meets, NoneUntil, Granted, Locks}
+use Rattle.jams.specs.Until.{until-ended, until-snoc, until-pop}
+
+-- WHAT IS WRITTEN ON A PAGE
+
+pub meets-yes : (wr : ℕ → Val) (p a : ℕ) → pageOf a ≡ p → has (wr a) ≡ true → meets wr p ≡ true
+meets-yes wr p a e h = any-yes 8 (λ o. has (wr (address p o))) (a % 8) (omega arith) (rw (on-page a p e) h)
+
+pub meets-some : (wr : ℕ → Val) (p : ℕ) → meets wr p ≡ true → (a : ℕ) × (pageOf a ≡ p) × (has (wr a) ≡ true)
+meets-some wr p e =
+    let r = any-some 8 (λ o. has (wr (address p o))) e in
+    (address p (r .0), omega (arith, r .1), r .2)
+
+pub wrote-more : (wr : ℕ → Val) (a v b : ℕ) → has (wr b) ≡ true → has (upd wr a (some v) b) ≡ true
+wrote-more wr a v b e = byEq b a (λ f. rw f refl) (λ f. rw f e)
+
+pub meets-more : (wr : ℕ → Val) (a v p : ℕ) → meets wr p ≡ true → meets (upd wr a (some v)) p ≡ true
+meets-more wr a v p e = let r = meets-some wr p e in meets-yes (upd wr a (some v)) p (r .0) (r .1) (wrote-more wr a v (r .0) (r .2))
+
+-- WHO HAS NO LOCK
+
+module _ {i kind num : ℕ} {opened : Bool} {wr : ℕ → Val} {ol wl : ℕ → Bool} {OL WL : ℕ → ℕ} {latest : ℕ} {U : List Up} {D : List Down} where
+  -- .. and has ended at the server or written nothing
+  pub bare : ((a : ℕ) → ol a ≡ true → has (wr a) ≡ true) → ((p : ℕ) → wl p ≡ true → meets wr p ≡ true)
+      → ((a : ℕ) → OL a ≢ suc i) → ((p : ℕ) → WL p ≢ suc i)
+      → (locking kind ≡ true → opened ≡ true → count isEnd D ≡ 0 → (a : ℕ) → has (wr a) ≡ true → ⊥)
+      → (locking kind ≡ true → opened ≡ true → (a : ℕ) → has (wr a) ≡ true → latest ≡ num)
+      → All (Granted i OL WL) D → Locks i kind num opened wr ol wl OL WL latest U D
+  bare x y no-object no-whole over known g =
+      record {
+        K1a = λ a e. absurd (no-object a e);
+        K1b = λ p e. absurd (no-whole p e);
+        K2a = λ k o n a e. absurd (over k o n a e);
+        K2b = λ k o n p e. let r = meets-some wr p (y p e) in absurd (over k o n (r .0) (r .2));
+        K3a = x;
+        K3b = y;
+        K7 = g;
+        K9 = known;
+        N9 = λ p. (λ a f e. absurd (no-object a e), λ e. absurd (no-whole p e));
+      }
+
+-- the server notices transaction T: the latest already, or no lock is left of the one before
+pub renumbered : {i kind num : ℕ} {opened : Bool} {wr : ℕ → Val} {ol wl : ℕ → Bool} {OL WL : ℕ → ℕ} {latest : ℕ} {U : List Up} {D : List Down} (T : ℕ)
+    → (eqb T latest ≡ false → ((a : ℕ) → OL a ≢ suc i) × ((p : ℕ) → WL p ≢ suc i)) → (locking kind ≡ true → T ≡ num)
+    → Locks i kind num opened wr ol wl OL WL latest U D → Locks i kind num opened wr ol wl OL WL T U D
+renumbered {latest = latest} T n k h =
+    byEq T latest (λ e. rw (eqb-yes T latest e) h)
+    (λ e.
+    let z = n e in
+    bare (h .K3a) (h .K3b) (z .0) (z .1) (λ g o c a f. either (h .K2a g o c a f) (λ x. z .0 a x) (λ x. z .1 (pageOf a) x)) (λ g o a f. k g) (h .K7))
+
+-- EVERY LOCK HAS ITS 4 UNDER WAY: then the transaction may be closed, and anything sent
+
+pub record Settled (i : ℕ) (OL WL : ℕ → ℕ) (latest : ℕ) (U : List Up) (D : List Down) : Type 0 where
+  pub object : (a : ℕ) → OL a ≡ suc i → 1 ≤ count (abortOf latest) U
+  pub whole : (p : ℕ) → WL p ≡ suc i → 1 ≤ count (abortOf latest) U
+  pub granted : All (Granted i OL WL) D
+  pub behind-object : (a : ℕ) → OL a ≡ suc i → NoneUntil (abortOf latest) (dropped (pageOf a)) U
+  pub behind-whole : (p : ℕ) → WL p ≡ suc i → NoneUntil (abortOf latest) (dropped p) U
+
+-- who has no lock may close
+pub free : {i : ℕ} {OL WL : ℕ → ℕ} {latest : ℕ} {U : List Up} {D : List Down} → ((a : ℕ) → OL a ≢ suc i) → ((p : ℕ) → WL p ≢ suc i) → All (Granted i OL WL) D → Settled i OL WL latest U D
+free x y g =
+    record {
+      object = λ a e. absurd (x a e);
+      whole = λ p e. absurd (y p e);
+      granted = g;
+      behind-object = λ a e. absurd (x a e);
+      behind-whole = λ p e. absurd (y p e);
+    }
+
+module _ {i : ℕ} {OL WL : ℕ → ℕ} {latest : ℕ} {U : List Up} {D : List Down} (h : Settled i OL WL latest U D) where
+  pub settled-add : (m : Up) → Settled i OL WL latest (snoc U m) D
+  settled-add m =
+      let more = count-snoc (abortOf latest) U m in
+      record {
+        object = λ a e. omega (arith, h .object a e);
+        whole = λ p e. omega (arith, h .whole p e);
+        granted = h .granted;
+        behind-object = λ a e. until-ended (abortOf latest) (dropped (pageOf a)) U (m ∷ []) (h .object a e) (h .behind-object a e);
+        behind-whole = λ p e. until-ended (abortOf latest) (dropped p) U (m ∷ []) (h .whole p e) (h .behind-whole p e);
+      }
+
+  pub settled-locks : (kind num : ℕ) → Locks i kind num false noneAt nowhere nowhere OL WL latest U D
+  settled-locks kind num =
+      record {
+        K1a = λ a e. inl (h .object a e);
+        K1b = λ p e. inl (h .whole p e);
+        K2a = λ k o n a e. absurd (false≢true e);
+        K2b = λ k o n p e. absurd (false≢true e);
+        K3a = λ a e. absurd (false≢true e);
+        K3b = λ p e. absurd (false≢true e);
+        K7 = h .granted;
+        K9 = λ k o a e. absurd (false≢true e);
+        N9 = λ p. (λ a f e. rw (← f) (h .behind-object a e), λ e. h .behind-whole p e);
+      }
+
+-- THE LINES
+
+-- a lock on the page has its 4 under way
+abbrev pub Leaving : ℕ → (ℕ → ℕ) → (ℕ → ℕ) → ℕ → List Up → ℕ → Type 0
+Leaving i OL WL latest U p = ((a : ℕ) → pageOf a ≡ p → OL a ≡ suc i → 1 ≤ count (abortOf latest) U) × (WL p ≡ suc i → 1 ≤ count (abortOf latest) U)
+
+module _ {i kind num : ℕ} {opened : Bool} {wr : ℕ → Val} {ol wl : ℕ → Bool} {OL WL : ℕ → ℕ} {latest : ℕ} {U : List Up} {D : List Down} where
+  -- a message goes up; a drop of a page that is locked comes behind the 4
+  pub push-up : (m : Up) → ((p : ℕ) → dropped p m ≡ true → Leaving i OL WL latest U p) → Locks i kind num opened wr ol wl OL WL latest U D → Locks i kind num opened wr ol wl OL WL latest (snoc U m) D
+  push-up m k h =
+      let more : (f : Up → Bool) → count f U ≤ count f (snoc U m) = λ f. omega (arith, count-snoc f U m) in
+      record {
+        K1a = λ a e. either (h .K1a a e) (λ x. inl (omega (arith, more (abortOf latest)))) (λ x. inr x);
+        K1b = λ p e.
+            either (h .K1b p e) (λ x. inl (omega (arith, more (abortOf latest))))
+            (λ x. inr (either x (λ y. inl (y .0, y .1, either (y .2) (λ z. inl z) (λ z. inr (omega (arith, more (setOf p latest)))))) (λ y. inr y)));
+        K2a = h .K2a;
+        K2b = h .K2b;
+        K3a = h .K3a;
+        K3b = h .K3b;
+        K7 = h .K7;
+        K9 = h .K9;
+        N9 = λ p. (
+          λ a f g. until-snoc (abortOf latest) (dropped p) U m (λ e. k p e .0 a f g) (h .N9 p .0 a f g),
+          λ g. until-snoc (abortOf latest) (dropped p) U m (λ e. k p e .1 g) (h .N9 p .1 g),
+        );
+      }
+
+  -- .. one that drops nothing
+  pub plain-up : (m : Up) → ((p : ℕ) → dropped p m ≡ false) → Locks i kind num opened wr ol wl OL WL latest U D → Locks i kind num opened wr ol wl OL WL latest (snoc U m) D
+  plain-up m e h = push-up m (λ p f. absurd (false≢true (sym (e p) ∙ f))) h
+
+  -- the server takes a message: no 4 of the latest, no 8 that a whole lock needs
+  pub pop-up : (m : Up) → abortOf latest m ≡ false → ((p : ℕ) → WL p ≡ suc i → meets wr p ≡ true → setOf p latest m ≡ false)
+      → Locks i kind num opened wr ol wl OL WL latest (m ∷ U) D → Locks i kind num opened wr ol wl OL WL latest U D
+  pop-up m e f h =
+      record {
+        K1a = λ a g. either (h .K1a a g) (λ x. inl (omega (arith, rw e at x))) (λ x. inr x);
+        K1b = λ p g.
+            either (h .K1b p g) (λ x. inl (omega (arith, rw e at x)))
+            (λ x. inr (either x (λ y. inl (y .0, y .1, either (y .2) (λ z. inl z) (λ z. inr (omega (arith, rw (f p g (y .1)) at z))))) (λ y. inr y)));
+        K2a = h .K2a;
+        K2b = h .K2b;
+        K3a = h .K3a;
+        K3b = h .K3b;
+        K7 = h .K7;
+        K9 = h .K9;
+        N9 = λ p. (λ a g x. until-pop (abortOf latest) (dropped p) m U e (h .N9 p .0 a g x), λ x. until-pop (abortOf latest) (dropped p) m U e (h .N9 p .1 x));
+      }
+
+  -- a message comes down; the lock that it brings stands at the server
+  pub push-down : (m : Down) → Granted i OL WL m → Locks i kind num opened wr ol wl OL WL latest U D → Locks i kind num opened wr ol wl OL WL latest U (snoc D m)
+  push-down m g h =
+      let more : (f : Down → Bool) → count f D ≤ count f (snoc D m) = λ f. omega (arith, count-snoc f D m) in
+      record {
+        K1a = λ a e. either (h .K1a a e) (λ x. inl x) (λ x. inr (either x (λ y. inl y) (λ y. inr (omega (arith, more (grantsObject a))))));
+        K1b = λ p e. either (h .K1b p e) (λ x. inl x) (λ x. inr (either x (λ y. inl y) (λ y. inr (omega (arith, more (grantsWhole p))))));
+        K2a = λ k o n. h .K2a k o (omega (arith, more isEnd));
+        K2b = λ k o n. h .K2b k o (omega (arith, more isEnd));
+        K3a = h .K3a;
+        K3b = h .K3b;
+        K7 = all-snoc (Granted i OL WL) D m (h .K7) g;
+        K9 = h .K9;
+        N9 = h .N9;
+      }
+
+  -- the station takes a message that does not end its transaction; what it locks is written
+  pub pop-down : (m : Down) → isEnd m ≡ false → ((a : ℕ) → grantsObject a m ≡ true → (opened ≡ true) × (has (wr a) ≡ true))
+      → ((p : ℕ) → grantsWhole p m ≡ true → (opened ≡ true) × (meets wr p ≡ true) × (wl p ≡ true))
+      → Locks i kind num opened wr ol wl OL WL latest U (m ∷ D) → Locks i kind num opened wr ol wl OL WL latest U D
+  pop-down m e f g h =
+      record {
+        K1a = λ a x.
+            either (h .K1a a x) (λ y. inl y)
+            (λ y. inr (either y (λ z. inl z) (λ z. byB (grantsObject a m) (λ t. inl (f a t)) (λ t. inr (omega (arith, rw t at z))))));
+        K1b = λ p x.
+            either (h .K1b p x) (λ y. inl y)
+            (λ y. inr (either y (λ z. inl z) (λ z. byB (grantsWhole p m) (λ t. let w = g p t in inl (w .0, w .1, inl (w .2))) (λ t. inr (omega (arith, rw t at z))))));
+        K2a = λ k o n. h .K2a k o (rw e (omega arith));
+        K2b = λ k o n. h .K2b k o (rw e (omega arith));
+        K3a = h .K3a;
+        K3b = h .K3b;
+        K7 = h .K7 .1;
+        K9 = h .K9;
+        N9 = h .N9;
+      }
+
+-- a page that comes with a lock
+object-brings : (p a : ℕ) → pageOf a ≡ p → (m : Down) → grantsObject a m ≡ true → brings p m ≡ true
+object-brings p a f (Page NoLock b t v u x) e = absurd (false≢true e)
+object-brings p a f (Page ObjectLock b t v u x) e = rw (← eqb-yes a b e, f) (eqb-same p)
+object-brings p a f (Page WholeLock b t v u x) e = absurd (false≢true e)
+object-brings p a f (Deescalate q t) e = absurd (false≢true e)
+object-brings p a f (Callback r t set) e = absurd (false≢true e)
+object-brings p a f (Committed t n) e = absurd (false≢true e)
+object-brings p a f (Aborted t c) e = absurd (false≢true e)
+object-brings p a f (Invalidate d) e = absurd (false≢true e)
+
+whole-brings : (p : ℕ) (m : Down) → grantsWhole p m ≡ true → brings p m ≡ true
+whole-brings p (Page NoLock b t v u x) e = absurd (false≢true e)
+whole-brings p (Page ObjectLock b t v u x) e = absurd (false≢true e)
+whole-brings p (Page WholeLock b t v u x) e = e
+whole-brings p (Deescalate q t) e = absurd (false≢true e)
+whole-brings p (Callback r t set) e = absurd (false≢true e)
+whole-brings p (Committed t n) e = absurd (false≢true e)
+whole-brings p (Aborted t c) e = absurd (false≢true e)
+whole-brings p (Invalidate d) e = absurd (false≢true e)
+
+-- THE STATION
+
+module _ {i kind num : ℕ} {opened : Bool} {wr : ℕ → Val} {ol wl : ℕ → Bool} {OL WL : ℕ → ℕ} {latest : ℕ} {U : List Up} {D : List Down} (h : Locks i kind num opened wr ol wl OL WL latest U D) where
+  -- a lock on a page where nothing is written and for which nothing is under way has its 4 under way
+  pub unused-leaving : (p : ℕ) → meets wr p ≡ false → count (brings p) D ≡ 0 → Leaving i OL WL latest U p
+  unused-leaving p n z = (
+    λ a f e. either (h .K1a a e) (λ x. x) (λ x. absurd (either x (λ y. unmet (meets-yes wr p a f (y .1))) (λ y. brought (grantsObject a) (object-brings p a f) y))),
+    λ e. either (h .K1b p e) (λ x. x) (λ x. absurd (either x (λ y. unmet (y .1)) (λ y. brought (grantsWhole p) (whole-brings p) y))),
+  )
+    where
+      unmet : meets wr p ≡ true → ⊥
+      unmet e = false≢true (sym n ∙ e)
+
+      brought : (f : Down → Bool) → ((m : Down) → f m ≡ true → brings p m ≡ true) → 1 ≤ count f D → ⊥
+      brought f k x = absurd (omega (arith, count-less f (brings p) k D))
+
+  -- a transaction begins: nothing is written
+  pub began : (num′ : ℕ) → opened ≡ false → ((a : ℕ) → wr a ≡ none) → Locks i kind num′ true wr ol wl OL WL latest U D
+  began num′ o n =
+      record {
+        K1a = λ a e. either (h .K1a a e) (λ x. inl x) (λ x. inr (either x (λ y. absurd (false≢true (sym o ∙ y .0))) (λ y. inr y)));
+        K1b = λ p e. either (h .K1b p e) (λ x. inl x) (λ x. inr (either x (λ y. absurd (false≢true (sym o ∙ y .0))) (λ y. inr y)));
+        K2a = λ k t z a e. absurd (unwritten a e);
+        K2b = λ k t z p e. let r = meets-some wr p (h .K3b p e) in absurd (unwritten (r .0) (r .2));
+        K3a = h .K3a;
+        K3b = h .K3b;
+        K7 = h .K7;
+        K9 = λ k t a e. absurd (unwritten a e);
+        N9 = h .N9;
+      }
+    where
+      unwritten : (a : ℕ) → has (wr a) ≡ true → ⊥
+      unwritten a e = false≢true (sym (ap has (n a)) ∙ e)
+
+  -- a is written, under a lock known to the server; it may be a new one
+  pub writes : (a v : ℕ) (ol′ wl′ : ℕ → Bool) → ((b : ℕ) → ol′ b ≡ true → (ol b ≡ true) ⊎ (b ≡ a))
+      → ((p : ℕ) → wl′ p ≡ true → (wl p ≡ true) ⊎ ((p ≡ pageOf a) × (WL p ≡ suc i))) → ((p : ℕ) → wl p ≡ true → wl′ p ≡ true)
+      → (locking kind ≡ true → opened ≡ true → count isEnd D ≡ 0 → (OL a ≡ suc i) ⊎ (WL (pageOf a) ≡ suc i))
+      → (locking kind ≡ true → opened ≡ true → latest ≡ num) → Locks i kind num opened (upd wr a (some v)) ol′ wl′ OL WL latest U D
+  writes a v ol′ wl′ x y z l n =
+      record {
+        K1a = λ b e. either (h .K1a b e) (λ u. inl u) (λ u. inr (either u (λ w. inl (w .0, wrote-more wr a v b (w .1))) (λ w. inr w)));
+        K1b = λ p e.
+            either (h .K1b p e) (λ u. inl u)
+            (λ u. inr (either u (λ w. inl (w .0, meets-more wr a v p (w .1), either (w .2) (λ t. inl (z p t)) (λ t. inr t))) (λ w. inr w)));
+        K2a = λ k o c b e. byEq b a (λ f. rw (eqb-yes b a f) (l k o c)) (λ f. h .K2a k o c b (rw f at e));
+        K2b = λ k o c p e. either (y p e) (λ u. h .K2b k o c p u) (λ u. u .1);
+        K3a = λ b e. either (x b e) (λ u. wrote-more wr a v b (h .K3a b u)) (λ u. rw (u, eqb-same a) refl);
+        K3b = λ p e.
+            either (y p e) (λ u. meets-more wr a v p (h .K3b p u))
+            (λ u. meets-yes (upd wr a (some v)) p a (sym (u .0)) (rw (eqb-same a) refl));
+        K7 = h .K7;
+        K9 = λ k o b e. n k o;
+        N9 = h .N9;
+      }
+
+  -- 19: the whole lock becomes locks on what is written, and the 8 goes up
+  pub splits : (p t : ℕ) (set : ℕ → Bool) → ((a : ℕ) → set a ≡ true → has (wr a) ≡ true) → (WL p ≡ suc i → opened ≡ true → meets wr p ≡ true → t ≡ latest)
+      → Locks i kind num opened wr (λ a. ol a || set a) (upd wl p false) OL WL latest (snoc U (WrittenSet p t set)) D
+  splits p t set w n =
+      let m : Up = WrittenSet p t set in
+      let g : Locks i kind num opened wr ol wl OL WL latest (snoc U m) D = plain-up m (λ q. refl) h in
+      record {
+        K1a = g .K1a;
+        K1b = λ q e.
+            either (g .K1b q e) (λ x. inl x)
+            (λ x.
+            inr (either x
+            (λ y. inl (y .0, y .1, byEq q p (λ f. inr (sent q f (n (rw (eqb-yes q p f) at e) (y .0) (rw (eqb-yes q p f) at (y .1))))) (λ f. either (y .2) (λ z. inl (rw f z)) (λ z. inr z))))
+            (λ y. inr y)));
+        K2a = g .K2a;
+        K2b = λ k o c q e. g .K2b k o c q (before q e);
+        K3a = λ a e. or-yes (ol a) (set a) e (λ f. h .K3a a f) (λ f. w a f);
+        K3b = λ q e. h .K3b q (before q e);
+        K7 = g .K7;
+        K9 = g .K9;
+        N9 = g .N9;
+      }
+    where
+      before : (q : ℕ) → upd wl p false q ≡ true → wl q ≡ true
+      before q e = byEq q p (λ f. absurd (false≢true (rw f at e))) (λ f. rw f at e)
+
+      sent : (q : ℕ) → eqb q p ≡ true → t ≡ latest → 1 ≤ count (setOf q latest) (snoc U (WrittenSet p t set))
+      sent q f e =
+          let y : cond {A = ℕ} (eqb p q && eqb t latest) 1 0 ≡ 1 = rw (eqb-yes q p f, e, eqb-same p, eqb-same latest) refl in
+          omega (arith, count-snoc (setOf q latest) U (WrittenSet p t set))
+
+  -- the owner aborts, and the 4 goes up; no lock is under way
+  pub aborts : ((p : ℕ) → count (brings p) D ≡ 0) → locking kind ≡ true → Settled i OL WL latest (snoc U (Abort num)) D
+  aborts z k =
+      record {
+        object = object;
+        whole = whole;
+        granted = h .K7;
+        behind-object = λ a e. g .N9 (pageOf a) .0 a refl e;
+        behind-whole = λ p e. g .N9 p .1 e;
+      }
+    where
+      g : Locks i kind num opened wr ol wl OL WL latest (snoc U (Abort num)) D
+      g = plain-up (Abort num) (λ p. refl) h
+
+      four : latest ≡ num → 1 ≤ count (abortOf latest) (snoc U (Abort num))
+      four e =
+          let z : cond {A = ℕ} (eqb num latest) 1 0 ≡ 1 = rw (e, eqb-same num) refl in
+          omega (arith, count-snoc (abortOf latest) U (Abort num))
+
+      object : (a : ℕ) → OL a ≡ suc i → 1 ≤ count (abortOf latest) (snoc U (Abort num))
+      object a e = either (g .K1a a e) (λ u. u) (λ u. either u (λ w. four (h .K9 k (w .0) a (w .1))) (λ w. absurd (omega (arith, z (pageOf a), count-less (grantsObject a) (brings (pageOf a)) (object-brings (pageOf a) a refl) D))))
+
+      whole : (p : ℕ) → WL p ≡ suc i → 1 ≤ count (abortOf latest) (snoc U (Abort num))
+      whole p e =
+          either (g .K1b p e) (λ u. u)
+          (λ u. either u (λ w. let r = meets-some wr p (w .1) in four (h .K9 k (w .0) (r .0) (r .2))) (λ w. absurd (omega (arith, z p, count-less (grantsWhole p) (brings p) (whole-brings p) D))))

@@ -1,0 +1,133 @@
+-- The layer of locks: every move from an orderly world leads to a world with K1, K2, K3, K7, K9 and N9.
+use mathlib.Core.Path.{_≡_, refl, sym, _∙_}
+use mathlib.Core.Bool.{true, false, false≢true}
+use mathlib.Core.List.{List, _∷_}
+use mathlib.Core.Logic.{_≢_}
+use Prim.Native.Nat.{ℕ, zero, suc, _≤_, _<_}
+use native.Mathlib.Omega.{arith}
+use lib.Dec.{eqb}
+use Rattle.sets.specs.Base.{upd}
+use Rattle.sets.specs.Laws.{byEq, eqb-same, eqb-yes, eqb-no}
+use Rattle.line.specs.Messages.{pageOf, locking, Up, Down}
+use Rattle.line.specs.Station.{Station, Did, stationStep}
+use Rattle.line.specs.Server.{Server, Serving, WantWrite, waits, installWaiter}
+use Rattle.line.specs.Pass.{Clear}
+use Rattle.line.specs.Apart.{passed}
+use Rattle.line.specs.Runs.{tell-keeps}
+use Rattle.line.specs.Line.{World, worldDown, Op, perform, carryUp, carryDown, isRefused, fresh}
+use Rattle.line.specs.Truth.{count}
+use Rattle.truth.specs.Clauses.{dropped}
+use Rattle.truth.specs.Inv.{afterOwner, afterStation, Acts, Over}
+use Rattle.truth.specs.Tokens.{left-quiet}
+use Rattle.truth.specs.Exclusion.{lines, Known, known-in}
+use Rattle.truth.specs.ExclusionPass.{held, write-range, write-wants}
+use Rattle.jams.specs.Clauses.{LocksAt, LocksOf, Orderly}
+use Rattle.jams.specs.LocksHeld.{ranged}
+use Rattle.jams.specs.LocksStation.{owner-locks, station-locks}
+use Rattle.jams.specs.LocksServer.{NoGrants, quiet-grants, LocksIn, LineTo, RangedIn, abort-locks, install-locks, ask-locks, read-locks, call-locks, object-locks, whole-locks}
+use Rattle.jams.specs.LocksAccept.{around, locks-accepted}
+
+-- THE START
+
+locks-fresh : (kinds : ℕ → ℕ) → LocksOf (fresh kinds)
+locks-fresh kinds i b =
+    record {
+      K1a = λ a e. absurd (omega arith);
+      K1b = λ p e. absurd (omega arith);
+      K2a = λ k o n a e. absurd (false≢true e);
+      K2b = λ k o n p e. absurd (false≢true e);
+      K3a = λ a e. absurd (false≢true e);
+      K3b = λ p e. absurd (false≢true e);
+      K7 = tt;
+      K9 = λ k o a e. absurd (false≢true e);
+      N9 = λ p. (λ a f e. tt, λ e. tt);
+    }
+
+-- OWNER AND STATION
+
+-- of all stations
+abbrev AllLocks : Server → (ℕ → Station) → (ℕ → List Up) → (ℕ → List Down) → Type 0
+AllLocks s t u d = (j : ℕ) → j < 8 → LocksAt s t u d j
+
+locks-owner : (i : ℕ) (op : Op) (w : World) → i < 8 → Orderly w → LocksOf (afterOwner i op w)
+unfolding carryUp
+locks-owner i op w b h =
+    let s : Server = w .server in
+    let d : Did = perform op (w .station i) in
+    tell-keeps AllLocks i op (d .answer) (carryUp i d w)
+    (λ j c.
+    byEq j i
+    (λ e. rw (e, eqb-yes j i e) (owner-locks i (s .kind i) (s .queue i) (s .ol) (s .wl) (s .latest i) (s .fin i) (w .up i) (w .down i) (w .station i) (around w h i b) op))
+    (λ e. rw e (h .locks j c)))
+
+locks-station : (i : ℕ) (m : Down) (l : List Down) (w : World) → i < 8 → w .down i ≡ m ∷ l → isRefused ((stationStep m (w .station i)) .answer) ≡ false → Orderly w → LocksOf (afterStation i m l w)
+unfolding carryUp
+locks-station i m l w b q n h =
+    let s : Server = w .server in
+    let d : Did = stationStep m (w .station i) in
+    tell-keeps AllLocks i (w .asked i) (d .answer) (carryUp i d (worldDown w (upd (w .down) i l)))
+    (λ j c.
+    byEq j i
+    (λ e. rw (e, eqb-yes j i e) (station-locks i (s .kind i) (s .queue i) (s .ol) (s .wl) (s .latest i) (s .fin i) (w .up i) l (w .station i) m (rw q at (around w h i b)) n))
+    (λ e. rw e (h .locks j c)))
+
+-- THE PASS, in a server's step under way
+module _ (w : World) (x : Serving) (h : Orderly (carryDown x w)) where
+  under : (j : ℕ) → j < 8 → LocksIn (w .station) (w .up) (w .down) j x
+  unfolding carryDown
+  under j c = h .locks j c
+
+  range : (j : ℕ) → RangedIn (w .station) (w .up) (w .down) j x
+  unfolding carryDown
+  range j = ranged (h .inv .tokens j)
+
+  -- who waits has its only token with the server
+  waiter-quiet : (i : ℕ) → waits (x .server) i ≡ true → NoGrants i (LineTo (w .station) (w .up) (w .down) i x)
+  unfolding carryDown
+  waiter-quiet i e = quiet-grants (left-quiet e (h .inv .tokens i)) i
+
+  seen : Known (x .server) (w .station) (w .up) (lines (w .down) x)
+  seen = known-in (λ v k. k .apart) w x (h .inv)
+
+  module _ (i : ℕ) (b : i < 8) (e : x .server .queue i .want ≡ WantWrite) where
+    -- no drop of the page asked for is on its way up
+    undropped : count (dropped (pageOf (x .server .queue i .req))) (w .up i) ≡ 0
+    unfolding carryDown
+    undropped =
+        let k : locking (w .station i .kind) ≡ true = rw (h .inv .tokens i .kinds) at (h .inv .apart .waiting .entry i b .writes-lock e) in
+        let p : ℕ = pageOf (x .server .queue i .req) in
+        none (count (dropped p) (w .up i)) (λ n. false≢true (sym (rw e at (h .inv .coverage i k .page p .C2r-waiter n)) ∙ eqb-same p))
+      where
+        none : (n : ℕ) → (1 ≤ n → ⊥) → n ≡ 0
+        none zero f = refl
+        none (suc n) f = absurd (f (omega arith))
+
+    -- no other has the object locked, nor its page
+    open-object : Clear i x → (j : ℕ) → eqb j i ≡ false → x .server .ol (x .server .queue i .req) ≢ suc j
+    open-object c j n z =
+        held (x .server) (w .station) (w .up) (lines (w .down) x) i b seen (x .server .queue i .req)
+        (write-range (x .server) (w .station) (w .up) (lines (w .down) x) i b seen e) (write-wants (x .server) (w .station) (w .up) (lines (w .down) x) i b seen e) (rw e refl) (c .unblocked) j z n
+
+    open-page : Clear i x → (j : ℕ) → eqb j i ≡ false → x .server .wl (pageOf (x .server .queue i .req)) ≢ suc j
+    open-page c j n z =
+        eqb-no j i n (passed i x b (seen .apart) e c (write-range (x .server) (w .station) (w .up) (lines (w .down) x) i b seen e) j z)
+
+locks-acts : (w : World) → Acts (λ x. Orderly (carryDown x w)) (λ x. LocksOf (carryDown x w))
+unfolding carryDown installWaiter
+locks-acts w =
+    let t = w .station in
+    let u = w .up in
+    let d = w .down in
+    record {
+      aborts = λ i c x b e h j a. abort-locks t u d j i c x (range w x h j) (λ q. rw (eqb-yes j i q) (waiter-quiet w x h i e)) (under w x h j a);
+      asks = λ i g p x b e f h j a. ask-locks t u d j g p x (under w x h j a);
+      reads = λ i x b e c h j a. read-locks t u d j i x (under w x h j a);
+      calls = λ i x b e f n c h j a. call-locks t u d j i x (under w x h j a);
+      objects = λ i x b e c h j a. object-locks t u d j i x (range w x h j) (undropped w x h i b e) (open-object w x h i b e (c .clear) j) (under w x h j a);
+      pages = λ i x b e c f h j a. whole-locks t u d j i x (range w x h j) (undropped w x h i b e) (open-page w x h i b e (c .clear) j) (under w x h j a);
+      installs = λ i x b e f c h j a. install-locks t u d j i (x .server .queue i .work) x (range w x h j) (λ q. rw (eqb-yes j i q) (waiter-quiet w x h i (rw e refl))) (under w x h j a);
+    }
+
+-- THE LAYER
+pub locks-layer : Over Orderly LocksOf
+locks-layer = record { begins = locks-fresh; owner = locks-owner; station = locks-station; accepted = locks-accepted; acts = locks-acts }

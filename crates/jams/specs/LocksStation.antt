@@ -1,0 +1,172 @@
+-- The moves of station i and its owner, and the station's locks.
+use mathlib.Core.Path.{_≡_, refl, sym, _∙_}
+use mathlib.Core.Bool.{Bool, true, false, _&&_, _||_, cond, false≢true}
+use mathlib.Core.List.{List, [], _∷_, _++_}
+use mathlib.Core.Logic.{inl, inr}
+use Prim.Native.Nat.{ℕ, suc, _+_}
+use lib.Dec.{eqb}
+use Rattle.sets.specs.Base.{upd, nowhere, noneAt, some, has}
+use Rattle.sets.specs.Laws.{byB, byEq, eqb-same, eqb-yes, and-l, and-r, or-yes}
+use Rattle.line.specs.Messages.{pageOf, locking, Up, ReadRequest, WriteRequest, Commit, Abort, Purge, Busy, Done, WrittenSet, Lock, NoLock, ObjectLock, WholeLock, Down, Page, Deescalate, Callback, Committed, Aborted, Invalidate, Written, AbortedFor}
+use Rattle.line.specs.Station.{Station, Did, does, requested, live, usedPage, workOf, drops, mark, dropPages, recordRead, writeLocal, doCallback, closed, close, undo, readLocal, readAsk, writeAsk, arrive, takeLock, writtenOn, loosen, onDeescalate, onCommitted, onAborted, stationStep}
+use Rattle.line.specs.Server.{Waiter}
+use Rattle.line.specs.Line.{Op, perform, isRefused}
+use Rattle.truth.specs.Clauses.{Tokens}
+use Rattle.truth.specs.Frame.{append-nil, append-assoc, Owns, performs, closes, isLock, arrived, Takes, takes}
+use Rattle.truth.specs.Tokens.{both, idle-quiet}
+use Rattle.truth.specs.Coverage.{unused, tokens-unasked, quiet-unasked, drops-unused, drops-unasked}
+use Rattle.jams.specs.Clauses.{meets, Numbers, Locks}
+use Rattle.jams.specs.Locks.{Settled, Leaving, settled-add, settled-locks, free, meets-yes, meets-some, push-up, plain-up, pop-down, unused-leaving, began, writes, splits, aborts}
+
+-- what is known of station i and of the locks that the server says it has
+pub record Around (i skind : ℕ) (q : Waiter) (OL WL : ℕ → ℕ) (latest : ℕ) (fin : Bool) (U : List Up) (D : List Down) (s : Station) : Type 0 where
+  pub tokens : Tokens skind (s .kind) (s .num) (s .opened) (s .rd) (s .wr) (s .wait) q latest fin U D
+  pub numbers : Numbers (s .kind) (s .num) (s .opened) latest fin U D
+  pub locks : Locks i (s .kind) (s .num) (s .opened) (s .wr) (s .ol) (s .wl) OL WL latest U D
+  -- who has a lock is unfinished and locking
+  pub object : (a : ℕ) → OL a ≡ suc i → (fin ≡ false) × (locking (s .kind) ≡ true)
+  pub whole : (p : ℕ) → WL p ≡ suc i → (fin ≡ false) × (locking (s .kind) ≡ true)
+
+-- nothing is written on a page not used
+unmet : (s : Station) (p : ℕ) → usedPage s p ≡ false → meets (s .wr) p ≡ false
+unmet s p n =
+    byB (meets (s .wr) p) (λ e. let r = meets-some (s .wr) p e in both (has (s .wr (r .0))) (r .2) (unused s p (r .0) n (r .1) .1)) (λ e. e)
+
+-- a page neither used nor asked for may be dropped: a lock on it has its 4 under way
+leaving : {i skind : ℕ} {q : Waiter} {OL WL : ℕ → ℕ} {latest : ℕ} {fin : Bool} {U : List Up} {D : List Down} {s : Station}
+    → Around i skind q OL WL latest fin U D s → (p : ℕ) → usedPage s p ≡ false → requested (s .wait) p ≡ false → Leaving i OL WL latest U p
+leaving {s = s} h p n r =
+    byB (locking (s .kind)) (λ k. unused-leaving (h .locks) p (unmet s p n) (tokens-unasked (h .tokens) k p r .down))
+    (λ k. (λ a f e. both (locking (s .kind)) (h .object a e .1) k, λ e. both (locking (s .kind)) (h .whole p e .1) k))
+
+module _ (i skind : ℕ) (q : Waiter) (OL WL : ℕ → ℕ) (latest : ℕ) (fin : Bool) (U : List Up) (D : List Down) where
+  -- the station did d, from up line U
+  abbrev pub LocksDid : Did → Type 0
+  LocksDid d = Locks i (d .station .kind) (d .station .num) (d .station .opened) (d .station .wr) (d .station .ol) (d .station .wl) OL WL latest (U ++ d .sent) D
+
+  -- its transaction is closed, and every lock has its 4 under way
+  record Ending (d : Did) : Type 0 where
+    settled : Settled i OL WL latest (U ++ d .sent) D
+    opened : d .station .opened ≡ false
+    wr : d .station .wr ≡ noneAt
+    ol : d .station .ol ≡ nowhere
+    wl : d .station .wl ≡ nowhere
+
+  ends : (d : Did) → Settled i OL WL latest (U ++ d .sent) D → LocksDid (close d)
+  unfolding closed doCallback dropPages mark
+  ends d g =
+      let e : Ending (close d) =
+      closes Ending
+      (λ r t set x f h.
+      record {
+        settled = rw (append-assoc U (x .sent) (Done r t _ ∷ [])) (settled-add (h .settled) (Done r t _));
+        opened = h .opened;
+        wr = h .wr;
+        ol = h .ol;
+        wl = h .wl;
+      })
+      d (record { settled = g; opened = refl; wr = refl; ol = refl; wl = refl }) in
+      rw (e .opened, e .wr, e .ol, e .wl) (settled-locks (e .settled) ((close d) .station .kind) ((close d) .station .num))
+
+  -- THE OWNER'S MOVES
+  module _ (s : Station) (h : Around i skind q OL WL latest fin U D s) where
+    still : Locks i (s .kind) (s .num) (s .opened) (s .wr) (s .ol) (s .wl) OL WL latest (U ++ []) D
+    still = rw (append-nil U) (h .locks)
+
+    -- under its own lock, what is written is known to the server
+    under-lock : (a v : ℕ) → (locking (s .kind) ≡ true → (s .ol a || s .wl (pageOf a)) ≡ true) → Locks i (s .kind) (s .num) (s .opened) (upd (s .wr) a (some v)) (s .ol) (s .wl) OL WL latest (U ++ []) D
+    under-lock a v e =
+        let g = h .locks in
+        rw (append-nil U)
+        (writes g a v (s .ol) (s .wl) (λ b f. inl f) (λ p f. inl f) (λ p f. f)
+        (λ k o n. or-yes (s .ol a) (s .wl (pageOf a)) (e k) (λ f. g .K2a k o n a (g .K3a a f)) (λ f. inr (g .K2b k o n (pageOf a) f)))
+        (λ k o. or-yes (s .ol a) (s .wl (pageOf a)) (e k) (λ f. g .K9 k o a (g .K3a a f)) (λ f. let r = meets-some (s .wr) (pageOf a) (g .K3b (pageOf a) f) in g .K9 k o (r .0) (r .2))))
+
+    owns-locks : Owns s (λ op d. LocksDid d)
+    unfolding readLocal recordRead readAsk writeLocal writeAsk dropPages
+    owns-locks =
+        record {
+          refused = λ op n. still;
+          begins = λ a b. rw (append-nil U) (began (h .locks) (s .num + 1) b (λ x. h .tokens .S6 b .0 x .1));
+          reads-own = λ a v b c e. still;
+          reads-again = λ a v b c e f. still;
+          reads-here = λ a b c e f g. still;
+          reads-ask = λ a b c e f g. plain-up (ReadRequest a (s .num)) (λ p. refl) (h .locks);
+          writes-here = λ a v b c e. under-lock a v (λ k. rw k at e);
+          writes-ask = λ a v b c e. byB (locking (s .kind)) (λ k. rw k (plain-up (WriteRequest a (s .num)) (λ p. refl) (h .locks))) (λ k. rw k (plain-up (ReadRequest a (s .num)) (λ p. refl) (h .locks)));
+          commits = λ c. plain-up (Commit (workOf s)) (λ p. refl) (h .locks);
+          aborts = λ c.
+              ends (does (AbortedFor 0) (undo s) (cond (locking (s .kind)) (Abort (s .num) ∷ []) []))
+              (byB (locking (s .kind)) (λ k. rw k (aborts (h .locks) (λ p. quiet-unasked (idle-quiet (c .idle) (h .tokens)) k p .down) k))
+              (λ k. rw (k, append-nil U) (free (λ a e. both (locking (s .kind)) (h .object a e .1) k) (λ p e. both (locking (s .kind)) (h .whole p e .1) k) (h .locks .K7))));
+          purges = λ p b r n e. push-up (Purge p) (λ x y. leaving h x (rw (eqb-yes x p y) n) (rw (eqb-yes x p y) r)) (h .locks);
+        }
+
+    pub owner-locks : (op : Op) → LocksDid (perform op s)
+    owner-locks op = performs s (λ o d. LocksDid d) owns-locks op
+
+  -- THE STATION'S MOVES: m is taken from the down line
+  module _ (s : Station) where
+    abbrev Took : Down → Did → Type 0
+    Took m d = Around i skind q OL WL latest fin U (m ∷ D) s → isRefused (d .answer) ≡ false → LocksDid d
+
+    -- a page comes: what was asked for is written, under the lock that it brings
+    page-locks : (l : Lock) (a t v : ℕ) (u : ℕ → Bool) (x : ℕ → ℕ) (y : ℕ) → live s t ≡ true → locking (s .kind) ≡ isLock l → Took (Page l a t v u x) (does Written (writeLocal a y (arrived l a v u x s)) [])
+    unfolding writeLocal arrive takeLock
+    page-locks NoLock a t v u x y e k h r =
+        rw (append-nil U)
+        (pop-down (Page NoLock a t v u x) refl (λ b f. absurd (false≢true f)) (λ p f. absurd (false≢true f))
+        (writes (h .locks) a y (s .ol) (s .wl) (λ b f. inl f) (λ p f. inl f) (λ p f. f) (λ g o n. both (locking (s .kind)) g k) (λ g o. both (locking (s .kind)) g k)))
+    page-locks ObjectLock a t v u x y e k h r =
+        rw (append-nil U)
+        (pop-down (Page ObjectLock a t v u x) refl (λ b f. (and-l (s .opened) _ e, rw f refl)) (λ p f. absurd (false≢true f))
+        (writes (h .locks) a y (upd (s .ol) a true) (s .wl) (λ b f. byEq b a (λ z. inr (eqb-yes b a z)) (λ z. inl (rw z at f))) (λ p f. inl f) (λ p f. f)
+        (λ g o n. inl (h .locks .K7 .0)) (λ g o. sym (h .numbers .N8 .0 e .0) ∙ eqb-yes t (s .num) (and-r (s .opened) _ e))))
+    page-locks WholeLock a t v u x y e k h r =
+        rw (append-nil U)
+        (pop-down (Page WholeLock a t v u x) refl (λ b f. absurd (false≢true f))
+        (λ p f. (and-l (s .opened) _ e, meets-yes (upd (s .wr) a (some y)) p a (sym (eqb-yes p (pageOf a) f)) (rw (eqb-same a) refl), rw f refl))
+        (writes (h .locks) a y (s .ol) (upd (s .wl) (pageOf a) true) (λ b f. inl f)
+        (λ p f. byEq p (pageOf a) (λ z. inr (eqb-yes p (pageOf a) z, rw (eqb-yes p (pageOf a) z) (h .locks .K7 .0))) (λ z. inl (rw z at f)))
+        (λ p f. byEq p (pageOf a) (λ z. rw z refl) (λ z. rw z f))
+        (λ g o n. inr (h .locks .K7 .0)) (λ g o. sym (h .numbers .N8 .0 e .0) ∙ eqb-yes t (s .num) (and-r (s .opened) _ e))))
+
+    split-locks : (p t : ℕ) → locking (s .kind) ≡ true → Took (Deescalate p t) (onDeescalate p t s)
+    unfolding onDeescalate loosen
+    split-locks p t k h r =
+        let set : ℕ → Bool = writtenOn p t s in
+        let g : Locks i (s .kind) (s .num) (s .opened) (s .wr) (s .ol) (s .wl) OL WL latest U D = pop-down (Deescalate p t) refl (λ b f. absurd (false≢true f)) (λ x f. absurd (false≢true f)) (h .locks) in
+        byB (live s t && s .wl p)
+        (λ e.
+        let o : live s t ≡ true = and-l (live s t) _ e in
+        rw e
+        (splits g p t set (λ a f. and-r (live s t && eqb (pageOf a) p) _ f)
+        (λ f c w. let x = meets-some (s .wr) p w in eqb-yes t (s .num) (and-r (s .opened) _ o) ∙ sym (g .K9 k c (x .0) (x .2)))))
+        (λ e. rw e (plain-up (WrittenSet p t set) (λ x. refl) g))
+
+    -- the server has ended the transaction: it has no lock
+    ended-free : (m : Down) → fin ≡ true → Around i skind q OL WL latest fin U (m ∷ D) s → Settled i OL WL latest (U ++ []) D
+    ended-free m e h = rw (append-nil U) (free (λ a f. both fin e (h .object a f .0)) (λ p f. both fin e (h .whole p f .0)) (h .locks .K7 .1))
+
+    takes-locks : Takes s Took
+    unfolding recordRead arrive takeLock doCallback mark dropPages onCommitted onAborted
+    takes-locks =
+        record {
+          refused = λ m e h r. absurd (false≢true (sym r));
+          old-page = λ a t v u x e h r. rw (append-nil U) (pop-down (Page NoLock a t v u x) refl (λ b f. absurd (false≢true f)) (λ p f. absurd (false≢true f)) (h .locks));
+          page-read = λ a t v u x e f h r. rw (append-nil U) (pop-down (Page NoLock a t v u x) refl (λ b g. absurd (false≢true g)) (λ p g. absurd (false≢true g)) (h .locks));
+          page-write = λ l a t v u x y e f k h r. page-locks l a t v u x y e k h r;
+          deescalates = λ p t k h r. split-locks p t k h r;
+          keeps = λ k t set e f h r. plain-up (Busy k t) (λ p. refl) (pop-down (Callback k t set) refl (λ b g. absurd (false≢true g)) (λ p g. absurd (false≢true g)) (h .locks));
+          dones = λ k t set e f h r.
+              push-up (Done k t (drops set s)) (λ p y. leaving h p (drops-unused set s p y) (drops-unasked set s p y))
+              (pop-down (Callback k t set) refl (λ b g. absurd (false≢true g)) (λ p g. absurd (false≢true g)) (h .locks));
+          commits = λ t n e f h r. ends _ (ended-free (Committed t n) (h .numbers .N8 .0 .1) h);
+          aborts = λ t c e f h r. ends _ (ended-free (Aborted t c) (h .numbers .N8 .0 .1) h);
+          invalid-ends = λ d k e f h r.
+              ends _ (rw (append-nil U) (free (λ a g. both (locking (s .kind)) (h .object a g .1) k) (λ p g. both (locking (s .kind)) (h .whole p g .1) k) (h .locks .K7 .1)));
+          invalid = λ d k e h r. rw (append-nil U) (pop-down (Invalidate d) refl (λ b g. absurd (false≢true g)) (λ p g. absurd (false≢true g)) (h .locks));
+        }
+
+    pub station-locks : (m : Down) → Around i skind q OL WL latest fin U (m ∷ D) s → isRefused ((stationStep m s) .answer) ≡ false → LocksDid (stationStep m s)
+    station-locks m h r = takes s Took takes-locks m h r
