@@ -2,6 +2,7 @@
 
 use super::guarded::Stock;
 use super::{Buffers, Lends, Room, MORE};
+use crate::line::checks::Failure;
 use crate::random::Random;
 
 /// The buffers of a call that is made on both sides.
@@ -64,3 +65,9 @@ impl<F: Lends> Pair<F> {
 pub struct Difference(pub String);
 
 pub type Agreed<T> = Result<T, Difference>;
+
+impl From<Failure> for Difference {
+    fn from(failure: Failure) -> Difference {
+        Difference(format!("{}: {}", failure.check, failure.detail))
+    }
+}

@@ -4,10 +4,11 @@ use super::call::Call;
 use super::counts::Counts;
 use super::message::{Down, Field, Up};
 use super::places::Place;
-use super::server::{Server, Step, Victim, WaitsFor};
+use super::server::{state, Server, Step, Victim, WaitsFor};
 use super::sets::{page_of, rising, StationSet, STATIONS};
 use super::station::Station;
 use super::truth::{self, Ended};
+use super::waits;
 use super::world::{Outcome, Reply, World};
 use super::{Kind, Number};
 
@@ -48,6 +49,8 @@ pub struct Watched<'a> {
     /// No raw message was accepted: both ends kept the rules.
     honest: bool,
     first_messages: FirstMessages,
+    /// The server's state as bytes.
+    state: Vec<u8>,
 }
 
 /// The end that a call is made at, as it was before.
@@ -60,7 +63,7 @@ enum Before {
 
 /// "the server saw its transaction's first message later": by station, its latest transaction and that order, which
 /// it keeps once it is beaten, until an end that is reported.
-#[derive(Default)]
+#[derive(Clone, Default)]
 struct FirstMessages {
     by_station: [(u32, u64); STATIONS],
     beaten: [bool; STATIONS],
@@ -109,6 +112,19 @@ impl<'a> Watched<'a> {
             watch,
             honest: true,
             first_messages: FirstMessages::default(),
+            state: vec![0; state::LENGTH],
+        }
+    }
+
+    /// The same line again, to be driven elsewhere.
+    pub fn copy(&mut self) -> Watched<'_> {
+        Watched {
+            world: self.world.clone(),
+            counts: self.counts,
+            watch: self.watch,
+            honest: self.honest,
+            first_messages: self.first_messages.clone(),
+            state: self.state.clone(),
         }
     }
 
@@ -137,7 +153,30 @@ impl<'a> Watched<'a> {
             }
             Reply::Ready | Reply::Misplaced | Reply::Empty => (),
         }
+        self.nobody_on_a_ring(call, &reply)?;
         Ok(reply)
+    }
+
+    /// Wish 4, on every call.
+    fn nobody_on_a_ring(&mut self, call: &Call, reply: &Reply) -> Result<(), Failure> {
+        if let Call::Server(_) | Call::ServerRaw(_) = call {
+            state::lay(&self.world.server, &mut self.state);
+            waits::no_ring(&self.state)?;
+            if waits::edges(&self.state) != self.world.server.waits_for() {
+                return failed("edges are those of document 01", call.to_string());
+            }
+            if let Reply::Accepted(outcome) = reply {
+                waits::victims(&self.state, outcome)?;
+            }
+        }
+        match self.honest && self.world.lines_are_empty() {
+            true => {
+                self.counts.quiet += 1;
+                let owners = waits::owners(&self.world.stations, Station::waits);
+                waits::leads_out(&self.state, owners)
+            }
+            false => Ok(()),
+        }
     }
 
     fn before(&self, call: &Call) -> Before {
@@ -246,14 +285,15 @@ impl<'a> Watched<'a> {
         }
     }
 
-    /// "the youngest in any cycle gets 22"
+    /// "the youngest in any cycle gets 22"; so it is never the oldest.
     fn victim_fits(&self, victim: &Victim) -> Result<(), Failure> {
         let on_cycles = on_cycles(&victim.waits_for);
-        if self.first_messages.youngest(on_cycles) == Some(victim.station) {
+        let youngest = self.first_messages.youngest(on_cycles) == Some(victim.station);
+        if youngest && on_cycles.count_ones() > 1 {
             return Ok(());
         }
         let detail = format!("{victim:?} of {on_cycles:08b}");
-        failed("a victim is the youngest on a cycle", detail)
+        failed("a victim is the youngest on a cycle, and not alone", detail)
     }
 
     /// With every line empty both ends agree, and nobody waits for what can be served.

@@ -1,6 +1,7 @@
 //! What the runs reached: kinds, causes, numbers, victims, lengths.
 
 use super::call::Call;
+use super::draining::Drained;
 use super::message::Field;
 use super::places::Place;
 use super::world::{Outcome, Reply, World};
@@ -10,7 +11,7 @@ use std::fmt::{self, Display, Formatter};
 #[derive(Clone, Debug, Default, PartialEq, Eq)]
 pub struct Counts {
     pub runs: u64,
-    /// Runs to whose end demand 3 was claimed and held.
+    /// Ends of lines where demand 3 was claimed and held: of runs, and of what was drained from moments of theirs.
     pub claimed: u64,
     pub calls: u64,
     /// Messages sent, by kind.
@@ -31,6 +32,11 @@ pub struct Counts {
     /// Steps with more than one victim.
     pub steps_with_victims: u64,
     pub records: u64,
+    /// Calls behind which nothing was under way, where everybody who waits leads out.
+    pub quiet: u64,
+    /// Lines drained from a moment of theirs, by the rounds until nobody waited, and the most deliveries in one.
+    pub drained: [u64; 9],
+    pub most_deliveries: usize,
     /// 8s with an empty set.
     pub empty_8: u64,
     /// 16s to 18s with unavailable objects.
@@ -45,6 +51,11 @@ pub struct Counts {
 }
 
 impl Counts {
+    pub fn note_drained(&mut self, drained: &Drained) {
+        self.drained[drained.rounds] += 1;
+        self.most_deliveries = self.most_deliveries.max(drained.deliveries);
+    }
+
     /// A call, the message that it took or was given, and what it came to.
     pub fn note(&mut self, call: &Call, taken: Option<&[u8]>, reply: &Reply, world: &World) {
         self.calls += 1;
@@ -131,7 +142,7 @@ impl Display for Counts {
     fn fmt(&self, f: &mut Formatter<'_>) -> fmt::Result {
         write!(f, "{} runs", self.runs)?;
         if self.claimed > 0 {
-            write!(f, " ({} claiming demand 3)", self.claimed)?;
+            write!(f, " ({} ends claiming demand 3)", self.claimed)?;
         }
         writeln!(
             f,
@@ -149,11 +160,19 @@ impl Display for Counts {
             "ended by 23: {}, 16 ignored: {}, 8 empty: {}, 7 dropping nothing: {}, pages with unavailable objects: {}, raw accepted: {}",
             self.ended_by_23, self.ignored_16, self.empty_8, self.dropping_nothing, self.with_unavailable, self.raw_accepted
         )?;
+        writeln!(f, "nothing under way: {} times", self.quiet)?;
+        row(
+            f,
+            "drained, by rounds until nobody waits",
+            &self.drained,
+            0..=8,
+        )?;
         write!(
             f,
-            "longest line {}, longest waiting list {}, most in one step: server {} messages and {} records, station {}",
+            "longest line {}, longest waiting list {}, most deliveries in a draining {}, most in one step: server {} messages and {} records, station {}",
             self.longest_line,
             self.longest_list,
+            self.most_deliveries,
             self.most_sent_by_server,
             self.most_records,
             self.most_sent_by_station

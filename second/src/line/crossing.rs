@@ -85,6 +85,11 @@ impl Crossing {
         }
     }
 
+    /// Calls still to be made.
+    pub fn calls(&self) -> usize {
+        self.calls_left
+    }
+
     /// Raw messages are among the calls.
     pub fn damages(&self) -> bool {
         self.habits.raw != 0

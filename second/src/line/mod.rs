@@ -7,6 +7,7 @@ pub mod checks;
 pub mod counts;
 pub mod crossing;
 pub mod damage;
+pub mod draining;
 pub mod hot;
 pub mod lent;
 pub mod little;
@@ -22,6 +23,7 @@ pub mod shorten;
 pub mod spoil;
 pub mod station;
 pub mod truth;
+pub mod waits;
 pub mod world;
 
 use crate::record::{ENTRY, HEADER};

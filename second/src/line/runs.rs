@@ -4,9 +4,9 @@ use super::call::{kinds, script, Call};
 use super::checks::{Failure, Watch, Watched};
 use super::counts::Counts;
 use super::crossing::Crossing;
-use super::damage::ALL;
+use super::draining::{Draining, Driven};
 use super::shorten;
-use super::world::Reply;
+use super::world::{Reply, World};
 use crate::random::Random;
 use std::panic::{self, AssertUnwindSafe};
 
@@ -20,8 +20,33 @@ pub struct Failed {
 /// Panics are caught where they can be, and count as failures.
 const PANIC: &str = "no panic";
 
-/// Draining a line takes far fewer deliveries; more would be messages without end.
-const MOST_DELIVERIES: usize = 20_000;
+/// About so many moments of a line are drained from.
+const COPIES: usize = 2;
+
+/// A line under watch, and every call made on it.
+struct Made<'a, 'b> {
+    watched: &'a mut Watched<'b>,
+    made: &'a mut Vec<Call>,
+}
+
+impl Driven for Made<'_, '_> {
+    type Failure = Failure;
+
+    fn world(&self) -> &World {
+        &self.watched.world
+    }
+
+    fn make(&mut self, call: Call) -> Result<Reply, Failure> {
+        make(self.watched, call, self.made)
+    }
+
+    fn rests(&mut self) -> Result<(), Failure> {
+        match self.watched.honest() {
+            true => self.watched.at_rest(),
+            false => Ok(()),
+        }
+    }
+}
 
 /// The run of one seed.
 pub fn run(seed: u64, calls: usize, counts: &mut Counts) -> Result<(), Failed> {
@@ -52,9 +77,14 @@ fn random_calls(
     if let Some((last, latest)) = crossing.numbers {
         make(&mut watched, Call::Numbers(last, latest), made)?;
     }
+    let mut luck = Random::new(seed ^ 0x0D4A_1D3D);
+    let copy_in = crossing.calls() / COPIES + 1;
     while let Some(call) = crossing.next(&watched.world) {
         let reply = make(&mut watched, call, made)?;
         crossing.saw(&made[made.len() - 1], &reply);
+        if watched.honest() && luck.one_in(copy_in) {
+            drain_a_copy(&mut watched, luck.number(), made)?;
+        }
     }
     drain(&mut watched, seed, made)
 }
@@ -84,70 +114,33 @@ fn caught(run: impl FnOnce() -> Result<(), Failure>) -> Result<(), Failure> {
     })
 }
 
-/// Owners stop: all messages are delivered, idle owners' transactions ended one after the other.
+/// Owners stop at some moment, and the line goes on as if they had not; of what failed all calls stay.
+fn drain_a_copy(watched: &mut Watched, seed: u64, made: &mut Vec<Call>) -> Result<(), Failure> {
+    let before = made.len();
+    drain(&mut watched.copy(), seed, made)?;
+    made.truncate(before);
+    Ok(())
+}
+
+/// Owners begin nothing more: all messages are delivered; some transactions are ended one after the other, then all in
+/// rounds.
 fn drain(watched: &mut Watched, seed: u64, made: &mut Vec<Call>) -> Result<(), Failure> {
     let mut random = Random::new(seed ^ 0x5D12_A1B5);
-    loop {
-        deliver_all(watched, &mut random, made)?;
-        if !watched.honest() {
-            return Ok(());
-        }
-        watched.at_rest()?;
-        let Some(call) = end_an_idle_one(watched, &mut random) else {
-            return watched.at_end();
-        };
-        make(watched, call, made)?;
+    let one_by_one = random.pick(&[0, 0, 1, 2]);
+    let honest = watched.honest();
+    let mut line = Made { watched, made };
+    let mut draining = Draining::new(&mut line, &mut random);
+    // only after raw messages can a line be stuck
+    let empty = draining.deliver_all()?;
+    if !empty || !honest {
+        return Ok(());
     }
-}
-
-fn deliver_all(
-    watched: &mut Watched,
-    random: &mut Random,
-    made: &mut Vec<Call>,
-) -> Result<(), Failure> {
-    for _ in 0..MOST_DELIVERIES {
-        let Some(call) = some_delivery(watched, random) else {
-            return Ok(());
-        };
-        let reply = make(watched, call, made)?;
-        // only after raw messages can a line be stuck
-        if let Reply::Refused(_) = reply {
-            return Ok(());
-        }
+    for _ in 0..one_by_one {
+        draining.end_one()?;
     }
-    Err(Failure {
-        check: "everything drains",
-        detail: format!("not in {MOST_DELIVERIES} deliveries"),
-    })
-}
-
-fn some_delivery(watched: &Watched, random: &mut Random) -> Option<Call> {
-    let world = &watched.world;
-    let up = ALL.iter().filter(|s| world.up_length(**s) > 0);
-    let down = ALL.iter().filter(|s| world.down_length(**s) > 0);
-    let calls: Vec<Call> = up
-        .map(|s| Call::Server(*s))
-        .chain(down.map(|s| Call::Station(*s)))
-        .collect();
-    let last = calls.len().checked_sub(1)?;
-    calls.into_iter().nth(random.below(last + 1))
-}
-
-/// "no station waits, except behind idle owners: end those"
-fn end_an_idle_one(watched: &Watched, random: &mut Random) -> Option<Call> {
-    let idle = |number: &u8| {
-        let station = &watched.world.stations[*number as usize];
-        station.is_open() && !station.waits()
-    };
-    let idle: Vec<u8> = ALL.into_iter().filter(idle).collect();
-    if idle.is_empty() {
-        return None;
-    }
-    let number = random.pick(&idle);
-    Some(match random.below(4) {
-        0 => Call::Abort(number),
-        _ => Call::Commit(number),
-    })
+    let drained = draining.end_all()?;
+    watched.counts.note_drained(&drained);
+    watched.at_end()
 }
 
 /// Calls made again without their draining, which is drawn anew; all calls made are put into `made`.

@@ -1,13 +1,17 @@
 //! One line four times over: this implementation's, the library's, and each end with the other's other end. Every call is
-//! made on all four.
+//! made on all four, and what wish 4 claims is looked for in the bytes of the library's own line.
 
 use crate::tally::Tallies;
 use second::buffers::{Agreed, Difference};
 use second::ffi::ends;
 use second::line::call::Call;
+use second::line::checks::Failure;
+use second::line::draining::Driven;
+use second::line::places::Place;
 use second::line::server::{state as server_state, Server};
 use second::line::sets::STATIONS;
 use second::line::station::{state as station_state, Station};
+use second::line::waits;
 use second::line::world::{Outcome, Reply, World};
 use second::line::Kind;
 
@@ -19,6 +23,29 @@ pub struct Line {
     proved: World<ends::Server, ends::Station>,
     proved_server: World<ends::Server, Station>,
     proved_stations: World<Server, ends::Station>,
+    /// No raw message was accepted: both ends kept the rules.
+    honest: bool,
+}
+
+/// A line, and what is told of its calls.
+pub struct Told<'a> {
+    pub line: &'a mut Line,
+    pub tallies: &'a mut Tallies,
+    pub made: &'a mut Vec<Call>,
+}
+
+impl Driven for Told<'_> {
+    type Failure = Difference;
+
+    fn world(&self) -> &World {
+        &self.line.world
+    }
+
+    fn make(&mut self, call: Call) -> Agreed<Reply> {
+        self.made.push(call);
+        self.line
+            .make(&self.made[self.made.len() - 1], self.tallies)
+    }
 }
 
 impl Line {
@@ -31,10 +58,15 @@ impl Line {
             proved: World::with_ends(kinds),
             proved_server: World::with_ends(kinds),
             proved_stations: World::with_ends(kinds),
+            honest: true,
         };
         line.server_agrees()?;
         (0..STATIONS).try_for_each(|station| line.station_agrees(station))?;
         Ok(line)
+    }
+
+    pub fn honest(&self) -> bool {
+        self.honest
     }
 
     /// The records of the library's own line, one behind the other.
@@ -68,10 +100,44 @@ impl Line {
         }
         self.states_agree(call)
             .map_err(|Difference(text)| Difference(format!("{call}\n{text}")))?;
+        let raw = matches!(call, Call::ServerRaw(_) | Call::StationRaw(..));
+        self.honest &= !(raw && matches!(reply, Reply::Accepted(_)));
+        self.nobody_on_a_ring(call, &reply, tallies)
+            .map_err(|failure| Difference(format!("{call}\n{}", Difference::from(failure).0)))?;
         if let Reply::Accepted(_) | Reply::Refused(_) = reply {
             tallies.on_lines += 2;
         }
         Ok(reply)
+    }
+
+    /// Wish 4, from the library's bytes.
+    fn nobody_on_a_ring(
+        &self,
+        call: &Call,
+        reply: &Reply,
+        tallies: &mut Tallies,
+    ) -> Result<(), Failure> {
+        let state = self.proved.server.state();
+        match (reply, call) {
+            (Reply::Refused(number), Call::Server(_) | Call::Station(_)) if self.honest => {
+                return Err(Failure {
+                    check: "no message between rule-keeping ends is refused",
+                    detail: format!("{number:?}"),
+                })
+            }
+            (Reply::Accepted(outcome), Call::Server(_) | Call::ServerRaw(_)) => {
+                waits::victims(state, outcome)?;
+                waits::no_ring(state)?;
+            }
+            (Reply::Refused(_), Call::Server(_) | Call::ServerRaw(_)) => waits::no_ring(state)?,
+            _ => (),
+        }
+        if !self.honest || !self.world.lines_are_empty() {
+            return Ok(());
+        }
+        tallies.counts.quiet += 1;
+        let waits = |station: &ends::Station| station_state::Field::Wait.byte(station.state()) != 0;
+        waits::leads_out(state, waits::owners(&self.proved.stations, waits))
     }
 
     /// What an accepted call leaves in the bytes of its end.

@@ -13,10 +13,7 @@ pub fn run(seed: u64, calls: usize, program: Option<&str>, judge: &mut Judge) ->
     judge.begin(seed);
     let crossing = Crossing::of_eight(seed, calls);
     let claimed = runs::run_of(crossing, seed, &mut judge.tallies.long);
-    let made = claimed.map_err(|failed| {
-        let failure = failed.failure;
-        Difference(format!("{}: {}", failure.check, failure.detail))
-    })?;
+    let made = claimed.map_err(|failed| Difference::from(failed.failure))?;
     let line = replay(&made, judge)?;
     let archive = line.archive();
     let differs = |what: &str| Err(Difference(format!("seed {seed}, run for long: {what}")));

@@ -1,11 +1,12 @@
-//! Runs: a random line with damaged cases in between, and a failing run made short.
+//! Runs: a random line with damaged cases in between, drained at its end, and a failing run made short.
 
 use crate::cases::Cases;
 use crate::judge::Judge;
-use crate::line::Line;
+use crate::line::{Line, Told};
 use second::buffers::Difference;
 use second::line::call::{kinds, script, Call};
 use second::line::crossing::Crossing;
+use second::line::draining::Draining;
 use second::line::shorten::shorten;
 use second::random::Random;
 
@@ -51,6 +52,35 @@ pub fn run(seed: u64, judge: &mut Judge) -> Result<(), Failed> {
             cases.make(&line, &mut crossing, judge)?;
         }
     }
+    match drain(&mut line, &mut random, judge, &mut made) {
+        Ok(()) => Ok(()),
+        Err(difference) => {
+            let calls = made;
+            Err(Failed { difference, calls })
+        }
+    }
+}
+
+/// Owners begin nothing more; a line that took raw messages is left as it is.
+fn drain(
+    line: &mut Line,
+    random: &mut Random,
+    judge: &mut Judge,
+    made: &mut Vec<Call>,
+) -> Result<(), Difference> {
+    if !line.honest() {
+        return Ok(());
+    }
+    let tallies = &mut judge.tallies;
+    let mut line = Told {
+        line,
+        tallies,
+        made,
+    };
+    let mut draining = Draining::new(&mut line, random);
+    draining.deliver_all()?;
+    let drained = draining.end_all()?;
+    line.tallies.counts.note_drained(&drained);
     Ok(())
 }
 

@@ -92,7 +92,7 @@ impl Display for Tallies {
         writeln!(
             f,
             "run for long: {} lines, {} calls, {} commits; archives played back by the program: {}",
-            self.long.claimed, self.long.calls, self.long.records, self.played
+            self.long.runs, self.long.calls, self.long.records, self.played
         )?;
         writeln!(f, "DAMAGED CASES of the server: {}", self.damaged)?;
         writeln!(f, "accepted by kind: {}", self.accepted)?;
