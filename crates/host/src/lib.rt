@@ -42,7 +42,7 @@ fn tell_other(a: Answer, messages: usize, commit: usize, told: &mut [u64]) -> u3
 }
 
 // The value is taken out; other answers leave early.
-fn tell(x: Said, told: &mut [u64]) -> u32
+pub fn tell(x: Said, told: &mut [u64]) -> u32
     requires { ⌜ 4 ≤ length (now told) ⌝ }
     ensures { λ r. ⌜ Host·told (now (told .exit)) r ≡ toldSaid (now (told .entry)) x ⌝ }
 {

@@ -108,10 +108,10 @@ pub no-room : (s : List ℕ) → ready s [] [] ≡ false
 unfolding ready
 no-room s = byB (valid s) (λ e. rw e) (λ e. rw e)
 
-abbrev SameCall : (List ℕ → List ℕ → List ℕ → Outcome) → Type 0
+abbrev pub SameCall : (List ℕ → List ℕ → List ℕ → Outcome) → Type 0
 SameCall f = (s o c t : List ℕ) → Found (Station.hostOf s o c t (f s o c)) (f s (lent 4 t o) (lent 4 t c))
 
-same-call : (f : List ℕ → List ℕ → List ℕ → Outcome) → ((s o c : List ℕ) → Sure (f s o c)) → ((s o c : List ℕ) → ready s o c ≡ false → f s o c ≡ laid o c (refuses 1 s)) → SameCall f
+pub same-call : (f : List ℕ → List ℕ → List ℕ → Outcome) → ((s o c : List ℕ) → Sure (f s o c)) → ((s o c : List ℕ) → ready s o c ≡ false → f s o c ≡ laid o c (refuses 1 s)) → SameCall f
 same-call f q u s o c t =
     byB (ltb (length t) 4)
     (λ l. rw (l, u s [] [] (no-room s)) (short-found s o c t (f s o c) l))
@@ -176,7 +176,7 @@ server-found m s o q t =
 
 -- EVERY CALL
 
-carry-up-same : (i : ℕ) (h : Station.Hosted) (x : Outcome) (w : WorldB) → Found h x → carryUpH i h w ≡ carryUpB i x w
+pub carry-up-same : (i : ℕ) (h : Station.Hosted) (x : Outcome) (w : WorldB) → Found h x → carryUpH i h w ≡ carryUpB i x w
 unfolding carryUpH carryUpB
 carry-up-same i h x w f = rw (f .state, f .sent)
 
@@ -184,13 +184,13 @@ carry-down-same : (h : Server.Hosted) (x : ServerCall.Outcome) (w : WorldB) → 
 unfolding carryDownH carryDownB
 carry-down-same h x w f = rw (f .state, f .sent, f .archived)
 
-owner-same : (i : ℕ) (op : Op) (o c t : List ℕ) (w : WorldB) → ownerActsH i op o c t w ≡ ownerActsB i op (lent 4 t o) (lent 4 t c) w
+pub owner-same : (i : ℕ) (op : Op) (o c t : List ℕ) (w : WorldB) → ownerActsH i op o c t w ≡ ownerActsB i op (lent 4 t o) (lent 4 t c) w
 unfolding ownerActsH ownerActsB
 owner-same i op o c t w =
     let f = owner-found op (w .station i) o c t in
     rw (f .answer, carry-up-same i _ _ w f)
 
-station-same : (i : ℕ) (ms : List (List ℕ)) (o c t : List ℕ) (w : WorldB) → stationTakesH i ms o c t w ≡ stationTakesB i ms (lent 4 t o) (lent 4 t c) w
+pub station-same : (i : ℕ) (ms : List (List ℕ)) (o c t : List ℕ) (w : WorldB) → stationTakesH i ms o c t w ≡ stationTakesB i ms (lent 4 t o) (lent 4 t c) w
 unfolding stationTakesH stationTakesB
 station-same i [] o c t w = refl
 station-same i (m ∷ l) o c t w =

@@ -1,0 +1,2 @@
+-- Document 02's window for C.
+pub mod Host
