@@ -56,6 +56,7 @@ extern "C" {
 #define WAX_SEQUENCE UINT32_C(13)  /* the commit number is not one more than the last */
 #define WAX_REPLAY   UINT32_C(14)  /* a read differs from the value left by earlier records */
 #define WAX_LONG     UINT32_C(15)  /* one read or write more than a transaction may have */
+#define WAX_REGISTER UINT32_C(16)  /* a window has no such register */
 #define WAX_TARIFF   UINT32_C(17)  /* a tariff's table breaks its rules */
 #define WAX_BEYOND   UINT32_C(18)  /* a value or a fee above 2^63 - 1 */
 #define WAX_SHARE    UINT32_C(19)  /* a share of the server's turns is not 1 to 4 */
@@ -435,6 +436,85 @@ uint32_t wax_station_purge(uint32_t page, uint8_t *state, size_t state_length, u
 uint32_t wax_station_step(const uint8_t *message, size_t message_length, uint8_t *state, size_t state_length,
                           uint8_t *messages, size_t messages_length, uint8_t *commit, size_t commit_length,
                           uint64_t *told, size_t told_length);
+
+/*
+ * A WINDOW
+ *
+ * 32 byte registers that drive one validating station, for a controller whose byte bus has no messages. The host keeps
+ * WAX_REGISTERS bytes beside the station's state and lends both to every access; a fresh window is all zeros. What the registers
+ * mean is below, and docs/STATE.md says what stands in the lent bytes. Each command and each message does what wax_station_begin
+ * to wax_station_step do: messages, commit and told are lent and given as there, and are to be sent on as there.
+ *
+ *   0       page
+ *   1       object
+ *   2       command: a write of WAX_COMMAND_BEGIN to WAX_COMMAND_ABORT calls the operation; another byte is only stored
+ *   3       the last command's number, WAX_OK if it was accepted; read only
+ *   4..11   the value, little-endian: what a write is to write, and what a read has read, also a late one
+ *   12..15  the last commit's number, little-endian; read only
+ *   16      flags: WAX_FLAG_OPEN, WAX_FLAG_WAITING; WAX_FLAG_DONE rises when a read, write or commit succeeds, WAX_FLAG_ABORTED
+ *           when the server or a 23 ends the transaction; a one written to either of the last two clears it
+ *   17      mask: the interrupt is up exactly while flags and mask share a bit
+ *   18..31  read 0
+ *
+ * Read-only registers, 18 to 31, and other bits of 16 ignore what is written.
+ */
+#define WAX_REGISTERS 32
+
+#define WAX_REGISTER_PAGE    0
+#define WAX_REGISTER_OBJECT  1
+#define WAX_REGISTER_COMMAND 2
+#define WAX_REGISTER_REFUSAL 3
+#define WAX_REGISTER_VALUE   4
+#define WAX_REGISTER_COMMIT  12
+#define WAX_REGISTER_FLAGS   16
+#define WAX_REGISTER_MASK    17
+
+#define WAX_COMMAND_BEGIN  1
+#define WAX_COMMAND_READ   2
+#define WAX_COMMAND_WRITE  3
+#define WAX_COMMAND_COMMIT 4
+#define WAX_COMMAND_ABORT  5
+
+#define WAX_FLAG_OPEN    1
+#define WAX_FLAG_WAITING 2
+#define WAX_FLAG_DONE    4
+#define WAX_FLAG_ABORTED 8
+
+/*
+ * Reading a register, and whether the interrupt is up (level 1) or not (level 0).
+ *
+ *   WAX_BUFFER    the registers are not 32 bytes that a window leaves, or the state is not a validating station's
+ *   WAX_REGISTER  offset is above 31
+ */
+uint32_t wax_window_read(uint32_t offset, const uint8_t *registers, size_t registers_length,
+                         const uint8_t *state, size_t state_length, uint8_t *byte);
+uint32_t wax_window_interrupt(const uint8_t *registers, size_t registers_length,
+                              const uint8_t *state, size_t state_length, uint8_t *level);
+
+/*
+ * Writing a register.
+ *
+ *   WAX_BUFFER    as above, or messages, commit or told is too short
+ *   WAX_REGISTER  offset is above 31
+ *   WAX_OK        else, also for a command that the station refuses: register 3 has its number (WAX_RANGE for a page above 31 or an
+ *                 object above 7), nothing else changes, and told is WAX_NOTHING
+ *
+ * Tells what the command's own function would, WAX_NOTHING where the write is no command.
+ *
+ *   wax_window_write(WAX_REGISTER_COMMAND, WAX_COMMAND_BEGIN, registers, sizeof registers, state, sizeof state,
+ *                    messages, sizeof messages, commit, sizeof commit, told, WAX_TOLD);
+ */
+uint32_t wax_window_write(uint32_t offset, uint8_t byte, uint8_t *registers, size_t registers_length,
+                          uint8_t *state, size_t state_length, uint8_t *messages, size_t messages_length,
+                          uint8_t *commit, size_t commit_length, uint64_t *told, size_t told_length);
+
+/*
+ * The step on one message from the server: as wax_station_step, with its numbers, and the registers show what it tells.
+ * A refused message changes no register.
+ */
+uint32_t wax_window_step(const uint8_t *message, size_t message_length, uint8_t *registers, size_t registers_length,
+                         uint8_t *state, size_t state_length, uint8_t *messages, size_t messages_length,
+                         uint8_t *commit, size_t commit_length, uint64_t *told, size_t told_length);
 
 /*
  * What the bytes of a message say, before any state is looked at.

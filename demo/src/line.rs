@@ -1,5 +1,6 @@
 //! The host of a line: the compiled server and stations, the sixteen lines between them, and the archive.
 
+use crate::window::Window;
 use second::ffi::{server, stations};
 use second::line::call::Call;
 use second::line::lent::{self, Lent};
@@ -18,6 +19,8 @@ type Messages = VecDeque<Vec<u8>>;
 pub struct Line<W> {
     server: Vec<u8>,
     stations: [Vec<u8>; STATIONS],
+    /// Of the stations that are driven by registers.
+    windows: [Option<Window>; STATIONS],
     up: [Messages; STATIONS],
     down: [Messages; STATIONS],
     /// What is lent beside a state; nothing in it is kept from call to call.
@@ -41,6 +44,8 @@ pub enum Fault {
     /// No message in that line.
     Empty,
     Archive(io::Error),
+    /// A window's registers do not show what was told.
+    Registers,
 }
 
 impl Display for Fault {
@@ -49,6 +54,7 @@ impl Display for Fault {
             Fault::Refused(number) => write!(f, "refused {number}"),
             Fault::Empty => f.write_str("there is no message"),
             Fault::Archive(error) => write!(f, "the archive cannot be written: {error}"),
+            Fault::Registers => f.write_str("the registers show something else"),
         }
     }
 }
@@ -62,6 +68,7 @@ impl<W: Write> Line<W> {
         Line {
             server: state,
             stations: std::array::from_fn(|station| fresh_station(station, kinds[station])),
+            windows: Default::default(),
             up: Default::default(),
             down: Default::default(),
             of_server: served::Results::default(),
@@ -70,11 +77,29 @@ impl<W: Write> Line<W> {
         }
     }
 
+    /// From now on this station, a validating one, is driven by registers.
+    pub fn put_behind_window(&mut self, station: usize) {
+        self.windows[station] = Some(Window::default());
+    }
+
+    pub fn window(&self, station: usize) -> Option<&Window> {
+        self.windows[station].as_ref()
+    }
+
     /// Makes a call, and carries what it leaves.
     pub fn call(&mut self, call: &Call) -> Result<Done, Fault> {
         match *call {
             Call::Server(station) => self.serve(station.into()),
             Call::Station(station) => self.deliver(station.into()),
+            Call::Begin(station)
+            | Call::Read(station, _)
+            | Call::Write(station, ..)
+            | Call::Commit(station)
+            | Call::Abort(station)
+                if self.windows[usize::from(station)].is_some() =>
+            {
+                self.ask_by_registers(station.into(), call)
+            }
             Call::Begin(station) => self.ask(station, stations::begin),
             Call::Read(station, address) => {
                 self.ask(station, |lent| stations::read(address.into(), lent))
@@ -116,9 +141,20 @@ impl<W: Write> Line<W> {
     /// A station takes the first message of its line.
     fn deliver(&mut self, station: usize) -> Result<Done, Fault> {
         let message = self.down[station].front().ok_or(Fault::Empty)?;
-        let mut lent = self.of_station.lent(&mut self.stations[station]);
-        accepted(stations::step(message, &mut lent))?;
+        let state = &mut self.stations[station];
+        match &mut self.windows[station] {
+            Some(window) => window.step(message, &mut self.of_station, state)?,
+            None => accepted(stations::step(message, &mut self.of_station.lent(state)))?,
+        }
         self.down[station].pop_front();
+        Ok(self.carry_up(station))
+    }
+
+    /// An owner's call at a station behind a window.
+    fn ask_by_registers(&mut self, station: usize, call: &Call) -> Result<Done, Fault> {
+        let state = &mut self.stations[station];
+        let window = self.windows[station].as_mut().expect("a window");
+        window.call(call, &mut self.of_station, state)?;
         Ok(self.carry_up(station))
     }
 

@@ -12,6 +12,7 @@ mod shift;
 mod staff;
 mod stretch;
 mod turns;
+mod window;
 
 use progress::Progress;
 use report::{Played, Report};
@@ -40,10 +41,16 @@ fn run(settings: &Settings) -> Result<bool, String> {
     check(settings)?;
     let chart = settings.chart.as_ref();
     let chart_file = chart.map(|chart| create(&chart.path)).transpose()?;
-    let mut shift = Shift::new(settings.seed, settings.frames, create(&settings.archive)?);
+    let archive = create(&settings.archive)?;
+    let begun = if settings.window {
+        Shift::with_window
+    } else {
+        Shift::new
+    };
+    let mut shift = begun(settings.seed, settings.frames, archive);
     shift.pace = settings.pace;
     shift.turns = settings.shares.map(Turns::new);
-    shift.stretch = chart.map(|chart| Stretch::new(chart.from, chart.calls));
+    shift.stretch = chart.map(|chart| Stretch::new(shift.kinds, chart.from, chart.calls));
     work(&mut shift, settings)?;
     let played = played(&settings.archive, &settings.playback)?;
     let report = Report::of(&shift, &played);

@@ -4,7 +4,7 @@ use crate::archive::Printed;
 use crate::counters::{of_head, COUNTERS, HEADS};
 use crate::progress::causes;
 use crate::shift::Shift;
-use crate::staff::{self, KINDS};
+use crate::staff::{self, PANEL};
 use second::archive::Playback;
 use second::line::sets::STATIONS;
 use second::line::Kind;
@@ -78,11 +78,17 @@ impl Report {
         self.line(&format!(
             "the panel looked {looks} times, and what it read added up each time"
         ));
+        if let Some(window) = shift.line.window(PANEL) {
+            let (accesses, interrupts) = (window.accesses, window.interrupts);
+            self.line(&format!(
+                "the panel worked through a window: {accesses} accesses to registers, {interrupts} interrupts"
+            ));
+        }
     }
 
     /// What its owner was told, against the commits that were played back.
     fn station<W: Write>(&mut self, station: usize, shift: &Shift<W>, played: u64) {
-        let kind = match KINDS[station] {
+        let kind = match shift.kinds[station] {
             Kind::Locking => "locking",
             Kind::Validating => "validating",
         };

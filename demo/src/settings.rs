@@ -30,6 +30,8 @@ pub struct Settings {
     pub seed: u64,
     pub pace: usize,
     pub shares: Option<Shares>,
+    /// The panel is driven by registers.
+    pub window: bool,
     pub archive: String,
     pub playback: String,
     pub chart: Option<Chart>,
@@ -44,7 +46,7 @@ pub struct Chart {
 impl Settings {
     /// The program's own; a wrong one ends it with its usage.
     pub fn read() -> Settings {
-        let options = Options::read(USAGE, &VALUES, &["--help"]).without_words();
+        let options = Options::read(USAGE, &VALUES, &["--window", "--help"]).without_words();
         if options.has("--help") {
             println!("usage: {USAGE}");
             process::exit(0);
@@ -55,6 +57,7 @@ impl Settings {
             seed: options.seed("--seed", 1),
             pace: at_least_one(&options, "--pace", PACE as u64) as usize,
             shares: shares(&options),
+            window: options.has("--window"),
             archive: text("--archive", "target/demo/shift.archive"),
             playback: text("--playback", "target/bin/playback"),
             chart: chart(&options),
@@ -64,7 +67,10 @@ impl Settings {
 
 fn shares(options: &Options) -> Option<Shares> {
     let text = options.text("--shares")?;
-    Some(shares_of(text).unwrap_or_else(|| options.unclear("--shares", "wants eight shares of 1 to 4")))
+    Some(
+        shares_of(text)
+            .unwrap_or_else(|| options.unclear("--shares", "wants eight shares of 1 to 4")),
+    )
 }
 
 fn chart(options: &Options) -> Option<Chart> {
@@ -97,7 +103,7 @@ mod tests {
 
     #[test]
     fn the_usage_names_options_and_defaults() {
-        for name in VALUES {
+        for name in VALUES.into_iter().chain(["--window"]) {
             assert!(USAGE.contains(&format!("\n  {name} ")), "{name}");
         }
         assert!(USAGE.contains(&format!("frames to count, by default {FRAMES}\n")));

@@ -9,7 +9,7 @@ use crate::stretch::Stretch;
 use crate::turns::Turns;
 use second::line::call::Call;
 use second::line::sets::STATIONS;
-use second::line::{Answer, Cause};
+use second::line::{Answer, Cause, Kind};
 use second::random::Random;
 use std::io::Write;
 
@@ -20,6 +20,7 @@ pub const PACE: usize = 80;
 
 pub struct Shift<W> {
     pub line: Line<W>,
+    pub kinds: [Kind; STATIONS],
     pub staff: Staff,
     pub belt: Belt,
     /// Turns to a frame.
@@ -55,9 +56,23 @@ enum Move {
 
 impl<W: Write> Shift<W> {
     pub fn new(seed: u64, frames: u64, archive: W) -> Shift<W> {
+        Shift::of(KINDS, seed, frames, archive)
+    }
+
+    /// The panel is a validating station, and works through the registers of a window.
+    pub fn with_window(seed: u64, frames: u64, archive: W) -> Shift<W> {
+        let mut kinds = KINDS;
+        kinds[PANEL] = Kind::Validating;
+        let mut shift = Shift::of(kinds, seed, frames, archive);
+        shift.line.put_behind_window(PANEL);
+        shift
+    }
+
+    fn of(kinds: [Kind; STATIONS], seed: u64, frames: u64, archive: W) -> Shift<W> {
         let mut random = Random::new(seed);
         Shift {
-            line: Line::fresh(KINDS, archive),
+            line: Line::fresh(kinds, archive),
+            kinds,
             staff: Staff::default(),
             belt: Belt::new(random.number(), frames),
             pace: PACE,
@@ -244,6 +259,23 @@ mod tests {
             assert!(shown
                 .iter()
                 .all(|(address, value)| playback.values[usize::from(*address)] == *value));
+        }
+    }
+
+    /// .. also where the panel works through registers.
+    #[test]
+    fn a_panel_behind_a_window() {
+        for seed in 1..=3 {
+            let mut bytes = Vec::new();
+            let mut shift = Shift::with_window(seed, 400, &mut bytes);
+            while shift.turn().unwrap() {}
+            assert_eq!(shift.counted(), 400);
+            let window = shift.line.window(PANEL).unwrap();
+            assert!(window.accesses > 0 && window.interrupts > 0);
+            assert!(shift.staff.panel.looks > 0 && shift.told[PANEL].aborts[2] > 0);
+            let commits = shift.all_told().commits;
+            let (playback, number) = archive::play(&bytes[..]).unwrap();
+            assert_eq!((u64::from(playback.last), number), (commits, OK));
         }
     }
 

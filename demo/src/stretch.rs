@@ -2,12 +2,12 @@
 //! ends, and has to answer the same; the chart is drawn from its run.
 
 use crate::line::{Done, Fault};
-use crate::staff::KINDS;
 use second::chart::{self, Drawn};
 use second::line::call::{self, Call, Driver};
 use second::line::message::Down;
+use second::line::sets::STATIONS;
 use second::line::world::Reply;
-use second::line::Cause;
+use second::line::{Cause, Kind};
 
 /// Calls drawn, unless the command line says so.
 pub const CALLS: usize = 30;
@@ -17,17 +17,19 @@ const LEAD: usize = 20;
 pub struct Stretch {
     /// The first call drawn, numbered from 1; found at the first victim if it is not given.
     from: Option<usize>,
+    kinds: [Kind; STATIONS],
     calls: usize,
     made: Vec<Call>,
     second: Driver,
 }
 
 impl Stretch {
-    pub fn new(from: Option<usize>, calls: usize) -> Stretch {
+    pub fn new(kinds: [Kind; STATIONS], from: Option<usize>, calls: usize) -> Stretch {
         let mut second = Driver::default();
-        second.answer(Some(&Call::Fresh(KINDS)));
+        second.answer(Some(&Call::Fresh(kinds)));
         Stretch {
             from,
+            kinds,
             calls,
             made: Vec::new(),
             second,
@@ -78,7 +80,7 @@ impl Stretch {
             "# The demo line, seed {seed}: calls {from} to {last}\n\
              # Stations 0 to 5 are heads, 6 is the panel, 7 the shift office. Arrows from above were sent before.\n\
              {}\n{}",
-            Call::Fresh(KINDS),
+            Call::Fresh(self.kinds),
             call::script(&self.made[..last])
         );
         chart::draw_from(&script, from - 1).map_err(|fault| fault.to_string())
@@ -116,11 +118,12 @@ fn has_victim(made: &Result<Done, Fault>) -> bool {
 mod tests {
     use super::*;
     use crate::shift::Shift;
+    use crate::staff::KINDS;
     use second::line::Answer;
 
     fn stretch(from: Option<usize>, calls: usize) -> Stretch {
         let mut shift = Shift::new(8, 60, Vec::new());
-        shift.stretch = Some(Stretch::new(from, calls));
+        shift.stretch = Some(Stretch::new(KINDS, from, calls));
         while shift.turn().unwrap() {}
         shift.stretch.unwrap()
     }
@@ -158,9 +161,9 @@ mod tests {
             })
         };
         let call = Call::Begin(0);
-        assert!(Stretch::new(None, 1).made(&call, &begun(1)).is_ok());
-        assert!(Stretch::new(None, 1).made(&call, &begun(2)).is_err());
-        assert!(Stretch::new(None, 1)
+        assert!(Stretch::new(KINDS, None, 1).made(&call, &begun(1)).is_ok());
+        assert!(Stretch::new(KINDS, None, 1).made(&call, &begun(2)).is_err());
+        assert!(Stretch::new(KINDS, None, 1)
             .made(&call, &Err(Fault::Refused(9)))
             .is_err());
     }

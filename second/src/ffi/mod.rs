@@ -8,6 +8,7 @@ pub mod order;
 pub mod server;
 pub mod stations;
 pub mod turns;
+pub mod windows;
 
 use crate::archive::{Playback, ADDRESSES};
 use crate::record::Header;

@@ -24,6 +24,7 @@ pub mod spoil;
 pub mod station;
 pub mod truth;
 pub mod waits;
+pub mod window;
 pub mod world;
 
 use crate::record::{ENTRY, HEADER};
