@@ -132,15 +132,108 @@ C7 =
     ∷ answers (StationTakes 0) (CommittedAs 1)
     ∷ []))
 
-unfoldable pub C8 : Row
-C8 =
-    row "C8 0 holds page 1 whole, 1 commits a write to 9: cause 3." line
-    (holdsWhole
-    ++ (answers (Owner 1 Begin) (Begun 1)
+-- 1 has written 9 in its copy of page 1
+abbrev writesNine : List Step
+writesNine =
+    answers (Owner 1 Begin) (Begun 1)
     ∷ sends (Owner 1 (Write 9 7)) Waits (readRequest 1 1 1 1 ∷ [])
     ∷ serves 1 (page 1 1 1 1 0 0 noValues ∷ [])
     ∷ answers (StationTakes 1) Written
-    ∷ sends (Owner 1 Commits) Waits (commit 1 1 (only 1) noVersions (recorded 0 1 1 1 [] ((9, 7) ∷ [])) ∷ [])
+    ∷ []
+
+-- .. and commits it: 0, which holds page 1 whole, is asked for it
+abbrev asksForPage : List Step
+asksForPage =
+    sends (Owner 1 Commits) Waits (commit 1 1 (only 1) noVersions (recorded 0 1 1 1 [] ((9, 7) ∷ [])) ∷ [])
+    ∷ serves 1 (deescalate 0 1 1 ∷ [])
+    ∷ []
+
+-- 0 gives up the page, having written 8 alone, and is called back for 9
+abbrev calledForNine : List Step
+calledForNine =
+    sends (StationTakes 0) Nothing (writtenSet 0 1 1 1 ∷ [])
+    ∷ serves 0 (callback 0 1 1 (setOn 1 2) ∷ [])
+    ∷ []
+
+-- 1's commit of 9 gets number n
+abbrev installsNine : ℕ → ℕ → Step
+installsNine i n = step (ServerTakes i) Nothing (committed 1 1 n ∷ []) (recorded n 1 1 1 [] ((9, 7) ∷ []) ∷ [])
+
+unfoldable pub C8 : Row
+C8 =
+    row "C8 0 holds page 1 whole and wrote 8 alone, 1 commits a write to 9: 19, 8 with set 1, 20, 7, committed." line
+    (holdsWhole
+    ++ writesNine
+    ++ asksForPage
+    ++ calledForNine
+    ++ (sends (StationTakes 0) Nothing (done 0 1 1 0 ∷ [])
+    ∷ installsNine 0 1
+    ∷ answers (StationTakes 1) (CommittedAs 1)
+    ∷ []))
+
+-- 0 has read 9 too, so it keeps the callback until its transaction ends
+abbrev holdsNine : List Step
+holdsNine =
+    holdsWhole
+    ++ (answers (Owner 0 (Read 9)) (Value 0) ∷ [])
+    ++ writesNine
+    ++ asksForPage
+    ++ calledForNine
+    ++ (sends (StationTakes 0) Nothing (busy 0 1 1 ∷ []) ∷ serves 0 [] ∷ answers (StationTakes 1) Empty ∷ [])
+
+unfoldable pub inUseAborts : Row
+inUseAborts =
+    row "C8 with 9 in use: 6, and 1's commit waits; 0 aborts: committed." line
+    (holdsNine
+    ++ (sends (Owner 0 Aborts) (AbortedFor 0) (abort 0 1 ∷ done 0 1 1 (only 1) ∷ [])
+    ∷ serves 0 []
+    ∷ installsNine 0 1
+    ∷ answers (StationTakes 1) (CommittedAs 1)
+    ∷ []))
+
+unfoldable pub inUseCommits : Row
+inUseCommits =
+    row "C8 with 9 in use: 6, and 1's commit waits; 0 commits: cause 2, versions being those of pages." line
+    (holdsNine
+    ++ (sends (Owner 0 Commits) Waits (commit 0 1 (only 1) noVersions (recorded 0 1 0 0 ((8, 0) ∷ (9, 0) ∷ []) ((8, 5) ∷ [])) ∷ [])
+    ∷ step (ServerTakes 0) Nothing (committed 0 1 1 ∷ invalidate 1 (only 1) ∷ aborted 1 1 2 ∷ []) (recorded 1 1 0 0 ((8, 0) ∷ (9, 0) ∷ []) ((8, 5) ∷ []) ∷ [])
+    ∷ []))
+
+unfoldable pub wroteNine : Row
+wroteNine =
+    row "C8 with 9 written by 0: 19, 8 with set 3, cause 3." line
+    (holdsWhole
+    ++ (answers (Owner 0 (Write 9 6)) Written ∷ [])
+    ++ writesNine
+    ++ asksForPage
+    ++ (sends (StationTakes 0) Nothing (writtenSet 0 1 1 3 ∷ [])
+    ∷ serves 0 (aborted 1 1 3 ∷ [])
+    ∷ answers (StationTakes 1) (AbortedFor 3)
+    ∷ []))
+
+-- 0 has a lock on 8 from before it got page 1 whole
+unfoldable pub besideWhole : Row
+besideWhole =
+    row "A lock on the object itself, beside the whole lock: cause 3 at once." line
+    (reads 0 0
+    ++ reads 2 1
+    ++ (asks
+    ∷ serves 0 (callback 2 0 1 (setOn 1 1) ∷ [])
+    ∷ sends (StationTakes 2) Nothing (done 2 0 1 0 ∷ [])
+    ∷ serves 2 (pageAndObject 0 1 0 1 0 0 noValues ∷ [])
+    ∷ answers (StationTakes 0) Written
+    ∷ sends (Owner 2 Aborts) (AbortedFor 0) (abort 2 1 ∷ [])
+    ∷ sends (Owner 2 (Purges 1)) Purged (purge 2 1 ∷ [])
+    ∷ serves 2 []
+    ∷ serves 2 []
+    ∷ sends (Owner 0 (Write 9 6)) Waits (writeRequest 0 1 1 1 ∷ [])
+    ∷ serves 0 (pageWhole 0 1 1 1 0 0 noValues ∷ [])
+    ∷ answers (StationTakes 0) Written
+    ∷ answers (Owner 1 Begin) (Begun 1)
+    ∷ sends (Owner 1 (Write 8 7)) Waits (readRequest 1 1 0 1 ∷ [])
+    ∷ serves 1 (page 1 1 0 1 0 0 noValues ∷ [])
+    ∷ answers (StationTakes 1) Written
+    ∷ sends (Owner 1 Commits) Waits (commit 1 1 (only 1) noVersions (recorded 0 1 1 1 [] ((8, 7) ∷ [])) ∷ [])
     ∷ serves 1 (aborted 1 1 3 ∷ [])
     ∷ answers (StationTakes 1) (AbortedFor 3)
     ∷ []))
@@ -343,7 +436,7 @@ byArrival =
     ∷ []))
 
 unfoldable pub table : List Row
-table = C1 ∷ C2 ∷ C3 ∷ C4 ∷ C5 ∷ C6 ∷ C7 ∷ C8 ∷ C9 ∷ lastCommit ∷ spent ∷ longReads ∷ longWrites ∷ turnedBack ∷ requestOut ∷ pageUnderWay ∷ staleCommit ∷ byArrival ∷ []
+table = C1 ∷ C2 ∷ C3 ∷ C4 ∷ C5 ∷ C6 ∷ C7 ∷ C8 ∷ inUseAborts ∷ inUseCommits ∷ wroteNine ∷ besideWhole ∷ C9 ∷ lastCommit ∷ spent ∷ longReads ∷ longWrites ∷ turnedBack ∷ requestOut ∷ pageUnderWay ∷ staleCommit ∷ byArrival ∷ []
 
 C1-holds : Holds C1
 unfolding Holds seen C1
@@ -376,6 +469,22 @@ C7-holds = refl
 C8-holds : Holds C8
 unfolding Holds seen C8
 C8-holds = refl
+
+inUseAborts-holds : Holds inUseAborts
+unfolding Holds seen inUseAborts
+inUseAborts-holds = refl
+
+inUseCommits-holds : Holds inUseCommits
+unfolding Holds seen inUseCommits
+inUseCommits-holds = refl
+
+wroteNine-holds : Holds wroteNine
+unfolding Holds seen wroteNine
+wroteNine-holds = refl
+
+besideWhole-holds : Holds besideWhole
+unfolding Holds seen besideWhole
+besideWhole-holds = refl
 
 C9-holds : Holds C9
 unfolding Holds seen C9
@@ -419,4 +528,4 @@ byArrival-holds = refl
 
 pub table-holds : AllHold table
 unfolding AllHold table
-table-holds = (C1-holds, (C2-holds, (C3-holds, (C4-holds, (C5-holds, (C6-holds, (C7-holds, (C8-holds, (C9-holds, (lastCommit-holds, (spent-holds, (longReads-holds, (longWrites-holds, (turnedBack-holds, (requestOut-holds, (pageUnderWay-holds, (staleCommit-holds, (byArrival-holds, tt))))))))))))))))))
+table-holds = (C1-holds, (C2-holds, (C3-holds, (C4-holds, (C5-holds, (C6-holds, (C7-holds, (C8-holds, (inUseAborts-holds, (inUseCommits-holds, (wroteNine-holds, (besideWhole-holds, (C9-holds, (lastCommit-holds, (spent-holds, (longReads-holds, (longWrites-holds, (turnedBack-holds, (requestOut-holds, (pageUnderWay-holds, (staleCommit-holds, (byArrival-holds, tt))))))))))))))))))))))

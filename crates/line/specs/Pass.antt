@@ -160,7 +160,7 @@ module _ (i : ℕ) (x : Serving) where
   call-last = refl
 
   call-locked : locked ((call i x) .server) i ≡ locked (x .server) i
-  call-locked = any-ext 256 (lockedAt ((call i x) .server) i) (lockedAt (x .server) i) (λ a. rw (call-writes i a, call-ol a, call-wl (pageOf a)) refl)
+  call-locked = any-ext 256 (lockedAt ((call i x) .server) i) (lockedAt (x .server) i) (λ a. rw (call-writes i a, call-ol a) refl)
 
   call-fault : fault ((call i x) .server) i ≡ fault (x .server) i
   call-fault = rw (call-last, call-ver, call-work i, call-locked) refl

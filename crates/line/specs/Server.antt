@@ -375,13 +375,14 @@ accept i (WrittenSet p t set) x = cond (openAsk (x .server) i p t) (loosen i p s
 
 -- the pass: its gates
 
--- "Validating commit: number 4,294,967,295 already used, cause 4; a used page with another version, cause 2; a written object
--- locked by another, or on a page locked whole by another, cause 3."
+-- "Validating commit: number 4,294,967,295 already used, cause 4; a used page with another version, cause 2", and by document 02:
+-- "behind causes 4 and 2, cause 3 is given exactly when a written object itself is locked by another". A page locked whole is asked
+-- for by 19 and waited for, as a page that is only read (`shut`)
 abbrev pub stale : Server → Work → Bool
 stale s w = any 32 (λ p. usedPage w p && not (eqb (w .versions p) (s .ver p)))
 
 abbrev pub lockedAt : Server → ℕ → ℕ → Bool
-lockedAt s i a = s .queue i .writes a && (other (s .ol a) i || other (s .wl (pageOf a)) i)
+lockedAt s i a = s .queue i .writes a && other (s .ol a) i
 
 abbrev pub locked : Server → ℕ → Bool
 locked s i = any 256 (lockedAt s i)

@@ -26,7 +26,7 @@ use Rattle.line_cases.specs.Seen.{Step, seenB}
 use Rattle.line_cases.specs.Shown.{inBytes, allRight, seen-is}
 use Rattle.line_cases.specs.Archived.{joined, archive-is}
 use Rattle.line_cases.specs.Rows.{kinds, OfLine, calls, Runs, Comes, PartHolds, Holds, AllHold}
-use Rattle.line_cases.specs.Table.{C1, C2, C3, C4, C5, C6, C7, C8, C9, C10, C11, commits12, readOf8By1, C12, longReads, longWrites, longCommits, table, C6Again}
+use Rattle.line_cases.specs.Table.{C1, C2, C3, C4, C5, C6, C7, C8, C9, C10, C11, commits12, readOf8By1, C12, longReads, longWrites, longCommits, table, C6Again, inUse, wroteNine, besideWhole}
 
 kinds-ok : kindsOk kinds ≡ true
 unfolding kindsOk most mostAt allTo
@@ -81,6 +81,18 @@ C8-holds : Holds C8
 unfolding C8 seen message bytes bytesOf header
 C8-holds = (runs _ _ refl refl refl, tt)
 
+inUse-holds : Holds inUse
+unfolding inUse seen message bytes bytesOf header
+inUse-holds = (runs _ _ refl refl refl, (runs _ _ refl refl refl, tt))
+
+wroteNine-holds : Holds wroteNine
+unfolding wroteNine seen message bytes bytesOf header
+wroteNine-holds = (runs _ _ refl refl refl, tt)
+
+besideWhole-holds : Holds besideWhole
+unfolding besideWhole seen message bytes bytesOf header
+besideWhole-holds = (runs _ _ refl refl refl, tt)
+
 C9-holds : Holds C9
 unfolding C9 seen message bytes bytesOf header
 C9-holds = (runs _ _ refl refl refl, tt)
@@ -120,7 +132,7 @@ longCommits-holds = (comes _ _ 0 refl refl, (comes _ _ 5 refl refl, (comes _ _ 5
 -- C1 to C12 and the limit, of the steps over bytes
 pub table-of-bytes : AllHold table
 unfolding table
-table-of-bytes = (C1-holds, (C2-holds, (C3-holds, (C4-holds, (C5-holds, (C6-holds, (C7-holds, (C8-holds, (C9-holds, (C10-holds, (C11-holds, (C12-holds, (longReads-holds, (longWrites-holds, (longCommits-holds, tt)))))))))))))))
+table-of-bytes = (C1-holds, (C2-holds, (C3-holds, (C4-holds, (C5-holds, (C6-holds, (C7-holds, (C8-holds, (inUse-holds, (wroteNine-holds, (besideWhole-holds, (C9-holds, (C10-holds, (C11-holds, (C12-holds, (longReads-holds, (longWrites-holds, (longCommits-holds, tt))))))))))))))))))
 
 -- wish 2
 pub C6-again-of-bytes : Holds C6Again

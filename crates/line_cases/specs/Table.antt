@@ -1,4 +1,4 @@
--- Document 01's cases C1 to C12, and document 02's wish 1, as one table: of each call its answer, the bytes of the messages that it sends and the bytes that it
+-- Document 01's cases C1 to C12, C8 as document 02's wish 11 has it, and its wish 1, as one table: of each call its answer, the bytes of the messages that it sends and the bytes that it
 -- archives. 8 is page 1, object 0; 9 is page 1, object 1.
 use Prim.Native.Nat.{ℕ, zero, suc, _+_, _*_, _-_}
 use mathlib.Core.List.{List, [], _∷_, _++_}
@@ -6,8 +6,8 @@ use lib.ListN.{replicate}
 use Rattle.layout.specs.Record.{valueLength, recordLength}
 use Rattle.message.specs.Layout.{versionFrom, setsFrom, setsLength, messageLength}
 use Rattle.message.specs.Commit.{versionWidth, recordAt}
-use Rattle.line.specs.Messages.{Answer, Nothing, Begun, Value, Waits, Written, CommittedAs, AbortedFor, Refused, Empty}
-use Rattle.line.specs.Line.{Call, Owner, ServerTakes, StationTakes, Begin, Read, Write, Commits, Aborts}
+use Rattle.line.specs.Messages.{Answer, Nothing, Begun, Value, Waits, Written, CommittedAs, AbortedFor, Purged, Refused, Empty}
+use Rattle.line.specs.Line.{Call, Owner, ServerTakes, StationTakes, Begin, Read, Write, Commits, Aborts, Purges}
 use Rattle.cases.specs.Archive.{filled, c12, readOf8}
 use Rattle.line_cases.specs.Seen.{Step, step}
 use Rattle.line_cases.specs.Rows.{OfLine, OfCommit, OfFile, Row, row}
@@ -169,17 +169,105 @@ C7 =
     (recorded 0 1 1 1 0 0 (8 ∷ []) (5 ∷ []))
     ∷ [])
 
-unfoldable pub C8 : Row
-C8 =
-    row "C8 0 holds page 1 whole, 1 commits a write to 9: cause 3."
-    (OfLine
-    (reads 0 0
-    ++ getsWhole 5
-    ++ (answers (Owner 1 Begin) (Begun 1)
+-- 1 has written 9 in its copy of page 1, and commits it: 0, which holds the page whole, is asked for it
+abbrev asksForPage : List Step
+asksForPage =
+    answers (Owner 1 Begin) (Begun 1)
     ∷ sends (Owner 1 (Write 9 7)) Waits (message 1 1 1 1 1 0 0 [] ∷ [])
     ∷ serves 1 (message 16 1 1 1 1 0 0 [] ∷ [])
     ∷ answers (StationTakes 1) Written
     ∷ sends (Owner 1 Commits) Waits (commit 1 1 2 [] (recorded 0 1 0 1 1 1 (9 ∷ []) (7 ∷ [])) ∷ [])
+    ∷ serves 1 (message 19 0 1 0 1 0 0 [] ∷ [])
+    ∷ []
+
+-- 0 gives up the page, having written 8 alone, and is called back for 9
+abbrev calledForNine : List Step
+calledForNine =
+    sends (StationTakes 0) Nothing (message 8 0 1 0 1 0 0 (1 ∷ []) ∷ [])
+    ∷ serves 0 (message 20 0 1 0 1 0 0 (0 ∷ 2 ∷ []) ∷ [])
+    ∷ []
+
+-- 1's commit is installed
+abbrev installsNine : List Step
+installsNine =
+    step (ServerTakes 0) Nothing (message 21 1 0 0 1 0 1 [] ∷ []) (recorded 0 1 1 1 1 1 (9 ∷ []) (7 ∷ []))
+    ∷ answers (StationTakes 1) (CommittedAs 1)
+    ∷ []
+
+unfoldable pub C8 : Row
+C8 =
+    row "C8 0 holds page 1 whole and wrote 8 alone, 1 commits a write to 9: 19, 8 with set 1, 20, 7, committed."
+    (OfLine
+    (reads 0 0 ++ getsWhole 5 ++ asksForPage ++ calledForNine ++ (sends (StationTakes 0) Nothing (message 7 0 1 0 1 0 0 [] ∷ []) ∷ installsNine))
+    (recorded 0 1 1 1 1 1 (9 ∷ []) (7 ∷ []))
+    ∷ [])
+
+-- 0 has read 9 too, so it keeps the callback until its transaction ends
+abbrev holdsNine : List Step
+holdsNine =
+    reads 0 0
+    ++ getsWhole 5
+    ++ (answers (Owner 0 (Read 9)) (Value 0) ∷ [])
+    ++ asksForPage
+    ++ calledForNine
+    ++ (sends (StationTakes 0) Nothing (message 6 0 1 0 1 0 0 [] ∷ []) ∷ serves 0 [] ∷ [])
+
+unfoldable pub inUse : Row
+inUse =
+    row "C8 with 9 in use: 6, and 1's commit waits; 0 aborts: committed; 0 commits: cause 2, versions being those of pages."
+    (OfLine
+    (holdsNine
+    ++ (sends (Owner 0 Aborts) (AbortedFor 0) (message 4 0 0 0 1 0 0 [] ∷ message 7 0 1 0 1 2 0 [] ∷ [])
+    ∷ serves 0 []
+    ∷ installsNine))
+    (recorded 0 1 1 1 1 1 (9 ∷ []) (7 ∷ []))
+    ∷ OfLine
+    (holdsNine
+    ++ (sends (Owner 0 Commits) Waits (commit 0 1 2 [] (recorded 2 1 0 1 0 0 (8 ∷ 9 ∷ 8 ∷ []) (0 ∷ 0 ∷ 5 ∷ [])) ∷ [])
+    ∷ step (ServerTakes 0) Nothing (message 21 0 0 0 1 0 1 [] ∷ message 23 1 0 0 0 2 0 [] ∷ message 22 1 0 2 1 0 0 [] ∷ []) (recorded 2 1 1 1 0 0 (8 ∷ 9 ∷ 8 ∷ []) (0 ∷ 0 ∷ 5 ∷ []))
+    ∷ []))
+    (recorded 2 1 1 1 0 0 (8 ∷ 9 ∷ 8 ∷ []) (0 ∷ 0 ∷ 5 ∷ []))
+    ∷ [])
+
+unfoldable pub wroteNine : Row
+wroteNine =
+    row "C8 with 9 written by 0: 19, 8 with set 3, cause 3."
+    (OfLine
+    (reads 0 0
+    ++ getsWhole 5
+    ++ (answers (Owner 0 (Write 9 6)) Written ∷ [])
+    ++ asksForPage
+    ++ (sends (StationTakes 0) Nothing (message 8 0 1 0 1 0 0 (3 ∷ []) ∷ [])
+    ∷ serves 0 (message 22 1 0 3 1 0 0 [] ∷ [])
+    ∷ answers (StationTakes 1) (AbortedFor 3)
+    ∷ []))
+    []
+    ∷ [])
+
+-- 0 has a lock on 8 from before it got page 1 whole
+unfoldable pub besideWhole : Row
+besideWhole =
+    row "A lock on the object itself, beside the whole lock: cause 3 at once."
+    (OfLine
+    (reads 0 0
+    ++ reads 2 1
+    ++ (asks 5
+    ∷ serves 0 callback
+    ∷ sends (StationTakes 2) Nothing (message 7 2 0 0 1 0 0 [] ∷ [])
+    ∷ serves 2 (message 17 0 1 0 1 0 0 [] ∷ [])
+    ∷ answers (StationTakes 0) Written
+    ∷ sends (Owner 2 Aborts) (AbortedFor 0) (message 4 2 0 0 1 0 0 [] ∷ [])
+    ∷ sends (Owner 2 (Purges 1)) Purged (message 5 2 1 0 0 0 0 [] ∷ [])
+    ∷ serves 2 []
+    ∷ serves 2 []
+    ∷ sends (Owner 0 (Write 9 6)) Waits (message 2 0 1 1 1 0 0 [] ∷ [])
+    ∷ serves 0 (message 18 0 1 1 1 0 0 [] ∷ [])
+    ∷ answers (StationTakes 0) Written
+    ∷ answers (Owner 1 Begin) (Begun 1)
+    ∷ sends (Owner 1 (Write 8 7)) Waits (message 1 1 1 0 1 0 0 [] ∷ [])
+    ∷ serves 1 (message 16 1 1 0 1 0 0 [] ∷ [])
+    ∷ answers (StationTakes 1) Written
+    ∷ sends (Owner 1 Commits) Waits (commit 1 1 2 [] (recorded 0 1 0 1 1 1 (8 ∷ []) (7 ∷ [])) ∷ [])
     ∷ serves 1 (message 22 1 0 3 1 0 0 [] ∷ [])
     ∷ answers (StationTakes 1) (AbortedFor 3)
     ∷ []))
@@ -342,7 +430,7 @@ C12 =
     ∷ [])
 
 unfoldable pub table : List Row
-table = C1 ∷ C2 ∷ C3 ∷ C4 ∷ C5 ∷ C6 ∷ C7 ∷ C8 ∷ C9 ∷ C10 ∷ C11 ∷ C12 ∷ longReads ∷ longWrites ∷ longCommits ∷ []
+table = C1 ∷ C2 ∷ C3 ∷ C4 ∷ C5 ∷ C6 ∷ C7 ∷ C8 ∷ inUse ∷ wroteNine ∷ besideWhole ∷ C9 ∷ C10 ∷ C11 ∷ C12 ∷ longReads ∷ longWrites ∷ longCommits ∷ []
 
 -- WISH 2: "A beaten transaction keeps its age."
 

@@ -329,16 +329,10 @@ module _ {s : List ℕ} {m : Server} (h : Is s m) where
   unfolding lockedB lockedOnB lockedAtB
   locked-at i l = all-pages (lockedAt m i) (lockedOnB s i) on-page
     where
-      hinder : (p o : ℕ) → p < 32 → o < 8
-          → (otherB (lockOf s (p * 8 + o)) i || otherB (wholeOf s p) i) ≡ (other (m .ol (p * 8 + o)) i || other (m .wl ((p * 8 + o) / 8)) i)
-      hinder p o lp lo =
-          let d : (p * 8 + o) / 8 ≡ p = omega arith in
-          rw (d, other-at (lockOf s (p * 8 + o)) i, other-at (wholeOf s p) i, lock-at (p * 8 + o) (omega arith), whole-at p lp)
-
       on-page : (p : ℕ) → p < 32 → lockedOnB s i p ≡ any 8 (λ o. lockedAt m i (p * 8 + o))
       on-page p lp =
-          page-skip (writtenSet s i p) (λ o. m .queue i .writes (p * 8 + o)) (λ o. other (m .ol (p * 8 + o)) i || other (m .wl ((p * 8 + o) / 8)) i) (lockedAtB s i p)
-          (λ o lo. writes-at i p o l lp lo) (λ o lo. rw (hinder p o lp lo))
+          page-skip (writtenSet s i p) (λ o. m .queue i .writes (p * 8 + o)) (λ o. other (m .ol (p * 8 + o)) i) (lockedAtB s i p)
+          (λ o lo. writes-at i p o l lp lo) (λ o lo. rw (other-at (lockOf s (p * 8 + o)) i, lock-at (p * 8 + o) (omega arith)))
 
   pub fault-at : (i : ℕ) → i < 8 → wantOf s i ≡ 3 → faultB s i ≡ fault m i
   unfolding faultB

@@ -79,9 +79,9 @@ staleAt s i p = not (eqb (wantedOn s i p) 0) && not (eqb (sentVersion s i p) (ve
 unfoldable pub staleB : List ℕ → ℕ → Bool
 staleB s i = anyTo (staleAt s i) 32
 
--- "a written object locked by another, or on a page locked whole by another": object o of page p
+-- "exactly when a written object itself is locked by another": object o of page p
 unfoldable pub lockedAtB : List ℕ → ℕ → ℕ → ℕ → Bool
-lockedAtB s i p o = hasBit (writtenSet s i p) o && (otherB (lockOf s (p * 8 + o)) i || otherB (wholeOf s p) i)
+lockedAtB s i p o = hasBit (writtenSet s i p) o && otherB (lockOf s (p * 8 + o)) i
 
 -- a page on which nothing is written is not looked at
 unfoldable pub lockedOnB : List ℕ → ℕ → ℕ → Bool
@@ -90,7 +90,7 @@ lockedOnB s i p = cond (eqb (writtenSet s i p) 0) false (anyTo (lockedAtB s i p)
 unfoldable pub lockedB : List ℕ → ℕ → Bool
 lockedB s i = anyTo (lockedOnB s i) 32
 
--- "number 4,294,967,295 already used, cause 4; a used page with another version, cause 2; a written object locked .., cause 3"
+-- "number 4,294,967,295 already used, cause 4; a used page with another version, cause 2"; "a written object itself .. locked by another", cause 3
 unfoldable pub faultB : List ℕ → ℕ → ℕ
 faultB s i = turned (eqb (lastOf s) 4294967295) 4 (turned (staleB s i) 2 (turned (lockedB s i) 3 0))
 

@@ -214,7 +214,7 @@ fn locked_at(s: &[u8], i: usize, p: usize, o: usize) -> bool
     ensures { λ r. ⌜ r ≡ lockedAtB (now (s .entry)) i p o ⌝ }
 {
     station_state::has_bit8(s[WRITTEN_SET + i * SET_ROW + p], o)
-        & (server_state::other(s[LOCK + (p * 8 + o)], i) | server_state::other(s[WHOLE + p], i))
+        & server_state::other(s[LOCK + (p * 8 + o)], i)
 }
 
 // Most pages are not written, and cost one test.
@@ -234,7 +234,7 @@ fn locked_on(s: &[u8], i: usize, p: usize) -> bool
     r
 }
 
-// Whether i's commit writes what another has locked.
+// Whether i's commit writes an object that another has locked: a page locked whole is asked for by 19.
 fn locked(s: &[u8], i: usize) -> bool
     requires { ⌜ (length (now s) ≡ serverLength) × (i < 8) ⌝ }
     ensures { λ r. ⌜ r ≡ lockedB (now (s .entry)) i ⌝ }

@@ -34,15 +34,6 @@ shared-slice-read-other c = search needs
 other-requires : tie.Need-other-requires
 other-requires c κs = search needs
 
-add-other-3 : tie.Need-add-other-3
-add-other-3 c = search needs
-
-shared-slice-read-other-2 : tie.Need-shared-slice-read-other-2
-shared-slice-read-other-2 c = search needs
-
-other-requires-2 : tie.Need-other-requires-2
-other-requires-2 c κs = search needs
-
 returns : tie.Need-returns
 unfolding lockedAtB
 returns c = cc
@@ -61,7 +52,4 @@ locked-at-spec =
     add-other-2
     shared-slice-read-other
     other-requires
-    add-other-3
-    shared-slice-read-other-2
-    other-requires-2
     returns)
