@@ -194,17 +194,72 @@ fn c7_invalidated() {
     line.call("station 1", "value 5", &[]);
 }
 
-/// "C8 0 holds page 1 whole, 1 commits a write to 9: cause 3."
-#[test]
-fn c8_locked() {
-    let mut line = c2();
+/// Station 1 has written 9 in its copy of page 1 and commits: 0, which holds the page whole, is asked for it.
+fn asked_for_page(line: &mut Line) -> Record {
     line.call("begin 1", "begun 1", &[]);
     line.call("write 1 9 6", "waits", &[read(1, 1, 1, 1)]);
     line.call("server 1", "none", &[page(16, 1, 1, 1, 1)]);
     line.call("station 1", "written", &[]);
     let record = record(1, 1, 1).writes(&[(9, 6)]);
     line.call("commit 1", "waits", &[commit(PAGE_1, &[], &record)]);
-    line.call("server 1", "none", &[aborted(1, 1, 3)]);
+    line.call("server 1", "none", &[de_escalate(0, 1, 1)]);
+    record
+}
+
+/// "C8 now ends in a commit when 0 wrote 8 alone and station 0 doesn't hold 9 in use."
+#[test]
+fn c8_looked_at() {
+    let mut line = c2();
+    let record = asked_for_page(&mut line);
+    line.call("station 0", "none", &[written_set(0, 1, 1, 1)]);
+    line.call("server 0", "none", &[callback(0, 1, 1, &[(1, 2)])]);
+    line.call("station 0", "none", &[done(0, 1, 1, 0)]);
+    line.archives("server 0", "none", &[committed(1, 1, 1)], &[record]);
+    line.call("station 1", "committed 1", &[]);
+    // 0 still has its lock on 8, and not on 9
+    line.call("write 0 8 6", "written", &[]);
+    line.call("write 0 9 6", "waits", &[write(0, 1, 1, 1)]);
+}
+
+/// 0 has read 9: its callback is kept until 0 ends.
+fn c8_in_use() -> (Line, Record) {
+    let mut line = c2();
+    line.call("read 0 9", "value 0", &[]);
+    let record = asked_for_page(&mut line);
+    line.call("station 0", "none", &[written_set(0, 1, 1, 1)]);
+    line.call("server 0", "none", &[callback(0, 1, 1, &[(1, 2)])]);
+    line.call("station 0", "none", &[busy(0, 1, 1)]);
+    line.call("server 0", "none", &[]);
+    (line, record)
+}
+
+#[test]
+fn c8_in_use_aborts() {
+    let (mut line, record) = c8_in_use();
+    line.call("abort 0", "aborted", &[abort(0, 1), done(0, 1, 1, PAGE_1)]);
+    line.call("server 0", "none", &[]);
+    line.archives("server 0", "none", &[committed(1, 1, 1)], &[record]);
+    line.call("station 1", "committed 1", &[]);
+}
+
+/// Versions are those of pages: 0's commit makes 1's stale.
+#[test]
+fn c8_in_use_commits() {
+    let (mut line, _) = c8_in_use();
+    let first = record(1, 0, 0).reads(&[(8, 0), (9, 0)]).writes(&[(8, 5)]);
+    line.call("commit 0", "waits", &[commit(PAGE_1, &[], &first)]);
+    let messages = [committed(0, 1, 1), invalidate(1, PAGE_1), aborted(1, 1, 2)];
+    line.archives("server 0", "none", &messages, &[first]);
+}
+
+/// 0 has written 9: cause 3 once its 8 says so.
+#[test]
+fn c8_written() {
+    let mut line = c2();
+    line.call("write 0 9 7", "written", &[]);
+    asked_for_page(&mut line);
+    line.call("station 0", "none", &[written_set(0, 1, 1, 3)]);
+    line.call("server 0", "none", &[aborted(1, 1, 3)]);
     line.call("station 1", "aborted 3", &[]);
     // a validating station drops its written pages
     line.call("begin 1", "begun 2", &[]);

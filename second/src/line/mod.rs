@@ -99,7 +99,7 @@ pub enum Cause {
     Cycle = 1,
     /// "a used page with another version, cause 2"
     Version = 2,
-    /// "a written object locked by another, ... cause 3"
+    /// "cause 3 is given exactly when a written object itself is locked by another"
     Locked = 3,
     /// "number 4,294,967,295 already used, cause 4"
     Spent = 4,

@@ -518,21 +518,19 @@ impl Server {
         }
     }
 
-    /// The first bullet: causes 4, 2 and 3 of a validating commit.
+    /// The first bullet: causes 4, 2 and 3 of a validating commit; 3 "exactly when a written object itself is locked by
+    /// another" (wish 11): a page locked whole is asked for by the third bullet, as one that is only read.
     fn cause(&self, at: usize) -> Option<Cause> {
         let waiter = &self.waiting[at];
         let Request::Commit(commit) = &waiter.request else {
             return None;
         };
         let stale = |page: u8| commit.versions[page as usize] != self.versions[page as usize];
-        let whole = |page: u8| self.whole_holder_other_than(waiter.station, page).is_some();
         if self.last == u32::MAX {
             Some(Cause::Spent)
         } else if rising(commit.used).any(stale) {
             Some(Cause::Version)
-        } else if self.holders(waiter.station, &waiter.writes) != 0
-            || rising(waiter.writes.pages()).any(whole)
-        {
+        } else if self.holders(waiter.station, &waiter.writes) != 0 {
             Some(Cause::Locked)
         } else {
             None

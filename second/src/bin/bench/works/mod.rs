@@ -54,6 +54,8 @@ const OTHER_READ_9: &str = "begin 2; read 2 9; server 2; station 2; ";
 /// 0 asks to write 8; with the answer it has page 1 whole.
 const WRITE_SENT: &str = "begin 0; write 0 8 5; server 0; ";
 const WHOLE: &str = "begin 0; write 0 8 5; server 0; station 0; ";
+/// 2 has page 1 in use, so 0 gets a lock on 9 alone.
+const LOCKED_9: &str = "begin 0; write 0 9 5; server 0; station 2; server 2; station 0; ";
 /// Two reads and a write.
 const SMALL: &str =
     "begin 0; read 0 8; server 0; station 0; read 0 9; write 0 8 5; server 0; station 0; ";

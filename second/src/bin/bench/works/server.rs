@@ -2,7 +2,8 @@
 
 use super::{work, Work};
 use super::{
-    BEGUN, COMMIT_SENT, FRESH, OTHER_READ_8, READ_8, SMALL, VALIDATING_READ_8, WHOLE, WRITE_SENT,
+    BEGUN, COMMIT_SENT, FRESH, LOCKED_9, OTHER_READ_8, READ_8, SMALL, VALIDATING_READ_8, WHOLE,
+    WRITE_SENT,
 };
 use second::line::call::Call;
 use second::line::message::Up;
@@ -103,10 +104,17 @@ pub fn works() -> Vec<Work> {
             &[21],
         ),
         work(
-            "3, validating: 22, cause 3",
+            "3, validating, page locked whole: 19",
             3,
             "server 1",
             &[FRESH, VALIDATING_READ_8, WHOLE, validating],
+            &[19],
+        ),
+        work(
+            "3, validating: 22, cause 3",
+            3,
+            "server 1",
+            &[FRESH, VALIDATING_READ_8, OTHER_READ_8, LOCKED_9, validating],
             &[22],
         ),
         work(

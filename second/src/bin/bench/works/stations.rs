@@ -2,8 +2,8 @@
 
 use super::{work, Work};
 use super::{
-    ANSWERED, BEGUN, COMMIT_SENT, CYCLE, FRESH, OTHER_READ_8, OTHER_READ_9, READ_8, SMALL,
-    VALIDATING_READ_8, WHOLE, WRITE_SENT,
+    ANSWERED, BEGUN, COMMIT_SENT, CYCLE, FRESH, LOCKED_9, OTHER_READ_8, OTHER_READ_9, READ_8,
+    SMALL, VALIDATING_READ_8, WHOLE, WRITE_SENT,
 };
 use second::line::scripts::{largest_transaction, seven_kept};
 
@@ -96,7 +96,8 @@ fn steps() -> Vec<Work> {
             &[
                 FRESH,
                 VALIDATING_READ_8,
-                WHOLE,
+                OTHER_READ_8,
+                LOCKED_9,
                 "write 1 9 7; commit 1; server 1",
             ],
         ),
