@@ -1,7 +1,7 @@
 # The C package: library, header, pkg-config file, documents and examples; and the commands for archives. `make help` says what there is;
 # GNU make.
 
-VERSION = 1.9.0
+VERSION = 1.10.0
 
 PREFIX = /usr/local
 INCLUDEDIR = $(PREFIX)/include
@@ -34,6 +34,16 @@ INSTALLED = $(INCLUDEDIR)/waxwingrack.h $(LIBDIR)/libwaxwingrack.a $(LIBDIR)/pkg
             $(BINDIR)/waxwingrack-block $(MANDIR)/man1/waxwingrack-block.1
 INSTALLED_PLAY = $(BINDIR)/waxwingrack-play $(LIBEXECDIR)/playback $(MANDIR)/man1/waxwingrack-play.1 $(PLAY_DOCUMENT:docs/%=$(DOCDIR)/%)
 below_prefix = $(patsubst $(PREFIX)/%,$${prefix}/%,$(1))
+
+# The toolchain compiles for x86-64 Linux alone. `make install-play`, `uninstall` and `help` need no compiler.
+ifneq (,$(filter-out install-play uninstall help absolute built-play,$(or $(MAKECMDGOALS),all)))
+ifneq (,$(shell command -v $(firstword $(CC)) 2>/dev/null))
+ifeq (,$(filter yes,$(shell printf '\043if defined __x86_64__ && defined __LP64__ && defined __linux__\nyes\n\043endif\n' | $(CC) $(CFLAGS) -x c -E -P - 2>/dev/null)))
+$(error $(strip $(CC) $(filter -m%,$(CFLAGS))) compiles for another machine than x86-64 Linux, and the library can be had for no other today: \
+the Rattle toolchain has one back end (docs/C-INTERFACE.md, "Machines"))
+endif
+endif
+endif
 
 .PHONY: all examples install install-play uninstall absolute built built-play help
 .DELETE_ON_ERROR:

@@ -4,6 +4,11 @@
  * Link with libwaxwingrack.a. The functions allocate nothing and keep nothing between calls,
  * so they may run at the same time on different buffers.
  *
+ * The library is compiled for x86-64 Linux and for nothing else: the toolchain that proves it has one back end, and writes no C.
+ * It is position-independent, wants memcpy and memset and nothing else of a C library, no operating system, and no vector unit
+ * beyond SSE2. A head with another processor can hold states, messages and archives that an x86-64 machine works on, all of them
+ * little-endian bytes without alignment; it cannot run a station. No call goes deeper than WAX_STACK bytes of stack.
+ *
  * A record, numbers little-endian:
  *
  *   bytes 0-1    reads n, 0 to 256
@@ -38,6 +43,17 @@
 #ifdef __cplusplus
 extern "C" {
 #endif
+
+/* Of this header; the library has no number of its own. waxwingrack.pc has the same. */
+#define WAX_VERSION       "1.10.0"
+#define WAX_VERSION_MAJOR 1
+#define WAX_VERSION_MINOR 10
+#define WAX_VERSION_PATCH 0
+
+/* Stack that the deepest call takes, its own frame and those below it, in bytes, and the deepest call of a station or the server;
+ * tools/stack reads both from the library, and the package is tested for no more than these. */
+#define WAX_STACK         5120
+#define WAX_LINE_STACK    2048
 
 /* Answers. */
 #define WAX_OK       UINT32_C(0)
@@ -93,6 +109,10 @@ extern "C" {
 /* Length in bytes of a record with so many reads and writes. */
 #define WAX_RECORD_LENGTH(reads, writes) \
     ((size_t)WAX_HEADER_LENGTH + (size_t)WAX_ENTRY_LENGTH * ((size_t)(reads) + (size_t)(writes)))
+
+/* .. of the record whose bytes start here, by its own sizes, its first 4 bytes. */
+#define WAX_RECORD_LENGTH_OF(record) \
+    WAX_RECORD_LENGTH((record)[0] | (size_t)(record)[1] << 8, (record)[2] | (size_t)(record)[3] << 8)
 
 /*
  * Record check: is the first record of these bytes well-formed? What lies behind it is not looked at.
@@ -360,12 +380,67 @@ uint32_t wax_counts_entry(const uint8_t *file, size_t length, size_t at, uint32_
  *
  * A call sends either messages or a commit, never both. Bytes of messages and commit behind what is sent stay as they are.
  * Any answer but WAX_OK changes nothing at all.
+ *
+ * A line has eight stations, and need not use them: one that never calls is never sent anything. Give it either kind.
+ *
+ * A message that an end refuses has not been taken. Lent again it is refused again, and dropping it leaves its line waiting for
+ * ever: between ends that keep the rules none is refused, so one was lost, doubled, changed or carried out of order, or an end was
+ * lent another state than its last call left. Stop the line, keep the message and the states for whoever looks into it, and start
+ * again from what was kept (docs/C-INTERFACE.md, "Restart": examples/durable.c is such a host).
+ *
+ * How many messages a call can add to a line: up WAX_STATION_ADDS, down to a locking station WAX_LOCKING_ADDS, to a validating one
+ * WAX_VALIDATING_ADDS. How long a line can get has no bound if its station does not take what comes (docs/C-INTERFACE.md, "Queues of
+ * fixed size": examples/queues.c is such a host).
  */
+#define WAX_STATION_ADDS     8
+#define WAX_LOCKING_ADDS     40
+#define WAX_VALIDATING_ADDS  8
+
 #define WAX_MESSAGE_LENGTH   112
 #define WAX_COMMIT_HEAD      240  /* message and 32 versions; the record comes behind */
 #define WAX_COMMIT_LENGTH    1120 /* of the longest: WAX_COMMIT_HEAD + WAX_LONGEST_SENT */
 #define WAX_STATION_LENGTH   6713
 #define WAX_STATION_MESSAGES 896  /* 8 messages */
+
+/* Where every message has its kind and the station on whose line it goes. The other bytes are the library's own business. */
+#define WAX_AT_KIND    0
+#define WAX_AT_STATION 1
+
+/* Kinds of message: up to the server, down to a station. */
+#define WAX_UP_READ           1
+#define WAX_UP_WRITE          2
+#define WAX_UP_COMMIT         3
+#define WAX_UP_ABORT          4
+#define WAX_UP_PURGE          5
+#define WAX_UP_BUSY           6
+#define WAX_UP_DONE           7
+#define WAX_UP_WRITTEN_SET    8
+#define WAX_DOWN_PAGE         16
+#define WAX_DOWN_OBJECT_LOCK  17 /* a page, with a lock on the object */
+#define WAX_DOWN_WHOLE_LOCK   18 /* a page, with a lock on all of it */
+#define WAX_DOWN_DEESCALATE   19
+#define WAX_DOWN_CALLBACK     20
+#define WAX_DOWN_COMMITTED    21
+#define WAX_DOWN_ABORTED      22
+#define WAX_DOWN_INVALIDATE   23
+
+/*
+ * Length in bytes of a commit with so many reads and writes in its record; and of a message to the server by its first bytes, for
+ * a line that carries a stream: all but a commit have WAX_MESSAGE_LENGTH, and a commit's first WAX_UP_FIRST bytes tell its length.
+ *
+ *   read_all(line, message, WAX_MESSAGE_LENGTH);
+ *   if (message[WAX_AT_KIND] == WAX_UP_COMMIT)
+ *       read_all(line, message + WAX_MESSAGE_LENGTH, WAX_UP_FIRST - WAX_MESSAGE_LENGTH);
+ *   ... WAX_UP_LENGTH_OF(message) bytes in all; a length above WAX_COMMIT_LENGTH is none that a station sends
+ */
+#define WAX_VERSIONS_LENGTH (WAX_COMMIT_HEAD - WAX_MESSAGE_LENGTH)
+#define WAX_COMMIT_LENGTH_OF(reads, writes) \
+    ((size_t)WAX_MESSAGE_LENGTH + (size_t)WAX_VERSIONS_LENGTH + WAX_RECORD_LENGTH(reads, writes))
+#define WAX_UP_FIRST (WAX_MESSAGE_LENGTH + WAX_VERSIONS_LENGTH + 4)
+#define WAX_UP_LENGTH_OF(message) \
+    ((message)[WAX_AT_KIND] != WAX_UP_COMMIT ? (size_t)WAX_MESSAGE_LENGTH \
+     : (size_t)WAX_MESSAGE_LENGTH + (size_t)WAX_VERSIONS_LENGTH \
+       + WAX_RECORD_LENGTH_OF((message) + WAX_MESSAGE_LENGTH + WAX_VERSIONS_LENGTH))
 
 #define WAX_TOLD          4
 #define WAX_TOLD_ANSWER   0
@@ -631,10 +706,6 @@ uint32_t wax_turn_next(wax_turn_line *lines, size_t count, size_t *line);
 #define WAX_BLOCK_RECORDS 64
 #define WAX_BLOCK_COUNTS  4      /* bytes of a block beside its records' bytes */
 #define WAX_LONGEST_BLOCK 295940 /* WAX_BLOCK_COUNTS + WAX_BLOCK_RECORDS * WAX_LONGEST_RECORD */
-
-/* Length of the record whose bytes start here, by its own sizes: for what wax_block_record gives. */
-#define WAX_RECORD_LENGTH_OF(record) \
-    WAX_RECORD_LENGTH((record)[0] | (size_t)(record)[1] << 8, (record)[2] | (size_t)(record)[3] << 8)
 
 /*
  * Writes these records, one behind the other, as a block at the start of out: length + WAX_BLOCK_COUNTS bytes.

@@ -23,6 +23,8 @@ pub struct Line<W> {
     windows: [Option<Window>; STATIONS],
     up: [Messages; STATIONS],
     down: [Messages; STATIONS],
+    /// Of all lines up, and of all lines down: the most messages that were under way on one.
+    pub longest: [usize; 2],
     /// What is lent beside a state; nothing in it is kept from call to call.
     of_server: served::Results,
     of_station: lent::Results,
@@ -71,6 +73,7 @@ impl<W: Write> Line<W> {
             windows: Default::default(),
             up: Default::default(),
             down: Default::default(),
+            longest: [0; 2],
             of_server: served::Results::default(),
             of_station: lent::Results::default(),
             archive,
@@ -133,7 +136,9 @@ impl<W: Write> Line<W> {
             records: records.to_vec(),
         };
         for message in &done.sent {
-            self.down[usize::from(message[1])].push_back(message.clone());
+            let line = &mut self.down[usize::from(message[1])];
+            line.push_back(message.clone());
+            self.longest[1] = self.longest[1].max(line.len());
         }
         Ok(done)
     }
@@ -168,7 +173,9 @@ impl<W: Write> Line<W> {
 
     fn carry_up(&mut self, station: usize) -> Done {
         let done = left_by_call(&self.of_station);
-        self.up[station].extend(done.sent.iter().cloned());
+        let line = &mut self.up[station];
+        line.extend(done.sent.iter().cloned());
+        self.longest[0] = self.longest[0].max(line.len());
         done
     }
 

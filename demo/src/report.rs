@@ -84,6 +84,8 @@ impl Report {
                 "the panel worked through a window: {accesses} accesses to registers, {interrupts} interrupts"
             ));
         }
+        let [up, down] = shift.line.longest;
+        self.line(&format!("longest lines: {up} messages up, {down} down"));
     }
 
     /// What its owner was told, against the commits that were played back.

@@ -7,6 +7,7 @@ use second::line::lent::BUFFER;
 use second::line::message::{self, Down, LENGTH as MESSAGE};
 use second::line::places::Place;
 use second::line::server::state::{self, Field, COUNTERS_END};
+use second::line::sets::STATIONS;
 use second::numbers::OK;
 use second::random::Random;
 use second::record::Record;
@@ -64,7 +65,7 @@ impl Judge {
     }
 
     /// "Whatever message comes, the state left is taken again, unless the next age or the next arrival has come to 2^63; and
-    /// what is sent is taken by its station up to number 4, and fits its kind": and records are the next.
+    /// what is sent is taken by its station up to number 4, and fits its kind": not too much for any one; and records are the next.
     fn is_closed(&self, before: &[u8]) -> bool {
         let after = self.lent.given.state();
         let last = |state: &[u8]| Field::Last.word(state, 0);
@@ -73,6 +74,7 @@ impl Judge {
                 messages
                     .chunks(MESSAGE)
                     .all(|message| taken_below(message, before))
+                    && few_to_each(messages, before)
                     && next_records(last(before), records) == Some(last(after))
             })
     }
@@ -108,6 +110,26 @@ fn taken_below(message: &[u8], state: &[u8]) -> bool {
         _ => true,
     };
     kind_fits && Down::decode(message, named).is_ok_and(|(station, _)| station == named)
+}
+
+/// How many of these messages go to each station.
+pub fn to_each(messages: &[u8]) -> [usize; STATIONS] {
+    let mut counts = [0; STATIONS];
+    for message in messages.chunks(MESSAGE) {
+        counts[usize::from(message::Field::Station.byte(message))] += 1;
+    }
+    counts
+}
+
+/// A step sends a locking station 40 messages at most: an answer, a 20 for each other station's request, a 19 for each page; and a
+/// validating one 8: an answer, a 23 for each other station's commit.
+fn few_to_each(messages: &[u8], state: &[u8]) -> bool {
+    let most = |station| match Field::Kind.byte_of(state, station) {
+        0 => 40,
+        _ => 8,
+    };
+    let counts = to_each(messages);
+    (0..STATIONS).all(|station| counts[station] <= most(station))
 }
 
 /// The last number, if these are well-formed records one behind the other with the numbers behind this one.

@@ -233,13 +233,17 @@ fn beside(random: &mut Random) -> Vec<u8> {
     state
 }
 
-/// Steps that do the most: eight installs of 48 reads and writes, and 74 messages.
+/// Steps that do the most: eight installs of 48 reads and writes, 74 messages, and 39 to one station.
 pub fn limits(judge: &mut Judge) -> Agreed<()> {
     let mut random = Random::new(1);
-    let purge = Up::Purge { page: 0 }.encode(0);
-    for state in [eight_installs(&mut random), many_messages(&mut random)] {
+    let states = [
+        (eight_installs(&mut random), 0),
+        (many_messages(&mut random), 0),
+        (many_to_one(&mut random), 1),
+    ];
+    for (state, station) in states {
         let room = Room::enough::<Field>(&mut random);
-        judge.step(&purge, &state, room)?;
+        judge.step(&Up::Purge { page: 0 }.encode(station), &state, room)?;
     }
     Ok(())
 }
@@ -304,6 +308,36 @@ fn many_messages(random: &mut Random) -> Vec<u8> {
         Field::WrittenSet.put_sets(&mut state, station, &Addresses::one(address));
         Field::Listed.put_word(&mut state, station, u32::MAX);
     }
+    state
+}
+
+/// Station 0 has all pages but the last locked whole, and station 2 has read on them: 31 of kind 19. Stations 0 and 1 want to write
+/// one object of the last page, which 1 has in use: station 0, the youngest, gets a 22. And all others want to write on that page,
+/// which station 0 has: seven of kind 20.
+fn many_to_one(random: &mut Random) -> Vec<u8> {
+    let mut state = committing(random, |station| station == 2);
+    let last = PAGES - 1;
+    let mut reads = Addresses([0x80; PAGES]);
+    reads.0[last] = 0;
+    Field::ReadSet.put_sets(&mut state, 2, &reads);
+    Field::Age.put_long(&mut state, 0, STATIONS as u64);
+    Field::NextAge.put_long(&mut state, 0, STATIONS as u64 + 1);
+    for page in 0..last {
+        Field::Whole.put_byte_of(&mut state, page, 1);
+    }
+    for station in 0..STATIONS {
+        let address = (OBJECTS * last + station.max(1) - 1) as u8;
+        Field::WrittenSet.put_sets(&mut state, station, &Addresses::one(address));
+        Field::Listed.put_word(&mut state, station, u32::MAX);
+        if station != 2 {
+            Field::Want.put_byte_of(&mut state, station, 2);
+            Field::Arrival.put_long(&mut state, station, station as u64);
+            Field::Request.put_byte_of(&mut state, station, address);
+        }
+    }
+    Field::Called.put_byte_of(&mut state, 0, 1);
+    Field::Pend.put_byte_of(&mut state, 0, 2);
+    Field::Busy.put_byte_of(&mut state, 0, 2);
     state
 }
 

@@ -1,6 +1,6 @@
 //! What was called, sent, refused and damaged, and how often.
 
-use crate::judge::SORTS;
+use crate::judge::{to_each, SORTS};
 use second::line::counts::Counts;
 use second::line::lent::BUFFER;
 use second::line::message::{Field, LENGTH as MESSAGE};
@@ -27,6 +27,8 @@ pub struct Tallies {
     sent: Tally<u8>,
     causes: Tally<u8>,
     most_messages: usize,
+    /// .. to one station
+    most_to_one: usize,
     most_records: usize,
     pub fresh: Tally<u32>,
     pub states: Tally<&'static str>,
@@ -56,6 +58,8 @@ impl Tallies {
             }
         }
         self.most_messages = self.most_messages.max(messages.len() / MESSAGE);
+        let to_one = to_each(messages).into_iter().max().unwrap_or(0);
+        self.most_to_one = self.most_to_one.max(to_one);
         self.most_records = self.most_records.max(records.len());
     }
 
@@ -69,6 +73,7 @@ impl Tallies {
             (self.long.claimed > 0, "a long line"),
             (self.most_records == RECORDS, "7,040 bytes of records"),
             (self.most_messages >= 74, "74 messages in a step"),
+            (self.most_to_one >= 39, "39 messages to one station"),
         ]
         .map(|(reached, what)| (reached, what.to_string()));
         let accepted = (1..=8).map(|kind| (self.accepted.has(&kind), format!("damaged {kind}")));
@@ -109,8 +114,8 @@ impl Display for Tallies {
         writeln!(f, "fresh states by number: {}", self.fresh)?;
         write!(
             f,
-            "most in one step: {} messages, {} bytes of records",
-            self.most_messages, self.most_records
+            "most in one step: {} messages, {} to one station, {} bytes of records",
+            self.most_messages, self.most_to_one, self.most_records
         )
     }
 }
