@@ -5,8 +5,11 @@ use super::draining::Drained;
 use super::message::Field;
 use super::places::Place;
 use super::world::{Outcome, Reply, World};
-use super::Answer;
+use super::{Answer, Number};
 use std::fmt::{self, Display, Formatter};
+
+/// A place for each number that a call of a line is refused with.
+type Refusals = [u64; Number::Long as usize + 1];
 
 #[derive(Clone, Debug, Default, PartialEq, Eq)]
 pub struct Counts {
@@ -23,10 +26,10 @@ pub struct Counts {
     /// 16s for a transaction that is over.
     pub ignored_16: u64,
     /// Refusals of owners' calls, by number.
-    pub owners_numbers: [u64; 12],
+    pub owners_numbers: Refusals,
     /// Refusals of raw messages at the server and at a station, by number.
-    pub server_numbers: [u64; 12],
-    pub station_numbers: [u64; 12],
+    pub server_numbers: Refusals,
+    pub station_numbers: Refusals,
     pub raw_accepted: u64,
     pub victims: u64,
     /// Steps with more than one victim.
@@ -77,7 +80,7 @@ impl Counts {
         }
     }
 
-    fn numbers_of(&mut self, call: &Call) -> &mut [u64; 12] {
+    fn numbers_of(&mut self, call: &Call) -> &mut Refusals {
         match call {
             Call::Server(_) | Call::ServerRaw(_) => &mut self.server_numbers,
             Call::Station(_) | Call::StationRaw(..) => &mut self.station_numbers,
@@ -129,7 +132,9 @@ impl Counts {
             .chain(16..=23)
             .map(|kind| (self.kinds[kind], "kind", kind));
         let causes = (1..=4).map(|cause| (self.causes[cause], "cause", cause));
-        let owners = (7..=11).map(|n| (self.owners_numbers[n], "owners' number", n));
+        let owners = (7..=11)
+            .chain([Number::Long as usize])
+            .map(|n| (self.owners_numbers[n], "owners' number", n));
         let raws = (2..=6).map(|n| (raw(n), "messages' number", n));
         let all = kinds.chain(causes).chain(owners).chain(raws);
         all.filter(|(count, _, _)| *count == 0)
@@ -152,7 +157,12 @@ impl Display for Counts {
         row(f, "sent up", &self.kinds, 1..=8)?;
         row(f, "sent down", &self.kinds, 16..=23)?;
         row(f, "22 by cause", &self.causes, 1..=4)?;
-        row(f, "owners refused", &self.owners_numbers, 4..=11)?;
+        row(
+            f,
+            "owners refused",
+            &self.owners_numbers,
+            (4..=11).chain([Number::Long as usize]),
+        )?;
         row(f, "server refused", &self.server_numbers, 2..=6)?;
         row(f, "stations refused", &self.station_numbers, 2..=6)?;
         writeln!(
@@ -184,10 +194,10 @@ fn row(
     f: &mut Formatter<'_>,
     name: &str,
     counts: &[u64],
-    range: std::ops::RangeInclusive<usize>,
+    numbers: impl IntoIterator<Item = usize>,
 ) -> fmt::Result {
     write!(f, "{name}:")?;
-    for n in range {
+    for n in numbers {
         write!(f, "  {n}: {}", counts[n])?;
     }
     writeln!(f)

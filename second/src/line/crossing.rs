@@ -31,6 +31,9 @@ enum Line {
     Down(u8),
 }
 
+/// Of so many seeds one makes long transactions.
+const LONG_ONE_IN: u64 = 16;
+
 /// How often what is done.
 struct Habits {
     /// Of eight calls so many are owners'.
@@ -53,6 +56,14 @@ struct Habits {
 
 impl Crossing {
     pub fn new(seed: u64, calls: usize) -> Crossing {
+        let crossing = Crossing::of_any_length(seed, calls);
+        match seed.is_multiple_of(LONG_ONE_IN) {
+            true => crossing.made_long(),
+            false => crossing,
+        }
+    }
+
+    fn of_any_length(seed: u64, calls: usize) -> Crossing {
         let mut random = Random::new(seed);
         let kinds = kinds(&mut random);
         let habits = habits(&mut random);
@@ -69,6 +80,23 @@ impl Crossing {
             values_used: 0,
             random,
         }
+    }
+
+    /// Two stations at work on many objects, and few ends: transactions come to the limit.
+    fn made_long(mut self) -> Crossing {
+        self.stations.truncate(2);
+        self.addresses = (0..64).collect();
+        self.habits = Habits {
+            owners: 4,
+            commit: 200,
+            abort: 400,
+            purge: 100_000,
+            writes: self.random.pick(&[1, 9]),
+            hold: 100_000,
+            idle: 100_000,
+            ..self.habits
+        };
+        self
     }
 
     /// All eight stations of a fresh line, and no raw messages.
