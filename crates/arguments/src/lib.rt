@@ -33,6 +33,9 @@ const RANGE: usize = 8;
 
 pub const WRONG: usize = 9;
 
+// How many they are.
+pub const NUMBERS: usize = WRONG + 1;
+
 // The listings: a line a commit, and those that an option chooses.
 pub const COMMITS: u64 = 0;
 
@@ -168,7 +171,7 @@ fn is_name(word: &[u8]) -> bool
     true
 }
 
-fn take_name(a: &mut [u64; 10], i: u64, word: &[u8])
+fn take_name(a: &mut [u64; NUMBERS], i: u64, word: &[u8])
     ensures { λ _. ⌜ now (a .exit) ≡ nameTaken (now (a .entry)) i (now (word .entry)) ⌝ }
 {
     if !is_name(word) {
@@ -182,7 +185,7 @@ fn take_name(a: &mut [u64; 10], i: u64, word: &[u8])
     a[FILE] = i;
 }
 
-fn take_listing(a: &mut [u64; 10], i: u64, o: u64)
+fn take_listing(a: &mut [u64; NUMBERS], i: u64, o: u64)
     ensures { λ _. ⌜ now (a .exit) ≡ listingTaken (now (a .entry)) i o ⌝ }
 {
     if a[LISTING] != 0 {
@@ -199,7 +202,7 @@ fn take_listing(a: &mut [u64; 10], i: u64, o: u64)
     a[WANTS] = o;
 }
 
-fn take_other(a: &mut [u64; 10], i: u64, word: &[u8])
+fn take_other(a: &mut [u64; NUMBERS], i: u64, word: &[u8])
     ensures { λ _. ⌜ now (a .exit) ≡ otherTaken (now (a .entry)) i (now (word .entry)) ⌝ }
 {
     let o = other_of(word);
@@ -219,7 +222,7 @@ fn take_other(a: &mut [u64; 10], i: u64, word: &[u8])
     a[WANTS] = o;
 }
 
-fn take_option(a: &mut [u64; 10], i: u64, word: &[u8])
+fn take_option(a: &mut [u64; NUMBERS], i: u64, word: &[u8])
     ensures { λ _. ⌜ now (a .exit) ≡ optionTaken (now (a .entry)) i (now (word .entry)) ⌝ }
 {
     let o = listing_of(word);
@@ -256,7 +259,7 @@ fn place_for(o: u64) -> usize
     NUMBER
 }
 
-fn take_number(a: &mut [u64; 10], i: u64, n: u32)
+fn take_number(a: &mut [u64; NUMBERS], i: u64, n: u32)
     ensures { λ _. ⌜ now (a .exit) ≡ numberTaken (now (a .entry)) i (Commit.Number n) ⌝ }
 {
     let o = a[WANTS];
@@ -270,7 +273,7 @@ fn take_number(a: &mut [u64; 10], i: u64, n: u32)
 }
 
 // Takes word i, counted from 1, into the ten numbers. Behind one that is not understood none is looked at.
-pub fn take(a: &mut [u64; 10], i: u64, word: &[u8])
+pub fn take(a: &mut [u64; NUMBERS], i: u64, word: &[u8])
     ensures { λ _. ⌜ now (a .exit) ≡ wordTaken (now (a .entry)) i (now (word .entry)) ⌝ }
 {
     if a[WRONG] != 0 {
@@ -298,7 +301,7 @@ fn ranges(listing: u64) -> bool
 }
 
 // What is left to test behind the last word, which is word i.
-pub fn settle(a: &mut [u64; 10], i: u64)
+pub fn settle(a: &mut [u64; NUMBERS], i: u64)
     ensures { λ _. ⌜ now (a .exit) ≡ settled (now (a .entry)) i ⌝ }
 {
     if a[WRONG] != 0 {
@@ -322,7 +325,7 @@ pub fn settle(a: &mut [u64; 10], i: u64)
 }
 
 // Before the first word.
-pub fn nothing_asked() -> [u64; 10]
+pub fn nothing_asked() -> [u64; NUMBERS]
     ensures { λ r. ⌜ r ≡ fresh ⌝ }
 {
     [0, 0, 0, 4294967296, 0, 0, 0, 0, 0, 0]

@@ -5,7 +5,7 @@ ghost use mathlib.Core.Bool.{true};
 ghost use Prim.Native.Nat.{_+_, _*_, _≤_, _<_};
 ghost use lib.ListN.{length, take, drop};
 ghost use lib.Seq.{sets};
-ghost use Rattle.layout.specs.Record.{headerLength};
+ghost use Rattle.layout.specs.Record.{headerLength, valueLength};
 ghost use Rattle.block.specs.Block.{mostRecords};
 ghost use Rattle.block.specs.Places.{countsLength, headerAt, readsAt, writesAt, sizeAt, entriesTo};
 ghost use Rattle.block.specs.Check.{shapeOf, countsAgree, recordFits, allFit, blockNumber, placeNumber};
@@ -49,6 +49,14 @@ pub fn size_at(s: &[u8], at: usize) -> usize
     ensures { λ r. ⌜ (r ≡ sizeAt (now (s .entry)) at) × (r < 131072) ⌝ }
 {
     reads_at(s, at) + writes_at(s, at)
+}
+
+// Where byte k of a value stands: its first at p in the first plane, the planes t bytes long.
+pub fn plane_at(p: usize, t: usize, k: usize) -> usize
+    requires { ⌜ (k < valueLength) × (p + 7 * t < 18446744073709551616) ⌝ }
+    ensures { λ r. ⌜ (r ≡ p + k * t) × (r ≤ p + 7 * t) ⌝ }
+{
+    p + k * t
 }
 
 // Copies n bytes of `from` to a place of `to`.

@@ -25,11 +25,18 @@ pub eight : (s : List ℕ) (at a b c d e f g h : ℕ)
 eight s at a b c d e f g h = rw (add-one, add-two, add-three, add-four, add-five, add-six, add-seven)
 
 -- one value, byte by byte
-pub row-stored : (b to : List ℕ) (at p t : ℕ)
-    → set (set (set (set (set (set (set (set to at (getD b p 0)) (at + 1) (getD b (p + t) 0)) (at + 2) (getD b (p + 2 * t) 0)) (at + 3) (getD b (p + 3 * t) 0)) (at + 4) (getD b (p + 4 * t) 0)) (at + 5) (getD b (p + 5 * t) 0)) (at + 6) (getD b (p + 6 * t) 0)) (at + 7) (getD b (p + 7 * t) 0)
-    ≡ sets to at (row b p t)
-unfolding row
-row-stored b to at p t = eight to at _ _ _ _ _ _ _ _
+unfoldable pub storedTo : List ℕ → List ℕ → ℕ → ℕ → ℕ → ℕ → List ℕ
+storedTo b to at p t zero = to
+storedTo b to at p t (suc k) = set (storedTo b to at p t k) (at + k) (getD b (p + k * t) 0)
+
+pub row-stored : (b to : List ℕ) (at p t k : ℕ) → k ≡ valueLength → storedTo b to at p t k ≡ sets to at (row b p t)
+unfolding storedTo row
+row-stored b to at p t k e =
+    let here : at + 0 ≡ at = omega arith in
+    let first : p + 0 * t ≡ p = omega arith in
+    let second : p + 1 * t ≡ p + t = omega arith in
+    rw (e, here, first, second)
+    (eight to at (getD b p 0) (getD b (p + t) 0) (getD b (p + 2 * t) 0) (getD b (p + 3 * t) 0) (getD b (p + 4 * t) 0) (getD b (p + 5 * t) 0) (getD b (p + 6 * t) 0) (getD b (p + 7 * t) 0))
 
 -- one value more
 pub rows-stored : (b to : List ℕ) (at p t n : ℕ) {s s′ : List ℕ} → s ≡ sets to at (rows b p t n) → s′ ≡ sets s (at + valueLength * n) (row b (p + n) t)

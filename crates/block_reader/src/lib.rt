@@ -15,14 +15,12 @@ fn put_row(to: &mut [u8], at: usize, b: &[u8], p: usize, t: usize)
     requires { ⌜ (at + valueLength ≤ length (now to)) × (p + 7 * t < length (now b)) ⌝ }
     ensures { λ _. ⌜ now (to .exit) ≡ sets (now (to .entry)) at (row (now (b .entry)) p t) ⌝ }
 {
-    to[at] = b[p];
-    to[at + 1] = b[p + t];
-    to[at + 2] = b[p + 2 * t];
-    to[at + 3] = b[p + 3 * t];
-    to[at + 4] = b[p + 4 * t];
-    to[at + 5] = b[p + 5 * t];
-    to[at + 6] = b[p + 6 * t];
-    to[at + 7] = b[p + 7 * t];
+    let mut k = 0;
+    while k < record::VALUE {
+        let q = block::plane_at(p, t, k);
+        to[at + k] = b[q];
+        k += 1;
+    }
 }
 
 fn put_rows(to: &mut [u8], at: usize, b: &[u8], p: usize, t: usize, n: usize)

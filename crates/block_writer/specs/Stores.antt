@@ -2,7 +2,6 @@
 use Prim.Native.Nat.{ℕ, zero, suc, _+_, _*_, _≤_, _<_}
 use mathlib.Core.Path.{_≡_, refl, ap, _∙_, fun-ext}
 use mathlib.Core.List.{List, [], _∷_, _++_}
-use native.Mathlib.Nat.{add-zero}
 use native.Mathlib.Omega.{arith}
 use lib.ListN.{length, take, drop, set, getD, length-append}
 use lib.Seq.{sets}
@@ -15,15 +14,21 @@ use Rattle.block.specs.Block.{joined}
 use Rattle.block.specs.Places.{recordCountFrom, entryTotalFrom, countsLength, headerAt, planesAt, sizeAt}
 use Rattle.block.specs.Parts.{length-part}
 use Rattle.block_writer.specs.Write.{startOf, entriesIn, headersTo, addressesTo, column, planeTo, packed}
-use Rattle.block_writer.specs.Stripes.{stripes, stripes-join, sets-first}
+use Rattle.block_writer.specs.Stripes.{stripes, no-stripes, stripes-last, stripes-join, sets-first}
 use Rattle.block_writer.specs.Facts.{lies}
 
 -- one value, a byte to each plane
-pub value-stored : (s to : List ℕ) (p t a : ℕ)
-    → set (set (set (set (set (set (set (set to p (getD s a 0)) (p + t) (getD s (a + 1) 0)) (p + t + t) (getD s (a + 2) 0)) (p + t + t + t) (getD s (a + 3) 0)) (p + t + t + t + t) (getD s (a + 4) 0)) (p + t + t + t + t + t) (getD s (a + 5) 0)) (p + t + t + t + t + t + t) (getD s (a + 6) 0)) (p + t + t + t + t + t + t + t) (getD s (a + 7) 0)
-    ≡ stripes valueLength to p t (λ k. getD s (a + k) 0 ∷ [])
-unfolding stripes
-value-stored s to p t a = rw (add-zero a)
+unfoldable pub stripedTo : List ℕ → List ℕ → ℕ → ℕ → ℕ → ℕ → List ℕ
+stripedTo s to p t a zero = to
+stripedTo s to p t a (suc k) = set (stripedTo s to p t a k) (p + k * t) (getD s (a + k) 0)
+
+striped : (s to : List ℕ) (p t a k : ℕ) → stripedTo s to p t a k ≡ stripes k to p t (λ j. getD s (a + j) 0 ∷ [])
+unfolding stripedTo
+striped s to p t a zero = no-stripes to p t (λ j. getD s (a + j) 0 ∷ [])
+striped s to p t a (suc k) = rw (striped s to p t a k) (stripes-last k to p t (λ j. getD s (a + j) 0 ∷ []))
+
+pub value-stored : (s to : List ℕ) (p t a k : ℕ) → k ≡ valueLength → stripedTo s to p t a k ≡ stripes valueLength to p t (λ j. getD s (a + j) 0 ∷ [])
+value-stored s to p t a k e = striped s to p t a k ∙ ap (λ n. stripes n to p t (λ j. getD s (a + j) 0 ∷ [])) e
 
 pub length-column : (s : List ℕ) (at n : ℕ) → length (column s at n) ≡ n
 unfolding column

@@ -1,7 +1,8 @@
 -- Several runs of stores, t places apart: what is appended to each, and what they are when they are full.
-use Prim.Native.Nat.{ℕ, zero, suc, _+_, _≤_, _<_}
+use Prim.Native.Nat.{ℕ, zero, suc, _+_, _*_, _≤_, _<_}
 use mathlib.Core.Path.{_≡_, refl, ap, _∙_}
 use mathlib.Core.List.{List, [], _∷_, _++_}
+use native.Mathlib.Nat.{suc-mul}
 use native.Mathlib.Omega.{arith}
 use lib.ListN.{length, set}
 use lib.Seq.{sets, set-comm}
@@ -12,6 +13,18 @@ use Rattle.block.specs.Block.{joined}
 unfoldable pub stripes : ℕ → List ℕ → ℕ → ℕ → (ℕ → List ℕ) → List ℕ
 stripes zero o p t f = o
 stripes (suc n) o p t f = stripes n (sets o p (f 0)) (p + t) t (λ k. f (suc k))
+
+pub no-stripes : (o : List ℕ) (p t : ℕ) (f : ℕ → List ℕ) → o ≡ stripes 0 o p t f
+unfolding stripes
+no-stripes o p t f = refl
+
+-- the last of them behind the others
+pub stripes-last : (n : ℕ) (o : List ℕ) (p t : ℕ) (f : ℕ → List ℕ) → sets (stripes n o p t f) (p + n * t) (f n) ≡ stripes (suc n) o p t f
+unfolding stripes
+stripes-last zero o p t f = let e : p + 0 * t ≡ p = omega arith in rw e refl
+stripes-last (suc n) o p t f =
+    let e : p + suc n * t ≡ p + t + n * t = rw (suc-mul n t) (omega arith) in
+    rw e (stripes-last n (sets o p (f 0)) (p + t) t (λ k. f (suc k)))
 
 -- a store before a run can be made first
 set-first : (x o : List ℕ) (p j v : ℕ) → j < p → set (sets o p x) j v ≡ sets (set o j v) p x

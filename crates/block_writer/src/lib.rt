@@ -60,21 +60,12 @@ fn put_value(to: &mut [u8], p: usize, t: usize, s: &[u8], a: usize)
     requires { ⌜ (p + 7 * t < length (now to)) × (a + valueLength ≤ length (now s)) ⌝ }
     ensures { λ _. ⌜ now (to .exit) ≡ stripes valueLength (now (to .entry)) p t (λ k. getD (now (s .entry)) (a + k) 0 ∷ []) ⌝ }
 {
-    let p1 = p + t;
-    let p2 = p1 + t;
-    let p3 = p2 + t;
-    let p4 = p3 + t;
-    let p5 = p4 + t;
-    let p6 = p5 + t;
-    let p7 = p6 + t;
-    to[p] = s[a];
-    to[p1] = s[a + 1];
-    to[p2] = s[a + 2];
-    to[p3] = s[a + 3];
-    to[p4] = s[a + 4];
-    to[p5] = s[a + 5];
-    to[p6] = s[a + 6];
-    to[p7] = s[a + 7];
+    let mut k = 0;
+    while k < record::VALUE {
+        let q = block::plane_at(p, t, k);
+        to[q] = s[a + k];
+        k += 1;
+    }
 }
 
 fn put_values(to: &mut [u8], p: usize, t: usize, s: &[u8], a: usize, n: usize)

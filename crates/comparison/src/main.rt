@@ -83,7 +83,7 @@ fn say(going: bool, text: &[u8]) -> bool {
 }
 
 fn say_number(going: bool, n: u64) -> bool {
-    let mut text = [0u8; 20];
+    let mut text = [0u8; player::DIGITS];
     let k = io::decimal(n, &mut text);
     say(going, &text[..k])
 }
@@ -581,14 +581,14 @@ fn say_order(
 
 // The words of `words`, which begin with the playback program's name.
 fn say_fault(part: &[u8], start: u64, last: u32, values: &[u64; 256]) {
-    let mut line = [0u8; 256];
+    let mut line = [0u8; words::LINE];
     let e = words::fault_line(&mut line, 0, start, fault::first_fault(part, last, values));
-    let length = least(e, 256);
-    if length < 10 {
+    let length = least(e, words::LINE);
+    if length < words::PREFIX {
         return;
     }
     tell(b"compare: ");
-    tell(&line[10..length]);
+    tell(&line[words::PREFIX..length]);
 }
 
 // `the first archive is refused: N after K`, and what is wrong with its next record.
@@ -674,13 +674,13 @@ fn run(a: &mut [u8], b: &mut [u8], first: i32, second: i32) -> u32 {
 }
 
 // The buffers come as arrays: their lengths are then known by their types, and nothing has to be computed of their bytes.
-fn start(a: &mut [u8; 1310720], b: &mut [u8; 1310720], first: i32, second: i32) -> u32 {
+fn start(a: &mut [u8; player::INPUT], b: &mut [u8; player::INPUT], first: i32, second: i32) -> u32 {
     run(a, b, first, second)
 }
 
 fn compare_files(first: i32, second: i32) -> u32 {
-    let mut a = [0u8; 1310720];
-    let mut b = [0u8; 1310720];
+    let mut a = [0u8; player::INPUT];
+    let mut b = [0u8; player::INPUT];
     start(&mut a, &mut b, first, second)
 }
 

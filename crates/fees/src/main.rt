@@ -23,6 +23,12 @@ const CHUNK: usize = 131072;
 // So many bytes apart the progress is shown.
 const SHOWN: u64 = 67108864;
 
+// Bytes of `io::buffer()`: a tariff's text has fewer.
+const TARIFF_ROOM: usize = 4096;
+
+// Lines that are read of a tariff: one more than it may have.
+const LINES: usize = tariff::STEPS + 1;
+
 // A stretch of commits.
 struct Stretch {
     first: u32,
@@ -81,7 +87,7 @@ fn say(going: bool, text: &[u8]) -> bool {
 }
 
 fn say_number(going: bool, n: u64) -> bool {
-    let mut text = [0u8; 20];
+    let mut text = [0u8; player::DIGITS];
     let k = io::decimal(n, &mut text);
     say(going, &text[..k])
 }
@@ -259,14 +265,14 @@ fn read_more(input: &mut [u8], len: usize) -> More
 
 // The words of `words`, which begin with the playback program's name.
 fn say_fault(part: &[u8], start: u64, last: u32, values: &[u64; 256]) {
-    let mut line = [0u8; 256];
+    let mut line = [0u8; words::LINE];
     let e = words::fault_line(&mut line, 0, start, fault::first_fault(part, last, values));
-    let length = least(e, 256);
-    if length < 10 {
+    let length = least(e, words::LINE);
+    if length < words::PREFIX {
         return;
     }
     tell(b"fees: ");
-    tell(&line[10..length]);
+    tell(&line[words::PREFIX..length]);
 }
 
 // `refused N after K`, and what is wrong with the record at the start of these bytes.
@@ -585,7 +591,7 @@ fn run(input: &mut [u8], table: &[u8], stretch: Stretch)
 }
 
 // The buffer comes as an array: its length is then known by its type, and nothing has to be computed of its bytes.
-fn start(input: &mut [u8; 1310720], table: &[u8], stretch: Stretch)
+fn start(input: &mut [u8; player::INPUT], table: &[u8], stretch: Stretch)
     requires { ⌜ length (now table) ≤ longestTable ⌝ }
 {
     run(input, table, stretch);
@@ -594,7 +600,7 @@ fn start(input: &mut [u8; 1310720], table: &[u8], stretch: Stretch)
 fn bill_archive(table: &[u8], stretch: Stretch)
     requires { ⌜ length (now table) ≤ longestTable ⌝ }
 {
-    let mut input = [0u8; 1310720];
+    let mut input = [0u8; player::INPUT];
     start(&mut input, table, stretch);
 }
 
@@ -647,8 +653,8 @@ fn unread() -> Reading {
 
 // The line behind so many steps.
 fn line_of(steps: usize) -> u64 {
-    if 16 < steps {
-        return 17;
+    if tariff::STEPS < steps {
+        return LINES as u64;
     }
     steps as u64 + 1
 }
@@ -657,7 +663,7 @@ fn line_of(steps: usize) -> u64 {
 fn take_step(table: &mut [u8], r: Reading, e: usize, upper: u64, price: u32) -> Reading {
     let i = r.steps;
     let line = line_of(i);
-    if 16 <= i {
+    if tariff::STEPS <= i {
         wrong_line(line, b"a tariff has at most 16 steps");
         return unread();
     }
@@ -703,7 +709,7 @@ fn take_tariff(text: &[u8], table: &mut [u8]) -> usize {
         upper: 0,
         good: true,
     };
-    let mut turns: usize = 17;
+    let mut turns: usize = LINES;
     while turns > 0 {
         if !r.good {
             return 0;
@@ -730,7 +736,7 @@ fn whole_tariff(r: Reading) -> usize {
         );
         return 0;
     }
-    if 16 < r.steps {
+    if tariff::STEPS < r.steps {
         return 0;
     }
     tariff::STEP * r.steps
@@ -752,7 +758,7 @@ fn with_table(table: &[u8], length: usize, stretch: Stretch) {
 
 // The tariff's text is in hand.
 fn with_tariff(text: &[u8], stretch: Stretch) {
-    let mut table = [0u8; 192];
+    let mut table = [0u8; tariff::LONGEST];
     let length = take_tariff(text, &mut table);
     if length == 0 {
         return;
@@ -770,7 +776,7 @@ fn with_file(path: &[u8], stretch: Stretch) {
     let mut text = io::buffer();
     let n = io::read_full(fd, &mut text);
     libc::close(fd);
-    if n == 4096 {
+    if n == TARIFF_ROOM {
         refused(17);
         tell(b"fees: tariff: the file is longer than 4095 bytes\n");
         return;

@@ -90,21 +90,21 @@ fn read_more(fd: i32, input: &mut [u8], len: usize) -> More
 
 // Says that the archive ends before a commit.
 fn say_missing(commit: u32, last: u32) {
-    let mut line = [0u8; 128];
+    let mut line = [0u8; totals::MESSAGE];
     let e = totals::missing_line(&mut line, 0, commit, last);
     complain(&line, e);
 }
 
 // Says what is wrong with the record at the start of these bytes, which start at byte `start` of the archive.
 fn say_fault(part: &[u8], start: u64, last: u32, values: &[u64; 256]) {
-    let mut line = [0u8; 256];
+    let mut line = [0u8; words::LINE];
     let e = words::fault_line(&mut line, 0, start, fault::first_fault(part, last, values));
     complain(&line, e);
 }
 
 // Says the closing line where standard output has rows alone.
 fn say_closing(reached: bool, number: u32, last: u32) {
-    let mut line = [0u8; 128];
+    let mut line = [0u8; totals::MESSAGE];
     let e = text::put_text(&mut line, 0, b"playback: ");
     let e = player::closing_line(&mut line, e, reached, number, last);
     complain(&line, e);
@@ -357,14 +357,14 @@ fn run(fd: i32, input: &mut [u8], job: Job, counts: &mut [u64; 256], output: &mu
 }
 
 // The buffer comes as an array: its length is then known by its type, and nothing has to be computed of its bytes.
-fn start(fd: i32, input: &mut [u8; 1310720], job: Job) -> u32 {
+fn start(fd: i32, input: &mut [u8; player::INPUT], job: Job) -> u32 {
     let mut counts = [0u64; 256];
     let mut output = io::large_buffer();
     run(fd, input, job, &mut counts, &mut output)
 }
 
 fn do_job(fd: i32, job: Job) -> u32 {
-    let mut input = [0u8; 1310720];
+    let mut input = [0u8; player::INPUT];
     start(fd, &mut input, job)
 }
 
@@ -438,21 +438,21 @@ fn version() -> u32 {
 fn misunderstood(i: usize) -> u32 {
     let mut word = io::buffer();
     let n = os::arg(i, &mut word);
-    let mut line = [0u8; 256];
+    let mut line = [0u8; arguments::LINE];
     let e = arguments::unclear_line(&mut line, 0, &word[..n]);
     complain(&line, e);
     UNCLEAR
 }
 
 // Takes word i.
-fn take_word(a: &mut [u64; 10], i: usize) {
+fn take_word(a: &mut [u64; arguments::NUMBERS], i: usize) {
     let mut word = io::buffer();
     let n = os::arg(i, &mut word);
     arguments::take(a, i as u64, &word[..n]);
 }
 
 // Takes the words behind the program's name, in order.
-fn take_words(a: &mut [u64; 10], count: usize) {
+fn take_words(a: &mut [u64; arguments::NUMBERS], count: usize) {
     let mut i: usize = 1;
     while i < count {
         take_word(a, i);
@@ -478,7 +478,7 @@ fn open(i: usize) -> i32 {
     }
     let fd = os::open_read(&word[..n]);
     if fd < 0 {
-        complain(b"playback: ", 10);
+        complain(b"playback: ", words::PREFIX);
         os::fail(&word[..n]);
     }
     fd
@@ -492,7 +492,7 @@ fn play_file(fd: i32, job: Job) -> u32 {
 }
 
 // Does what is asked for, and answers the exit status.
-fn answer(a: &[u64; 10]) -> u32 {
+fn answer(a: &[u64; arguments::NUMBERS]) -> u32 {
     let wrong = a[arguments::WRONG];
     if wrong != 0 {
         return misunderstood(wrong as usize);

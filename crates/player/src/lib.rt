@@ -10,6 +10,13 @@ ghost use Rattle.player.specs.Close.{separator, counterOf, jobOf, narrow
 use archive::Answer;
 use archive::Fields;
 
+// Bytes of an archive that a program has in hand at a time: more than the longest record that two size fields can claim, which is
+// record::HEADER + record::ENTRY * (65,535 + 65,535), so that a record is called short only where the archive ends inside it.
+pub const INPUT: usize = 1310720;
+
+// Digits of the largest number of 64 bits.
+pub const DIGITS: usize = 20;
+
 // No commit has this number.
 pub const NEVER: u64 = 4294967296;
 

@@ -10,21 +10,37 @@ ghost use Rattle.readers.specs.Readers.{serviceList, countsAt, serviceAt
 use archive::Answer;
 use archive::Fields;
 
-// How many numbers the service reader gives of a record.
-pub const SERVICE: usize = 8;
+// Where the service reader puts each number of a record, and how many they are.
+pub const START: usize = 0;
+
+pub const END: usize = START + 1;
+
+pub const READS: usize = END + 1;
+
+pub const WRITES: usize = READS + 1;
+
+pub const COMMIT: usize = WRITES + 1;
+
+pub const TRANSACTION: usize = COMMIT + 1;
+
+pub const STATION: usize = TRANSACTION + 1;
+
+pub const KIND: usize = STATION + 1;
+
+pub const SERVICE: usize = KIND + 1;
 
 fn put_service(out: &mut [u64], f: Fields)
     requires { ⌜ 8 ≤ length (now out) ⌝ }
     ensures { λ _. ⌜ now (out .exit) ≡ sets (now (out .entry)) 0 (serviceList f) ⌝ }
 {
-    out[0] = f.at as u64;
-    out[1] = f.end as u64;
-    out[2] = le::long(f.reads);
-    out[3] = le::long(f.writes);
-    out[4] = le::long(f.commit);
-    out[5] = le::long(f.transaction);
-    out[6] = le::long(f.station);
-    out[7] = le::long(f.kind);
+    out[START] = f.at as u64;
+    out[END] = f.end as u64;
+    out[READS] = le::long(f.reads);
+    out[WRITES] = le::long(f.writes);
+    out[COMMIT] = le::long(f.commit);
+    out[TRANSACTION] = le::long(f.transaction);
+    out[STATION] = le::long(f.station);
+    out[KIND] = le::long(f.kind);
 }
 
 // The counts reader. The counts of the record of this commit go to the start of `out`: 1 where `out` has no room for the longest,

@@ -11,8 +11,10 @@ pub const PRICE: usize = 8;
 
 pub const STEP: usize = PRICE + 4;
 
-// Bytes of the longest table, of 16 steps.
-pub const LONGEST: usize = 16 * STEP;
+// "1 to 16 steps", and the bytes of the longest table.
+pub const STEPS: usize = 16;
+
+pub const LONGEST: usize = STEPS * STEP;
 
 fn upper(table: &[u8], i: usize) -> u64
     requires { ⌜ stepLength * i + stepLength ≤ length (now table) ⌝ }

@@ -16,6 +16,11 @@ use libc::STDOUT_FILENO;
 // Bytes asked of one read.
 const CHUNK: usize = 131072;
 
+// Room for a line, of six numbers and 512 entries at most, and for the closing line.
+const LINE: usize = 16384;
+
+const CLOSING: usize = 64;
+
 // What is asked for.
 const COUNTS: u8 = 1;
 
@@ -102,7 +107,7 @@ fn put_text(line: &mut [u8], at: usize, text: &[u8]) -> usize {
 }
 
 fn put_number(line: &mut [u8], at: usize, n: u64) -> usize {
-    let mut text = [0u8; 20];
+    let mut text = [0u8; player::DIGITS];
     let k = io::decimal(n, &mut text);
     put_text(line, at, &text[..k])
 }
@@ -172,15 +177,15 @@ fn put_entry(line: &mut [u8], at: usize, part: &[u8], entries: u32, i: u32, read
 }
 
 // The line of a record: its numbers, and each entry, reads first.
-fn service_line(line: &mut [u8], part: &[u8], fields: &[u64; 8]) -> usize {
-    let reads = (fields[2] % 65536) as u32;
-    let writes = (fields[3] % 65536) as u32;
-    let at = put_number(line, 0, fields[4]);
-    let at = put_column(line, at, fields[6]);
-    let at = put_column(line, at, fields[7]);
-    let at = put_column(line, at, fields[5]);
-    let at = put_column(line, at, fields[2]);
-    let mut next = put_column(line, at, fields[3]);
+fn service_line(line: &mut [u8], part: &[u8], fields: &[u64; readers::SERVICE]) -> usize {
+    let reads = (fields[readers::READS] % 65536) as u32;
+    let writes = (fields[readers::WRITES] % 65536) as u32;
+    let at = put_number(line, 0, fields[readers::COMMIT]);
+    let at = put_column(line, at, fields[readers::STATION]);
+    let at = put_column(line, at, fields[readers::KIND]);
+    let at = put_column(line, at, fields[readers::TRANSACTION]);
+    let at = put_column(line, at, fields[readers::READS]);
+    let mut next = put_column(line, at, fields[readers::WRITES]);
     let entries = reads + writes;
     let mut i: u32 = 0;
     while i < entries {
@@ -192,7 +197,7 @@ fn service_line(line: &mut [u8], part: &[u8], fields: &[u64; 8]) -> usize {
 
 // Plays the record at the start of `part` and shows all of it.
 fn service(part: &[u8], last: &mut u32, values: &mut [u64; 256], line: &mut [u8]) -> u32 {
-    let mut fields = [0u64; 8];
+    let mut fields = [0u64; readers::SERVICE];
     let number = readers::wax_service_record(part, values, last, &mut fields);
     if number != 0 {
         return number;
@@ -207,7 +212,7 @@ fn show(part: &[u8], asked: u8, last: &mut u32, values: &mut [u64; 256], line: &
         return service(part, last, values, line);
     }
     let before = *last;
-    let mut counts = [0u8; 2310];
+    let mut counts = [0u8; counts::LONGEST];
     let number = counts::wax_counts_record(part, values, last, &mut counts);
     if number != 0 {
         return number;
@@ -294,7 +299,7 @@ fn close(asked: u8, line: &[u8], length: usize, digit: &[u8]) {
 
 // `refused N after K`.
 fn refuse(asked: u8, number: u32, last: u32) {
-    let mut line = [0u8; 64];
+    let mut line = [0u8; CLOSING];
     let at = put_text(&mut line, 0, b"refused ");
     let at = put_number(&mut line, at, le::long(number));
     let at = put_text(&mut line, at, b" after ");
@@ -305,7 +310,7 @@ fn refuse(asked: u8, number: u32, last: u32) {
 
 // `end K`.
 fn end(asked: u8, last: u32) {
-    let mut line = [0u8; 64];
+    let mut line = [0u8; CLOSING];
     let at = put_text(&mut line, 0, b"end ");
     let at = put_number(&mut line, at, le::long(last));
     let at = put_byte(&mut line, at, b'\n');
@@ -387,8 +392,8 @@ fn run(input: &mut [u8], line: &mut [u8], asked: u8) {
     }
 }
 
-// The buffers come as arrays: their lengths are then known by their types. A line has six numbers and 512 entries at most.
-fn start(input: &mut [u8; 1310720], line: &mut [u8; 16384], asked: u8) {
+// The buffers come as arrays: their lengths are then known by their types.
+fn start(input: &mut [u8; player::INPUT], line: &mut [u8; LINE], asked: u8) {
     run(input, line, asked);
 }
 
@@ -407,8 +412,8 @@ fn view(asked: u8) {
         status(b"3");
         return;
     }
-    let mut input = [0u8; 1310720];
-    let mut line = [0u8; 16384];
+    let mut input = [0u8; player::INPUT];
+    let mut line = [0u8; LINE];
     start(&mut input, &mut line, asked);
 }
 

@@ -9,6 +9,9 @@ use fault::Fault;
 // No line is longer.
 pub const LINE: usize = 256;
 
+// The name of the playback program in front of a line, with colon and space: other programs leave it out.
+pub const PREFIX: usize = 10;
+
 // Each function below that puts something answers the position behind it.
 
 // Puts a number between two texts.

@@ -1,140 +1,66 @@
 -- `block_writer::put_value` meets its contract.
+use Prim.Native.Nat.{_-_, _≤_}
+use mathlib.Core.Path.{_≡_, _∙_}
+use native.Mathlib.Numerals.{add-one}
 use native.Mathlib.Omega.{arith}
-use lib.ListN.{length-set}
-use Rattle.block_writer.specs.Stores.{value-stored}
+use lib.ListN.{length, length-set}
 use borrow.Author.Needs.{needs}
+use Rattle.layout.specs.Record.{valueLength}
+use Rattle.block_writer.specs.Stores.{stripedTo, value-stored}
 use Rattle.block_writer.proofs.put_value.Statement.{statement}
 use Rattle.block_writer.proofs.put_value.Tie as tie
 
-add-p1 : tie.Need-add-p1
-add-p1 c = search needs
+abbrev Inv-loop : tie.InvT-loop
+Inv-loop to₀ p t s a k₀ to k = (k ≤ valueLength) × (length to ≡ length to₀) × (to ≡ stripedTo s to₀ p t a k)
 
-add-p2 : tie.Need-add-p2
-add-p2 c = search needs
+abbrev μ-loop : tie.MeasureT-loop
+μ-loop to₀ p t s a k₀ to k = valueLength - k
 
-add-p3 : tie.Need-add-p3
-add-p3 c = search needs
+loop-holds : tie.Need-loop-holds Inv-loop μ-loop
+unfolding stripedTo
+loop-holds c = search needs
 
-add-p4 : tie.Need-add-p4
-add-p4 c = search needs
+plane-at-requires : tie.Need-plane-at-requires Inv-loop μ-loop
+plane-at-requires c κs = search needs
 
-add-p5 : tie.Need-add-p5
-add-p5 c = search needs
-
-add-p6 : tie.Need-add-p6
-add-p6 c = search needs
-
-add-p7 : tie.Need-add-p7
-add-p7 c = search needs
-
-shared-slice-read-to : tie.Need-shared-slice-read-to
-shared-slice-read-to c = search needs
-
-slice-write-to : tie.Need-slice-write-to
-slice-write-to c = search needs
-
-add-to : tie.Need-add-to
+add-to : tie.Need-add-to Inv-loop μ-loop
 add-to c = search needs
 
-shared-slice-read-to-2 : tie.Need-shared-slice-read-to-2
-shared-slice-read-to-2 c = search needs
+shared-slice-read-to : tie.Need-shared-slice-read-to Inv-loop μ-loop
+shared-slice-read-to c = search needs
 
-slice-write-to-2 : tie.Need-slice-write-to-2
-slice-write-to-2 c = simp length-set (omega arith)
+slice-write-to : tie.Need-slice-write-to Inv-loop μ-loop
+slice-write-to c = search needs
 
-add-to-2 : tie.Need-add-to-2
-add-to-2 c = search needs
+add-k : tie.Need-add-k Inv-loop μ-loop
+add-k c = search needs
 
-shared-slice-read-to-3 : tie.Need-shared-slice-read-to-3
-shared-slice-read-to-3 c = search needs
+loop-less : tie.Need-loop-less Inv-loop μ-loop
+loop-less c = search needs
 
-slice-write-to-3 : tie.Need-slice-write-to-3
-slice-write-to-3 c = simp length-set (omega arith)
+loop-again : tie.Need-loop-again Inv-loop μ-loop
+unfolding stripedTo
+loop-again c = (search needs, simp length-set (search needs), rw add-one (cc))
 
-add-to-3 : tie.Need-add-to-3
-add-to-3 c = search needs
+same-length : tie.Need-same-length Inv-loop μ-loop
+same-length c = search needs
 
-shared-slice-read-to-4 : tie.Need-shared-slice-read-to-4
-shared-slice-read-to-4 c = search needs
-
-slice-write-to-4 : tie.Need-slice-write-to-4
-slice-write-to-4 c = simp length-set (omega arith)
-
-add-to-4 : tie.Need-add-to-4
-add-to-4 c = search needs
-
-shared-slice-read-to-5 : tie.Need-shared-slice-read-to-5
-shared-slice-read-to-5 c = search needs
-
-slice-write-to-5 : tie.Need-slice-write-to-5
-slice-write-to-5 c = simp length-set (omega arith)
-
-add-to-5 : tie.Need-add-to-5
-add-to-5 c = search needs
-
-shared-slice-read-to-6 : tie.Need-shared-slice-read-to-6
-shared-slice-read-to-6 c = search needs
-
-slice-write-to-6 : tie.Need-slice-write-to-6
-slice-write-to-6 c = simp length-set (omega arith)
-
-add-to-6 : tie.Need-add-to-6
-add-to-6 c = search needs
-
-shared-slice-read-to-7 : tie.Need-shared-slice-read-to-7
-shared-slice-read-to-7 c = search needs
-
-slice-write-to-7 : tie.Need-slice-write-to-7
-slice-write-to-7 c = simp length-set (omega arith)
-
-add-to-7 : tie.Need-add-to-7
-add-to-7 c = search needs
-
-shared-slice-read-to-8 : tie.Need-shared-slice-read-to-8
-shared-slice-read-to-8 c = search needs
-
-slice-write-to-8 : tie.Need-slice-write-to-8
-slice-write-to-8 c = simp length-set (omega arith)
-
-same-length : tie.Need-same-length
-same-length c = simp length-set
-
-returns : tie.Need-returns
-returns c = let g = c .before .before .before .before .before .before .before .before .args in value-stored (g .s .now) (g .to .now) (g .p) (g .t) (g .a)
+returns : tie.Need-returns Inv-loop μ-loop
+returns c = c .before .loop .inv .2 ∙ value-stored _ _ _ _ _ _ (omega arith)
 
 pub put-value-spec : {M : Type 1} → statement M
 put-value-spec =
     tie.close
     (tie.spec
-    add-p1
-    add-p2
-    add-p3
-    add-p4
-    add-p5
-    add-p6
-    add-p7
+    Inv-loop
+    μ-loop
+    loop-holds
+    plane-at-requires
+    add-to
     shared-slice-read-to
     slice-write-to
-    add-to
-    shared-slice-read-to-2
-    slice-write-to-2
-    add-to-2
-    shared-slice-read-to-3
-    slice-write-to-3
-    add-to-3
-    shared-slice-read-to-4
-    slice-write-to-4
-    add-to-4
-    shared-slice-read-to-5
-    slice-write-to-5
-    add-to-5
-    shared-slice-read-to-6
-    slice-write-to-6
-    add-to-6
-    shared-slice-read-to-7
-    slice-write-to-7
-    add-to-7
-    shared-slice-read-to-8
-    slice-write-to-8
+    add-k
+    loop-less
+    loop-again
     same-length
     returns)
