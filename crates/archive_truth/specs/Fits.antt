@@ -11,7 +11,7 @@ use Rattle.sets.specs.Laws.{byB, byEq, eqb-yes, eqb-no, ltb-yes}
 use Rattle.line.specs.All.{All, all-append}
 use Rattle.line.specs.Messages.{pageOf, lastNumber, locking, Work, Up, ReadRequest, WriteRequest, Commit, Abort, Purge, Busy, Done, WrittenSet, Lock, NoLock, ObjectLock, WholeLock, Down, Page, Deescalate, Callback, Committed, Aborted, Invalidate, Sent, To, Rec, Answer, Nothing, Begun, Value, Waits, Written, CommittedAs, AbortedFor, Purged, Refused, Empty}
 use Rattle.line.specs.Station as S
-use Rattle.line.specs.Station.{Station, Did, unless, Wait, Idle, ForRead, ForWrite, ForCommit, waiting, Kept, NotKept, KeptCall, shown, mayWrite, usedAt, usedPage, forCommit, live, ended, fits, checkBegin, openThen, checkOpen, longRead, longWrite, checkAddress, checkPurge, dropPages, recordRead, writeLocal, mark, doCallback, doKept, doAllKept, closed, close, undo, ownBegin, readLocal, readAsk, readAs, ownRead, writeAsk, ownWrite, ownCommit, ownAbort, ownPurge, arrive, takeLock, answerWait, onPage, onDeescalate, onCallback, onCommitted, onAborted, onInvalidate, onDown, stationStep}
+use Rattle.line.specs.Station.{Station, Did, unless, Wait, Idle, ForRead, ForWrite, ForCommit, waiting, Kept, NotKept, KeptCall, shown, mayWrite, usedAt, forCommit, live, ended, fits, checkBegin, openThen, checkOpen, longRead, longWrite, checkAddress, checkPurge, dropPages, recordRead, writeLocal, mark, doCallback, doKept, doAllKept, closed, close, undo, ownBegin, readLocal, readAsk, readAs, ownRead, writeAsk, ownWrite, ownCommit, ownAbort, ownPurge, arrive, takeLock, answerWait, onPage, onDeescalate, onCallback, onCommitted, onAborted, onInvalidate, onDown, stationStep}
 use Rattle.line.specs.Server.{Server, Serving, Waiter, noWaiter, Want, NoWant, WantRead, WantWrite, WantCommit, unexpected, notice, finish, join, leave, sendPage, abort, informed, write, archive, inform, informFrom, install, serveNow, joinRead, joinWrite, joinCommit, commitNow, unlist, openCall, markBusy, answered, openAsk, loosen, accept, ask, serveRead, concerned, callsFrom, call, grantPage, grantObject, installWaiter, start, serverStep}
 use Rattle.line.specs.Pass.{Atomic, if-keeps, step-keeps}
 use Rattle.line.specs.Line.{World, Op, Begin, Read, Write, Commits, Aborts, Purges, Call, Owner, ServerTakes, StationTakes, Broken, fresh, worldDown, tell, sentTo, carryUp, carryDown, perform, ownerActs, stationTakes, serverTakes, act, run, isRefused}
@@ -285,7 +285,7 @@ lock-fits NoLock a s h = h
 lock-fits ObjectLock a s h = h
 lock-fits WholeLock a s h = h
 
-arrive-fits : (p v : ℕ) (u : ℕ → Bool) (x : ℕ → ℕ) (s : Station) → ((b : ℕ) → x b < 2 ^ 64) → StationFits s → StationFits (arrive p v u x s)
+arrive-fits : (p : ℕ) (v : ℕ → ℕ) (u : ℕ → Bool) (x : ℕ → ℕ) (s : Station) → ((b : ℕ) → x b < 2 ^ 64) → StationFits s → StationFits (arrive p v u x s)
 unfolding arrive
 arrive-fits p v u x s k h =
     record {
@@ -316,9 +316,9 @@ module _ (s : Station) (h : StationFits s) where
   down-fits (Committed t n) k = close-fits _ (h, tt)
   down-fits (Aborted t c) k = close-fits _ (undo-fits s h, tt)
   down-fits (Invalidate d) k =
-      if-did DidFits (any 32 (λ p. d p && usedPage s p) && not (forCommit (s .wait)))
-      (λ e. close-fits _ (undo-fits (dropPages d s) (drop-fits d s h), tt))
-      (λ e. (drop-fits d s h, tt))
+      if-did DidFits (any 256 (λ a. d a && usedAt s a) && not (forCommit (s .wait)))
+      (λ e. close-fits _ (undo-fits (mark d s) (mark-fits d s h), tt))
+      (λ e. (mark-fits d s h, tt))
 
   step-fits : (m : Down) → FitDown m → DidFits (stationStep m s)
   unfolding stationStep

@@ -13,12 +13,12 @@ use Rattle.station_callbacks.specs.Posting.{Whole}
 use Rattle.station_answer.specs.Did.{Outcome}
 use Rattle.message.specs.Layout.{messageLength}
 
--- "Messages, 112 bytes": the first n, one behind the other
+-- "every message is 144 bytes": the first n, one behind the other
 unfoldable pub messagesIn : List ℕ → ℕ → List (List ℕ)
 messagesIn o zero = []
 messagesIn o (suc n) = take messageLength o ∷ messagesIn (drop messageLength o) n
 
--- so message k stands at byte k × 112
+-- so message k stands behind k others
 pub message-at : (o : List ℕ) (n k : ℕ) → k < n → getD (messagesIn o n) k [] ≡ take messageLength (drop (k * messageLength) o)
 unfolding messagesIn
 message-at o zero k l = absurd (omega arith)
@@ -27,7 +27,7 @@ message-at o (suc n) (suc k) l =
     let next : messageLength + k * messageLength ≡ suc k * messageLength = omega arith in
     message-at (drop messageLength o) n k (omega arith) ∙ ap (take messageLength) (drop-drop (k * messageLength) messageLength o ∙ ap (λ (a : ℕ). drop a o) next)
 
--- each has 112 bytes
+-- each has the length of one
 abbrev pub Sized : List (List ℕ) → Type 0
 Sized [] = Unit {0}
 Sized (m ∷ ms) = (length m ≡ messageLength) × Sized ms

@@ -19,13 +19,13 @@ use Rattle.line.specs.Line.{Op, Begin, Read, Write, Commits, Aborts, Purges, pe
 use Rattle.line.specs.Bounds.{owner-bound, station-bound}
 use Rattle.line.specs.Fit.{FitStation}
 use Rattle.line.specs.FitCalls.{recorded, FitDid, owner-fit, station-fit}
-use Rattle.message.specs.Layout.{setsFrom, kindOf, stationOf, transactionOf, pagesOf}
+use Rattle.message.specs.Layout.{setsFrom, kindOf, stationOf, transactionOf}
 use Rattle.message.specs.Number.{lengthOk, downNumber, kindOk, kindsOk, upNumber}
 use Rattle.message_meaning.specs.Meant.{downOf}
 use Rattle.message_meaning.specs.Sent.{Reads}
 use Rattle.station_state.specs.Layout.{stateLength, station, wait, readSetFrom, writtenSetFrom, member}
 use Rattle.station_state.specs.Valid.{valid, freshened, freshState, freshOf}
-use Rattle.station_pages.specs.Pages.{inUseB, touchedB}
+use Rattle.station_pages.specs.Pages.{inUseB}
 use Rattle.station_callbacks.specs.Callbacks.{setsAt, flat}
 use Rattle.station_answer.specs.declared.Answer.{Answer}
 use Rattle.station_answer.specs.declared.Answer.the-variants.{Refused, Begun, Value, Waits, Written, Committed, Aborted, Purged, Nothing}
@@ -322,7 +322,7 @@ module _ (s : List ℕ) where
 
   invalidate-still : (x : List ℕ) → Still s (onInvalidateB x s)
   unfolding onInvalidateB
-  invalidate-still x = either (touchedB (pagesOf x) s && not (eqb (wait s) 3)) (taken refl) (taken refl)
+  invalidate-still x = either (inUseB (setsAt x setsFrom) s && not (eqb (wait s) 3)) (taken refl) (taken refl)
 
   down-still : (x : List ℕ) → Still s (onDownB x s)
   unfolding onDownB onDeescalateB onCommittedB onAbortedB

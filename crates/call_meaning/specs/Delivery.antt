@@ -13,17 +13,17 @@ use Rattle.cells.specs.Bits.{tb, tb-zero, tb-test}
 use Rattle.cells.specs.Upd.{cond-rel, eqb-diff}
 use Rattle.line.specs.Messages.{locking, Lock, NoLock, ObjectLock, WholeLock}
 use Rattle.line.specs.Messages as Line
-use Rattle.line.specs.Station.{Station, Idle, KeptCall, setWait, wrotePage, inUse, touched, doCallback, live, ended, waiting, forRead, forWrite, forCommit, fits, arrive, takeLock, answerWait, onPage, writtenOn, loosen, onDeescalate, onCallback, onCommitted, onAborted, onInvalidate, onDown, stationStep}
+use Rattle.line.specs.Station.{Station, Idle, KeptCall, setWait, inUse, doCallback, live, ended, waiting, forRead, forWrite, forCommit, fits, arrive, takeLock, answerWait, onPage, writtenOn, loosen, onDeescalate, onCallback, onCommitted, onAborted, onInvalidate, onDown, stationStep}
 use Rattle.line.specs.Station as Model
-use Rattle.message.specs.Layout.{setsFrom, messageLength, kindOf, stationOf, pageOf, requesterOf, objectOf, causeOf, transactionOf, pagesOf, versionOf, setOf, upMessage}
+use Rattle.message.specs.Layout.{setsFrom, messageLength, kindOf, stationOf, pageOf, requesterOf, objectOf, causeOf, transactionOf, versionOf, setOf, upMessage}
 use Rattle.message.specs.Number.{downNumber}
-use Rattle.message_meaning.specs.Meant.{objectsOn, objectsIn, setsOf, valuesOn, pageAt, downOf}
+use Rattle.message_meaning.specs.Meant.{objectsOn, objectsIn, setsOf, valuesOn, versionsOn, pageAt, downOf}
 use Rattle.message_meaning.specs.Kinds.{down-16, down-17, down-18, down-19, down-20, down-21, down-22, down-23, sets-at}
 use Rattle.message.specs.Accepted.{DownAccepted, down-accepted, fields-fit}
 use Rattle.message_meaning.specs.Sent.{Reads, busy-sent, written-set-sent}
 use Rattle.station_state.specs.Layout.{writtenValue, station, wait, address, waitingValue, writtenSet, writtenSetFrom, whole, hasBit, member}
 use Rattle.station_state.specs.Changes.{loosenB}
-use Rattle.station_pages.specs.Pages.{inUseB, touchedB}
+use Rattle.station_pages.specs.Pages.{inUseB}
 use Rattle.station_callbacks.specs.Callbacks.{sends, setsAt}
 use Rattle.station_answer.specs.declared.Answer.{Answer}
 use Rattle.station_answer.specs.declared.Answer.the-variants.{Committed, Aborted, Nothing}
@@ -33,11 +33,11 @@ use Rattle.station_delivery.specs.Delivery.{liveB, endedB, forReadOf, forWriteO
 use Rattle.station.specs.Station.{checkStepB, stationStepB}
 use Rattle.station_meaning.specs.Meant.{Is, waitOf}
 use Rattle.station_meaning.specs.Named.{named}
-use Rattle.station_meaning.specs.Tests.{has-if, station-at, kind-at, number-at, open-at, wait-le, address-lt, waitingValue-lt, wait-is, waiting-at, forCommit-at, forRead-at, forWrite-at, whole-at, wrote-at, copy-at, inUse-at, touched-at}
+use Rattle.station_meaning.specs.Tests.{has-if, station-at, kind-at, number-at, open-at, wait-le, address-lt, waitingValue-lt, wait-is, waiting-at, forCommit-at, forRead-at, forWrite-at, whole-at, wrote-at, copy-at, inUse-at}
 use Rattle.station_meaning.specs.Changes.{recordRead-is, writeLocal-is, idle-is, lockObject-is, lockWhole-is, loosen-is, keep-is}
-use Rattle.station_meaning.specs.Pages.{drop-is, arrive-is, versions-is}
+use Rattle.station_meaning.specs.Pages.{mark-is, arrive-is, versions-is}
 use Rattle.call_meaning.specs.Relation.{answerOf, Sound, ReadAs, Sending, Means}
-use Rattle.call_meaning.specs.Callbacks.{sound-same, sound-drop, sound-undo, sound-read, sound-write, sound-versions, sound-keep, sets-bytes, callback-means as done-means, ends-means, undo-means}
+use Rattle.call_meaning.specs.Callbacks.{sound-same, sound-mark, sound-undo, sound-read, sound-write, sound-versions, sound-keep, sets-bytes, callback-means as done-means, ends-means, undo-means}
 
 -- WHAT FITS
 
@@ -118,7 +118,7 @@ kindFor ObjectLock = 17
 kindFor WholeLock = 18
 
 -- number 1 looks at neither copies, locks nor waits
-sound-arrived : {i : ℕ} {m : Station} (l : Lock) (a p v : ℕ) (u : ℕ → Bool) (x : ℕ → ℕ) → Sound i m → Sound i (setWait (arrive p v u x (takeLock l a m)) Idle)
+sound-arrived : {i : ℕ} {m : Station} (l : Lock) (a p : ℕ) (v : ℕ → ℕ) (u : ℕ → Bool) (x : ℕ → ℕ) → Sound i m → Sound i (setWait (arrive p v u x (takeLock l a m)) Idle)
 unfolding arrive takeLock
 sound-arrived {i} {m} NoLock a p v u x = sound-same (setWait (arrive p v u x (takeLock NoLock a m)) Idle) refl refl refl refl
 sound-arrived {i} {m} ObjectLock a p v u x = sound-same (setWait (arrive p v u x (takeLock ObjectLock a m)) Idle) refl refl refl refl
@@ -148,7 +148,7 @@ module _ {i : ℕ} {s : List ℕ} {m : Station} (h : Is i s m) (x : List ℕ) (p
 
   arrived-is : AllBytes x → (l : Lock) → kindOf x ≡ kindFor l
       → Is i (arrivedB x s)
-      (setWait (arrive (addressOf x / 8) (versionOf x) (objectsOn (pageOf x) (setOf x 0)) (valuesOn (pageOf x) x) (takeLock l (addressOf x) m)) Idle)
+      (setWait (arrive (addressOf x / 8) (versionsOn (pageOf x) x) (objectsOn (pageOf x) (setOf x 0)) (valuesOn (pageOf x) x) (takeLock l (addressOf x) m)) Idle)
   unfolding arrivedB
   arrived-is b l e = rw address-page (idle-is (arrive-is (takeLock-is l e) x (pageOf x) b page-lt))
 
@@ -158,11 +158,11 @@ module _ {i : ℕ} {s : List ℕ} {m : Station} (h : Is i s m) (x : List ℕ) (p
       let t = transactionOf x in
       let u = objectsOn (pageOf x) (setOf x 0) in
       let v = valuesOn (pageOf x) x in
-      let n = setWait (arrive (addressOf x / 8) (versionOf x) u v (takeLock l (addressOf x) m)) Idle in
+      let n = setWait (arrive (addressOf x / 8) (versionsOn (pageOf x) x) u v (takeLock l (addressOf x) m)) Idle in
       cond-rel (Means i) (endedB s t) (ended m t) (ended-at h t)
       (record { answer = refl; state = h; sound = q; sent = tt })
       (subst (λ w. Means i (answerWaitB (wait s) (address s) (waitingValue s) (arrivedB x s)) (answerWait w n)) (sym (wait-is h))
-      (answer-means (arrived-is b l e) (sound-arrived l (addressOf x) (addressOf x / 8) (versionOf x) u v q) (wait s) (address s) (waitingValue s) (wait-le h) (address-lt h) (waitingValue-lt h)))
+      (answer-means (arrived-is b l e) (sound-arrived l (addressOf x) (addressOf x / 8) (versionsOn (pageOf x) x) u v q) (wait s) (address s) (waitingValue s) (wait-le h) (address-lt h) (waitingValue-lt h)))
 
 -- A LOCK LOOSENED
 
@@ -268,12 +268,12 @@ module _ {i : ℕ} {s : List ℕ} {m : Station} (h : Is i s m) (q : Sound i m) (
       (let k = done-means i r t y (nothing-sent Nothing h q) c (f .requester-is) (f .transaction-not-0) transaction-lt in
       record { answer = refl; state = k .state; sound = k .sound; sent = k .sent }))
 
-  -- "On 21 written pages take the commit number as version."
+  -- "on 21 the written objects, no longer their pages, take the commit number"
   pub committed-means : kindOf x ≡ 21 → Means i (onCommittedB x s) (onDown (downOf x) m)
   unfolding onCommittedB onDown onCommitted
   committed-means e =
       let n = versionOf x in
-      let v : ℕ → ℕ = λ p. cond (m .cached p && wrotePage m p) n (m .cver p) in
+      let v : ℕ → ℕ = λ c. cond (m .cached (c / 8) && has (m .wr c)) n (m .cver c) in
       rw (down-21 x e, station-at h)
       (ends-means (Committed n) (nothing-sent (Committed n) (versions-is h n (fields-fit x (bytes-all x b) .version-fits)) (sound-versions v q)) refl)
 
@@ -287,12 +287,12 @@ module _ {i : ℕ} {s : List ℕ} {m : Station} (h : Is i s m) (q : Sound i m) (
   pub invalidate-means : kindOf x ≡ 23 → Means i (onInvalidateB x s) (onDown (downOf x) m)
   unfolding onInvalidateB onDown onInvalidate
   invalidate-means e =
-      let d = pagesOf x in
-      let l = fields-fit x (bytes-all x b) .pages-fit in
-      let k = drop-is h d l in
-      let r = sound-drop (tb d) q in
-      rw (down-23 x e, station-at h)
-      (cond-rel (Means i) (touchedB d s && not (eqb (wait s) 3)) (touched (tb d) m && not (forCommit (m .wait))) (rw (touched-at h d l, forCommit-at h))
+      let y = setsAt x setsFrom in
+      let c = sets-bytes x setsFrom b in
+      let k = mark-is h y c in
+      let r = sound-mark (named y) q in
+      rw (down-23 x e, sets-named x, station-at h)
+      (cond-rel (Means i) (inUseB y s && not (eqb (wait s) 3)) (inUse (named y) m && not (forCommit (m .wait))) (rw (inUse-at h y c, forCommit-at h))
       (ends-means (Aborted 2) (nothing-sent (Aborted 2) (undo-means k r) (sound-undo r)) refl)
       (record { answer = refl; state = k; sound = r; sent = tt }))
 

@@ -199,7 +199,7 @@ module _ {i : ℕ} {s : List ℕ} {m : Station} (h : Is i s m) (q : Sound i m) w
 
   mayWrite-at : (a : ℕ) → a < 256 → mayWriteB a s ≡ mayWrite a m
   unfolding mayWriteB
-  mayWrite-at a l = rw (kind-at h, lock-at h a l, whole-at h (a / 8), cached-at h (a / 8))
+  mayWrite-at a l = rw (kind-at h, lock-at h a l, whole-at h (a / 8), shown-at a l)
 
   -- "else sends 2 .. else sends 1"
   request-either : (a : ℕ) → a < 256 → m .opened ≡ true

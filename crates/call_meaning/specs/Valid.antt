@@ -1,7 +1,7 @@
 -- Number 1 of a station's state: a state that passes means a station that fits, a state that means one passes; and a fresh one.
 use Prim.Native.Nat.{ℕ, zero, suc, _+_, _≤_, _<_, _/_, _%_, _^_}
 use mathlib.Core.Path.{_≡_, refl, sym, ap, subst, _∙_, fun-ext}
-use mathlib.Core.Bool.{Bool, true, false, not, _&&_, _||_, or-false, false≢true}
+use mathlib.Core.Bool.{Bool, true, false, not, cond, _&&_, _||_, or-false, false≢true}
 use mathlib.Core.List.{List}
 use mathlib.Core.Logic.{_≢_}
 use native.Mathlib.Omega.{arith}
@@ -17,7 +17,7 @@ use Rattle.cells.specs.Num.{AllBytes}
 use Rattle.cells.specs.Bits.{tb, tb-zero, tb-test, tb-tells}
 use Rattle.cells.specs.Cells.{Cells, view, view-zero, view-col, view-row, cell-lt, upd3, Holds, begin, put8, get8, get32}
 use Rattle.line.specs.Messages.{locking}
-use Rattle.line.specs.Station.{Station, Wait, Idle, ForRead, waiting, forRead, forWrite, Kept, NotKept, KeptCall, setCached, setUnav, setRd, setWr, setOl, setWl, freshStation}
+use Rattle.line.specs.Station.{Station, Wait, Idle, ForRead, waiting, forRead, forWrite, Kept, NotKept, KeptCall, setCached, setUnav, setRd, setWr, setSeen, setOl, setWl, freshStation}
 use Rattle.line.specs.Station as Model
 use Rattle.line.specs.Fit.{Works, Locked, KeptFits, Callbacks, LimitedStation, FitStation}
 use Rattle.line.specs.FitCalls.{fit-new}
@@ -338,9 +338,10 @@ fresh-cells i k =
     let pages : _≡_ {A = ℕ → Bool} (tb 0) nowhere = fun-ext tb-zero in
     let objects : _≡_ {A = ℕ → Bool} (within zeros) nowhere = fun-ext (λ a. tb-zero (a % 8)) in
     let values : _≡_ {A = ℕ → Val} (λ a. valueIf (within zeros a) 0) noneAt = ap {B = ℕ → Val} (λ (f : ℕ → Bool) a. valueIf (f a) 0) objects in
+    let versions : _≡_ {A = ℕ → ℕ} (λ a. cond (within zeros a || within zeros a) 0 0) zeros = ap {B = ℕ → ℕ} (λ (f : ℕ → Bool) a. cond (f a || f a) 0 0) objects in
     λ t.
     setWl
-    (setOl (setWr (setRd (setUnav (setCached (freshStation k) (pages t)) (objects t)) (values t)) (values t)) (objects t))
+    (setOl (setSeen (setWr (setRd (setUnav (setCached (freshStation k) (pages t)) (objects t)) (values t)) (values t)) (versions t)) (objects t))
     (pages t)
 
 -- n is the state's length: a variable, so that nothing computes the zeros

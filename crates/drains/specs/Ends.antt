@@ -84,7 +84,7 @@ same-ended e f (inl h) = inl (e ∙ h)
 same-ended e f (inr h) = inr (ap forCommit f ∙ h)
 
 pub step-ended : (m : Down) (s : Station) → Ended s → Ended ((stationStep m s) .station)
-unfolding onDeescalate onCommitted onAborted dropPages
+unfolding onDeescalate onCommitted onAborted mark
 step-ended m s =
     takes s (λ m d. Ended s → Ended (d .station))
     (record {
@@ -150,7 +150,7 @@ lock-opened ObjectLock a s = refl
 lock-opened WholeLock a s = refl
 
 pub step-closed : (m : Down) (s : Station) → s .opened ≡ false → (stationStep m s) .station .opened ≡ false
-unfolding onDeescalate onCommitted onAborted dropPages
+unfolding onDeescalate onCommitted onAborted mark
 step-closed m s =
     takes s (λ m d. s .opened ≡ false → d .station .opened ≡ false)
     (record {

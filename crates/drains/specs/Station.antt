@@ -5,10 +5,10 @@ use mathlib.Core.List.{List, [], _∷_, _++_}
 use Prim.Native.Nat.{ℕ, zero, suc, _+_, _*_, _≤_, _<_}
 use native.Mathlib.Omega.{arith}
 use lib.Dec.{eqb}
-use Rattle.sets.specs.Base.{upd, snoc, any, turned}
+use Rattle.sets.specs.Base.{upd, snoc, any, turned, has}
 use Rattle.sets.specs.Laws.{byB, byEq, eqb-same, eqb-yes, eqb-no}
-use Rattle.line.specs.Messages.{locking, Up, Done, Lock, NoLock, ObjectLock, WholeLock, Down, Page, Deescalate, Callback, Committed, Aborted, Invalidate, Nothing, CommittedAs, AbortedFor}
-use Rattle.line.specs.Station.{Station, Did, didStation, does, unless, setKept, setCver, wrotePage, Wait, Idle, ForRead, ForWrite, ForCommit, forCommit, Kept, NotKept, KeptCall, dropPages, mark, doCallback, doKept, doAllKept, closed, close, undo, ended, fits, recordRead, writeLocal, arrive, takeLock, answerWait, onPage, loosen, live, onDeescalate, inUse, onCallback, onCommitted, onAborted, touched, onInvalidate, onDown, stationStep}
+use Rattle.line.specs.Messages.{locking, Up, Done, Lock, NoLock, ObjectLock, WholeLock, Down, Page, Deescalate, Callback, Committed, Aborted, Invalidate, Nothing, CommittedAs, AbortedFor, pageOf}
+use Rattle.line.specs.Station.{Station, Did, didStation, does, unless, setKept, setCver, Wait, Idle, ForRead, ForWrite, ForCommit, forCommit, Kept, NotKept, KeptCall, dropPages, mark, doCallback, doKept, doAllKept, closed, close, undo, ended, fits, recordRead, writeLocal, arrive, takeLock, answerWait, onPage, loosen, live, onDeescalate, inUse, onCallback, onCommitted, onAborted, onInvalidate, onDown, stationStep}
 use Rattle.line.specs.Fuel.{sumTo, sum-at, nb}
 use Rattle.line.specs.Bounds.{undo-kept}
 use Rattle.progress.specs.Clauses.{isKept}
@@ -53,7 +53,7 @@ wait-weighs (ForRead a) s = omega arith
 wait-weighs (ForWrite a v) s = omega arith
 wait-weighs ForCommit s = omega arith
 
-arrive-kept : (l : Lock) (a p v : ℕ) (u : ℕ → Bool) (x : ℕ → ℕ) (s : Station) → (arrive p v u x (takeLock l a s)) .kept ≡ s .kept
+arrive-kept : (l : Lock) (a p : ℕ) (v : ℕ → ℕ) (u : ℕ → Bool) (x : ℕ → ℕ) (s : Station) → (arrive p v u x (takeLock l a s)) .kept ≡ s .kept
 unfolding arrive takeLock
 arrive-kept NoLock a p v u x s = refl
 arrive-kept ObjectLock a p v u x s = refl
@@ -64,7 +64,7 @@ unfolding onDeescalate loosen
 deescalate-weighs p t s = byB (live s t && s .wl p) (λ e. rw e (omega arith)) (λ e. rw e (omega arith))
 
 down-weighs : (m : Down) (s : Station) → weighDid (onDown m s) ≤ weighKept (s .kept) + 2
-unfolding onDown onPage onCallback onCommitted onAborted onInvalidate dropPages
+unfolding onDown onPage onCallback onCommitted onAborted onInvalidate mark
 down-weighs (Page l a t v u x) s =
     byB (ended s t) (λ e. rw e (omega arith))
     (λ e. rw (e, wait-weighs, arrive-kept) (omega arith))
@@ -80,11 +80,11 @@ down-weighs (Callback r t set) s =
     )))
     (λ e. rw e (omega (arith, done-weighs r t set (does Nothing s []))))
 down-weighs (Committed t n) s =
-    omega (arith, close-weighs (does (CommittedAs n) (setCver s (λ p. cond (s .cached p && wrotePage s p) n (s .cver p))) []))
+    omega (arith, close-weighs (does (CommittedAs n) (setCver s (λ a. cond (s .cached (pageOf a) && has (s .wr a)) n (s .cver a))) []))
 down-weighs (Aborted t c) s = omega (arith, close-weighs (does (AbortedFor c) (undo s) []), ap weighKept (undo-kept s))
 down-weighs (Invalidate d) s =
-    byB (touched d s && not (forCommit (s .wait)))
-    (λ e. rw e (omega (arith, close-weighs (does (AbortedFor 2) (undo (dropPages d s)) []), ap weighKept (undo-kept (dropPages d s)))))
+    byB (inUse d s && not (forCommit (s .wait)))
+    (λ e. rw e (omega (arith, close-weighs (does (AbortedFor 2) (undo (mark d s)) []), ap weighKept (undo-kept (mark d s)))))
     (λ e. rw e (omega arith))
 
 pub step-weighs : (m : Down) (s : Station) → weighDid (stationStep m s) ≤ weighKept (s .kept) + 2

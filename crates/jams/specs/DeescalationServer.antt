@@ -1,17 +1,17 @@
 -- The server's actions and de-escalation of page p at station j, under a server's step: t are the stations, u the up lines, d the down
 -- lines before the step.
 use mathlib.Core.Path.{_≡_, refl, sym, ap}
-use mathlib.Core.Bool.{Bool, true, false, not, _&&_, cond, false≢true}
+use mathlib.Core.Bool.{Bool, true, false, false≢true}
 use mathlib.Core.List.{List, _∷_, _++_}
 use mathlib.Core.Logic.{_≢_}
 use Prim.Native.Nat.{ℕ, suc, _<_}
 use native.Mathlib.Omega.{arith}
 use lib.Dec.{eqb}
-use Rattle.sets.specs.Base.{upd, upd2, snoc}
+use Rattle.sets.specs.Base.{upd, upd2, snoc, has}
 use Rattle.sets.specs.Laws.{byB, byEq, eqb-yes, eqb-no}
 use Rattle.line.specs.Messages.{pageOf, lastNumber, Work, Up, WrittenSet, Lock, NoLock, ObjectLock, WholeLock, Down, Page, Deescalate, Callback, Committed, Aborted, Invalidate}
 use Rattle.line.specs.Station.{Station}
-use Rattle.line.specs.Server.{End, ByCommit, ByCause, Server, Serving, onServer, send, setListed, setOl, setQueue, wrotePage, valuesOn, unavailable, Waiter, waiterPend, waiterCalled, NoWant, WantWrite, waits, badNumber, notice, finish, join, leave, sendPage, abort, write, archive, install, commitNow, markBusy, answered, loosen, ask, serveRead, concerned, call, grantObject, grantPage}
+use Rattle.line.specs.Server.{Server, Serving, onServer, send, setListed, setOl, setQueue, valuesOn, unavailable, Waiter, waiterPend, waiterCalled, NoWant, WantWrite, waits, badNumber, notice, finish, join, leave, sendPage, abort, write, archive, install, commitNow, markBusy, answered, loosen, ask, serveRead, concerned, call, grantObject, grantPage, End, ByCommit, ByCause}
 use Rattle.line.specs.Apart.{Apart, GoodNumber, good-number}
 use Rattle.line.specs.Line.{sentTo}
 use Rattle.line.specs.Truth.{count}
@@ -101,7 +101,7 @@ module _ (t : ℕ → Station) (u : ℕ → List Up) (d : ℕ → List Down) (j 
   pub install-de : (i : ℕ) (w : Work) (x : Serving) → DeIn t u d j p x → DeIn t u d j p (install i w x)
   install-de i w x h =
       installs (DeIn t u d j p) i w
-      (λ k y e g. send-de k (Invalidate (wrotePage w)) (onServer y (setListed (y .server) (λ h q. cond (eqb h k) (y .server .listed h q && not (wrotePage w q)) (y .server .listed h q)))) refl tt refl g)
+      (λ k y e g. send-de k (Invalidate (λ a. has (w .writes a))) y refl tt refl g)
       x (send-de i (Committed (w .transaction) _) (finish i ByCommit (archive i w (write w (leave i x)))) refl tt refl (installed-de i w x h))
 
   pub commit-de : (i : ℕ) (w : Work) (x : Serving) → DeIn t u d j p x → DeIn t u d j p (commitNow i w x)
@@ -109,11 +109,11 @@ module _ (t : ℕ → Station) (u : ℕ → List Up) (d : ℕ → List Down) (j 
   commit-de i w x h = if-serving (DeIn t u d j p) (eqb (x .server .last) lastNumber) (λ e. abort-de i 4 x h) (λ e. install-de i w x h)
 
   -- a page that brings no whole lock
-  pub page-de : (l : Lock) (i a : ℕ) (v : ℕ → Bool) (x : Serving) → ((b T n : ℕ) (y : ℕ → ℕ) → grantsWhole p (Page l b T n v y) ≡ false) → DeIn t u d j p x → DeIn t u d j p (sendPage l i a v x)
+  pub page-de : (l : Lock) (i a : ℕ) (v : ℕ → Bool) (x : Serving) → ((b T : ℕ) (n y : ℕ → ℕ) → grantsWhole p (Page l b T n v y) ≡ false) → DeIn t u d j p x → DeIn t u d j p (sendPage l i a v x)
   unfolding sendPage
   page-de l i a v x g h =
       let s : Server = x .server in
-      send-de i (Page l a (s .latest i) (s .ver (pageOf a)) v (valuesOn (pageOf a) (s .val))) (onServer x (setListed s (upd2 (s .listed) i (pageOf a) true))) refl tt (g a (s .latest i) (s .ver (pageOf a)) (valuesOn (pageOf a) (s .val))) h
+      send-de i (Page l a (s .latest i) (valuesOn (pageOf a) (s .ver)) v (valuesOn (pageOf a) (s .val))) (onServer x (setListed s (upd2 (s .listed) i (pageOf a) true))) refl tt (g a (s .latest i) (valuesOn (pageOf a) (s .ver)) (valuesOn (pageOf a) (s .val))) h
 
   pub read-de : (i : ℕ) (x : Serving) → DeIn t u d j p x → DeIn t u d j p (serveRead i x)
   unfolding serveRead
@@ -142,7 +142,7 @@ module _ (t : ℕ → Station) (u : ℕ → List Up) (d : ℕ → List Down) (j 
   whole-de i x n c h =
       let s : Server = x .server in
       let a : ℕ = s .queue i .req in
-      let m : Down = Page WholeLock a (s .latest i) (s .ver (pageOf a)) (unavailable s i a) (valuesOn (pageOf a) (s .val)) in
+      let m : Down = Page WholeLock a (s .latest i) (valuesOn (pageOf a) (s .ver)) (unavailable s i a) (valuesOn (pageOf a) (s .val)) in
       byEq p (pageOf a)
       (λ q.
       let free : s .wl p ≢ suc j = n (sym (eqb-yes p (pageOf a) q)) in

@@ -153,7 +153,7 @@ module _ (S : Server) (i p : ℕ) (U : List Up) (D : List Down) where
     Took m d = Known S i s U (m ∷ D) → DeAt S i p s U (m ∷ D) → DeDid S i p U D d
 
     -- a page brings the lock under which the owner's write is done [K7, K6d, N1]
-    wrote : (l : Lock) (a t v : ℕ) (u : ℕ → Bool) (x : ℕ → ℕ) (y : ℕ) → locking (s .kind) ≡ isLock l → Took (Page l a t v u x) (does Written (writeLocal a y (arrived l a v u x s)) [])
+    wrote : (l : Lock) (a t : ℕ) (v : ℕ → ℕ) (u : ℕ → Bool) (x : ℕ → ℕ) (y : ℕ) → locking (s .kind) ≡ isLock l → Took (Page l a t v u x) (does Written (writeLocal a y (arrived l a v u x s)) [])
     unfolding writeLocal arrive takeLock
     wrote NoLock a t v u x y e k h = rw (append-nil U) (writes (pop-down _ h) a y (λ f n q. absurd (unset S i p s U _ k e n)))
     wrote ObjectLock a t v u x y e k h = rw (append-nil U) (writes (pop-down _ h) a y (λ f n q. inr (k .locks .K7 .0)))

@@ -110,7 +110,7 @@ module _ {wr : ℕ → Val} {D : List Down} (k : Ranged wr D) where
         }
 
     -- 17: no drop of the page is on its way up
-    pub object-granted : (a t v : ℕ) (u : ℕ → Bool) (z : ℕ → ℕ) → count (dropped (pageOf a)) U ≡ 0
+    pub object-granted : (a t : ℕ) (v : ℕ → ℕ) (u : ℕ → Bool) (z : ℕ → ℕ) → count (dropped (pageOf a)) U ≡ 0
         → Locks i kind num opened wr ol wl (upd OL a (suc i)) WL latest U (snoc D (Page ObjectLock a t v u z))
     object-granted a t v u z n =
         let m : Down = Page ObjectLock a t v u z in
@@ -134,7 +134,7 @@ module _ {wr : ℕ → Val} {D : List Down} (k : Ranged wr D) where
         }
 
     -- 18
-    pub page-granted : (a t v : ℕ) (u : ℕ → Bool) (z : ℕ → ℕ) → count (dropped (pageOf a)) U ≡ 0
+    pub page-granted : (a t : ℕ) (v : ℕ → ℕ) (u : ℕ → Bool) (z : ℕ → ℕ) → count (dropped (pageOf a)) U ≡ 0
         → Locks i kind num opened wr ol wl OL (upd WL (pageOf a) (suc i)) latest U (snoc D (Page WholeLock a t v u z))
     page-granted a t v u z n =
         let m : Down = Page WholeLock a t v u z in

@@ -1,18 +1,18 @@
 -- The server's actions and the locks of station j, under a server's step: t are the stations, u the up lines, d the down lines before
 -- the step.
 use mathlib.Core.Path.{_≡_, refl, sym, ap, _∙_}
-use mathlib.Core.Bool.{Bool, true, false, not, _&&_, cond, false≢true}
+use mathlib.Core.Bool.{Bool, true, false, _&&_, cond, false≢true}
 use mathlib.Core.List.{List, _++_}
 use mathlib.Core.Logic.{_≢_}
 use Prim.Native.Nat.{ℕ, suc, _+_, _<_}
 use native.Mathlib.Omega.{arith}
 use lib.Dec.{eqb}
-use Rattle.sets.specs.Base.{upd, upd2}
+use Rattle.sets.specs.Base.{upd, upd2, has}
 use Rattle.sets.specs.Laws.{byB, byEq, eqb-yes, eqb-no, and-l}
 use Rattle.line.specs.All.{All, all-map}
 use Rattle.line.specs.Messages.{pageOf, lastNumber, Work, Up, NoLock, ObjectLock, WholeLock, Down, Page, Deescalate, Callback, Committed, Aborted, Invalidate}
 use Rattle.line.specs.Station.{Station}
-use Rattle.line.specs.Server.{End, ByCommit, ByCause, Server, Serving, onServer, send, setListed, setAsked, Waiter, wrotePage, valuesOn, unavailable, notice, finish, leave, sendPage, abort, write, archive, install, commitNow, loosen, ask, serveRead, concerned, call, grantObject, grantPage}
+use Rattle.line.specs.Server.{Server, Serving, onServer, send, setListed, setAsked, Waiter, valuesOn, unavailable, notice, finish, leave, sendPage, abort, write, archive, install, commitNow, loosen, ask, serveRead, concerned, call, grantObject, grantPage, End, ByCommit, ByCause}
 use Rattle.line.specs.Line.{sentTo}
 use Rattle.line.specs.Truth.{count}
 use Rattle.truth.specs.Clauses.{stale, tokenDown, dropped}
@@ -88,7 +88,7 @@ module _ (t : ℕ → Station) (u : ℕ → List Up) (d : ℕ → List Down) (j 
   unfolding archive write leave
   install-locks i w x k g h =
       installs (LocksIn t u d j) i w
-      (λ n y e z. send-locks n (Invalidate (wrotePage w)) (onServer y (setListed (y .server) (λ r p. cond (eqb r n) (y .server .listed r p && not (wrotePage w p)) (y .server .listed r p)))) (λ f. tt) z)
+      (λ n y e z. send-locks n (Invalidate (λ a. has (w .writes a))) y (λ f. tt) z)
       x (ended-locks i ByCommit (Committed (w .transaction) _) (archive i w (write w (leave i x))) refl (λ OL WL. tt) k g h)
 
   pub commit-locks : (i : ℕ) (w : Work) (x : Serving) → RangedIn x → (eqb j i ≡ true → NoGrants j (LineTo x)) → LocksIn t u d j x → LocksIn t u d j (commitNow i w x)
@@ -106,7 +106,7 @@ module _ (t : ℕ → Station) (u : ℕ → List Up) (d : ℕ → List Down) (j 
   unfolding sendPage
   page-locks i a v x h =
       let s : Server = x .server in
-      send-locks i (Page NoLock a (s .latest i) (s .ver (pageOf a)) v (valuesOn (pageOf a) (s .val))) (onServer x (setListed s (upd2 (s .listed) i (pageOf a) true))) (λ e. tt) h
+      send-locks i (Page NoLock a (s .latest i) (valuesOn (pageOf a) (s .ver)) v (valuesOn (pageOf a) (s .val))) (onServer x (setListed s (upd2 (s .listed) i (pageOf a) true))) (λ e. tt) h
 
   pub read-locks : (i : ℕ) (x : Serving) → LocksIn t u d j x → LocksIn t u d j (serveRead i x)
   unfolding serveRead leave
@@ -125,7 +125,7 @@ module _ (t : ℕ → Station) (u : ℕ → List Up) (d : ℕ → List Down) (j 
   object-locks i x k n f h =
       let s : Server = x .server in
       let a : ℕ = s .queue i .req in
-      let m : Down = Page ObjectLock a (s .latest i) (s .ver (pageOf a)) (unavailable s i a) (valuesOn (pageOf a) (s .val)) in
+      let m : Down = Page ObjectLock a (s .latest i) (valuesOn (pageOf a) (s .ver)) (unavailable s i a) (valuesOn (pageOf a) (s .val)) in
       byEq j i
       (λ e.
       let k′ = rw (eqb-yes j i e) at k in
@@ -143,7 +143,7 @@ module _ (t : ℕ → Station) (u : ℕ → List Up) (d : ℕ → List Down) (j 
   whole-locks i x k n f h =
       let s : Server = x .server in
       let a : ℕ = s .queue i .req in
-      let m : Down = Page WholeLock a (s .latest i) (s .ver (pageOf a)) (unavailable s i a) (valuesOn (pageOf a) (s .val)) in
+      let m : Down = Page WholeLock a (s .latest i) (valuesOn (pageOf a) (s .ver)) (unavailable s i a) (valuesOn (pageOf a) (s .val)) in
       byEq j i
       (λ e.
       let k′ = rw (eqb-yes j i e) at k in

@@ -111,7 +111,7 @@ module _ (i skind : ℕ) (q : Waiter) (OL WL : ℕ → ℕ) (latest : ℕ) (fin 
     Took m d = Around i skind q OL WL latest fin U (m ∷ D) s → isRefused (d .answer) ≡ false → LocksDid d
 
     -- a page comes: what was asked for is written, under the lock that it brings
-    page-locks : (l : Lock) (a t v : ℕ) (u : ℕ → Bool) (x : ℕ → ℕ) (y : ℕ) → live s t ≡ true → locking (s .kind) ≡ isLock l → Took (Page l a t v u x) (does Written (writeLocal a y (arrived l a v u x s)) [])
+    page-locks : (l : Lock) (a t : ℕ) (v : ℕ → ℕ) (u : ℕ → Bool) (x : ℕ → ℕ) (y : ℕ) → live s t ≡ true → locking (s .kind) ≡ isLock l → Took (Page l a t v u x) (does Written (writeLocal a y (arrived l a v u x s)) [])
     unfolding writeLocal arrive takeLock
     page-locks NoLock a t v u x y e k h r =
         rw (append-nil U)

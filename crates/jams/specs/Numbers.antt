@@ -135,7 +135,7 @@ begun-over num opened (Busy r t) h = tt
 begun-over num opened (Done r t d) h = tt
 begun-over num opened (WrittenSet p t set) h = tt
 
-page-below : (kind num : ℕ) (opened : Bool) (w : Wait) (l : Lock) (a t v : ℕ) (u : ℕ → Bool) (x : ℕ → ℕ) → FitDown kind num opened w (Page l a t v u x) → t ≤ num
+page-below : (kind num : ℕ) (opened : Bool) (w : Wait) (l : Lock) (a t : ℕ) (v : ℕ → ℕ) (u : ℕ → Bool) (x : ℕ → ℕ) → FitDown kind num opened w (Page l a t v u x) → t ≤ num
 page-below kind num opened w NoLock a t v u x f = f .below
 page-below kind num opened w ObjectLock a t v u x f = f .below
 page-below kind num opened w WholeLock a t v u x f = f .below

@@ -1,16 +1,16 @@
 -- The server's actions and the clauses on the numbers of station j, under a server's step: t are the stations, u the up lines, d the down
 -- lines before the step.
 use mathlib.Core.Path.{_≡_, refl, sym, ap}
-use mathlib.Core.Bool.{Bool, true, false, not, _&&_, cond}
+use mathlib.Core.Bool.{Bool, true, false, not, _&&_}
 use mathlib.Core.List.{List, _++_}
 use Prim.Native.Nat.{ℕ, suc}
 use lib.Dec.{eqb, ltb}
-use Rattle.sets.specs.Base.{upd, upd2}
+use Rattle.sets.specs.Base.{upd, upd2, has}
 use Rattle.sets.specs.Laws.{byB, byEq, eqb-yes, and-l, and-r, not-yes}
 use Rattle.line.specs.All.{All}
 use Rattle.line.specs.Messages.{pageOf, lastNumber, locking, Work, Up, Lock, NoLock, ObjectLock, WholeLock, Down, Page, Deescalate, Callback, Committed, Aborted, Invalidate}
 use Rattle.line.specs.Station.{Station}
-use Rattle.line.specs.Server.{End, ByCommit, ByCause, Server, Serving, onServer, send, setListed, setAsked, setOl, setWl, valuesOn, wrotePage, informed, unavailable, finish, leave, sendPage, abort, write, archive, install, commitNow, ask, serveRead, concerned, call, grantObject, grantPage}
+use Rattle.line.specs.Server.{Server, Serving, onServer, send, setListed, setAsked, setOl, setWl, valuesOn, informed, unavailable, finish, leave, sendPage, abort, write, archive, install, commitNow, ask, serveRead, concerned, call, grantObject, grantPage, End, ByCommit, ByCause}
 use Rattle.line.specs.Line.{sentTo}
 use Rattle.truth.specs.Frame.{if-serving, installs, call-own, call-far}
 use Rattle.truth.specs.CallbacksServer.{send-to, send-past}
@@ -53,7 +53,7 @@ module _ (t : ℕ → Station) (u : ℕ → List Up) (d : ℕ → List Down) (j 
   install-numbers i w x l r k h =
       (installs (λ y. NumbersIn t u d j y × KindIn t j y) i w
       (λ g y e z. (
-        send-numbers g (Invalidate (wrotePage w)) (onServer y (setListed (y .server) (λ a p. cond (eqb a g) (y .server .listed a p && not (wrotePage w p)) (y .server .listed a p))))
+        send-numbers g (Invalidate (λ a. has (w .writes a))) y
             (λ q. (informed-kind g y e q (z .1), tt)) (z .0),
         z .1,
       ))
@@ -71,12 +71,12 @@ module _ (t : ℕ → Station) (u : ℕ → List Up) (d : ℕ → List Down) (j 
       if-serving (NumbersIn t u d j) (eqb (x .server .last) lastNumber) (λ e. abort-numbers i 4 x r h) (λ e. install-numbers i w x l r k h)
 
   -- 16, 17, 18: they name the latest, which is unfinished
-  pub page-numbers : (l : Lock) (i a : ℕ) (v : ℕ → Bool) (x : Serving) → (eqb j i ≡ true → (n : ℕ) (y : ℕ → ℕ) → KindDown (t j .kind) (Page l a (x .server .latest i) n v y)) → (eqb j i ≡ true → x .server .fin j ≡ false) → NumbersIn t u d j x → NumbersIn t u d j (sendPage l i a v x)
+  pub page-numbers : (l : Lock) (i a : ℕ) (v : ℕ → Bool) (x : Serving) → (eqb j i ≡ true → (n y : ℕ → ℕ) → KindDown (t j .kind) (Page l a (x .server .latest i) n v y)) → (eqb j i ≡ true → x .server .fin j ≡ false) → NumbersIn t u d j x → NumbersIn t u d j (sendPage l i a v x)
   unfolding sendPage
   page-numbers l i a v x k f h =
       let s : Server = x .server in
-      send-numbers i (Page l a (s .latest i) (s .ver (pageOf a)) v (valuesOn (pageOf a) (s .val))) (onServer x (setListed s (upd2 (s .listed) i (pageOf a) true)))
-      (λ e. (k e (s .ver (pageOf a)) (valuesOn (pageOf a) (s .val)), λ z. (ap (s .latest) (sym (eqb-yes j i e)), f e))) h
+      send-numbers i (Page l a (s .latest i) (valuesOn (pageOf a) (s .ver)) v (valuesOn (pageOf a) (s .val))) (onServer x (setListed s (upd2 (s .listed) i (pageOf a) true)))
+      (λ e. (k e (valuesOn (pageOf a) (s .ver)) (valuesOn (pageOf a) (s .val)), λ z. (ap (s .latest) (sym (eqb-yes j i e)), f e))) h
 
   -- 19, to a locking station
   pub ask-numbers : (g p : ℕ) (x : Serving) → locking (x .server .kind g) ≡ true → KindIn t j x → NumbersIn t u d j x → NumbersIn t u d j (ask g p x)

@@ -92,7 +92,7 @@ module _ (latest : ℕ) (fin : Bool) (U : List Up) (D : List Down) where
     Took m d = Numbers (s .kind) (s .num) (s .opened) latest fin U (m ∷ D) → NoneKept s → isRefused (d .answer) ≡ false → NumbersDid latest fin U D d
 
     -- a page for a write, with its lock or without
-    page-numbers : (l : Lock) (a v : ℕ) (u : ℕ → Bool) (x : ℕ → ℕ) (y : ℕ) → Numbers (s .kind) (s .num) (s .opened) latest fin U D → NoneKept s → NumbersDid latest fin U D (does Written (writeLocal a y (arrived l a v u x s)) [])
+    page-numbers : (l : Lock) (a : ℕ) (v : ℕ → ℕ) (u : ℕ → Bool) (x : ℕ → ℕ) (y : ℕ) → Numbers (s .kind) (s .num) (s .opened) latest fin U D → NoneKept s → NumbersDid latest fin U D (does Written (writeLocal a y (arrived l a v u x s)) [])
     unfolding writeLocal arrive takeLock
     page-numbers NoLock a v u x y h n = (rw (append-nil U) h, n)
     page-numbers ObjectLock a v u x y h n = (rw (append-nil U) h, n)
@@ -115,8 +115,8 @@ module _ (latest : ℕ) (fin : Bool) (U : List Up) (D : List Down) where
           aborts = λ t c e g h n f. close-numbers _ (rw (append-nil U, undo-kind s, undo-num s) (took-end (Aborted t c) refl h), λ l r. rw (undo-kept s r) (n (rw (undo-kind s) at l) r));
           invalid-ends = λ d l e g h n f.
               close-numbers _ (
-                rw (append-nil U, undo-kind (dropPages d s), undo-num (dropPages d s)) (shut (λ z y. both (locking (s .kind)) z l) (pop-down (Invalidate d) refl h)),
-                λ z r. rw (undo-kept (dropPages d s) r) (n l r),
+                rw (append-nil U, undo-kind (mark d s), undo-num (mark d s)) (shut (λ z y. both (locking (s .kind)) z l) (pop-down (Invalidate d) refl h)),
+                λ z r. rw (undo-kept (mark d s) r) (n l r),
               );
           invalid = λ d l e h n f. (rw (append-nil U) (pop-down (Invalidate d) refl h), n);
         }

@@ -11,7 +11,7 @@ use lib.ListN.{length, length-append}
 use Rattle.sets.specs.Base.{upd, snoc, any, Val, none, some, turned}
 use Rattle.sets.specs.Laws.{byB, byEq, eqb-same, eqb-yes, eqb-no, and-l, and-r}
 use Rattle.line.specs.Messages.{pageOf, lastNumber, locking, Work, Up, ReadRequest, WriteRequest, Commit, Abort, Purge, Busy, Done, WrittenSet, Down, Page, Deescalate, Callback, Committed, Aborted, Invalidate, To, Answer, Nothing, Begun, Value, Waits, Written, CommittedAs, AbortedFor, Purged, Refused, Empty}
-use Rattle.line.specs.Station.{Station, Did, didStation, does, unless, Wait, Idle, ForRead, ForWrite, ForCommit, forCommit, Kept, NotKept, KeptCall, usedAt, usedPage, shown, dropPages, mark, doCallback, doKept, doAllKept, closed, close, undo, checkBegin, checkOpen, longRead, longWrite, checkAddress, checkPurge, ownBegin, readLocal, readAsk, readAs, ownRead, mayWrite, writeAsk, writeLocal, ownWrite, ownCommit, ownAbort, ownPurge, ended, fits, answerWait, onPage, onDeescalate, onCallback, onCommitted, onAborted, onInvalidate, onDown, stationStep}
+use Rattle.line.specs.Station.{Station, Did, didStation, does, unless, Wait, Idle, ForRead, ForWrite, ForCommit, forCommit, Kept, NotKept, KeptCall, usedAt, shown, dropPages, mark, doCallback, doKept, doAllKept, closed, close, undo, checkBegin, checkOpen, longRead, longWrite, checkAddress, checkPurge, ownBegin, readLocal, readAsk, readAs, ownRead, mayWrite, writeAsk, writeLocal, ownWrite, ownCommit, ownAbort, ownPurge, ended, fits, answerWait, onPage, onDeescalate, onCallback, onCommitted, onAborted, onInvalidate, onDown, stationStep}
 use Rattle.line.specs.Line.{Op, Begin, Read, Write, Commits, Aborts, Purges, Call, Owner, ServerTakes, StationTakes, Broken, World, Reply, Acted, acted, replies, upReply, perform, tell, carryUp, ownerActs, isRefused, stationTakes, serverTakes, act}
 use Rattle.line.specs.Server.{Server, Serving, ByCommit, ByMessage, send, Waiter, concerned, callsFrom, noWaiter, isWant, waits, shut, unexpected, badNumber, notice, finish, join, leave, sendPage, abort, write, archive, informed, inform, informFrom, install, serveNow, joinRead, joinWrite, joinCommit, commitNow, unlist, openCall, markBusy, answered, openAsk, loosen, accept, ask, serveRead, call, grantObject, grantPage, installWaiter, start, serverStep}
 use Rattle.line.specs.Pass.{Atomic, step-keeps}
@@ -538,7 +538,7 @@ down-8 (Callback r t set) s = byB (any 256 (λ a. set a && usedAt s a)) (λ e. r
 down-8 (Committed t n) s = close-8 _ refl
 down-8 (Aborted t c) s = close-8 _ refl
 down-8 (Invalidate d) s =
-    byB (any 32 (λ p. d p && usedPage s p) && not (forCommit (s .wait)))
+    byB (any 256 (λ a. d a && usedAt s a) && not (forCommit (s .wait)))
     (λ e. rw e (close-8 _ refl))
     (λ e. rw e (omega arith))
 
@@ -599,7 +599,7 @@ down-answer (Callback r t set) s = byB (any 256 (λ a. set a && usedAt s a)) (λ
 down-answer (Committed t n) s = ap isRefused (close-answer _)
 down-answer (Aborted t c) s = ap isRefused (close-answer _)
 down-answer (Invalidate d) s =
-    byB (any 32 (λ p. d p && usedPage s p) && not (forCommit (s .wait)))
+    byB (any 256 (λ a. d a && usedAt s a) && not (forCommit (s .wait)))
     (λ e. rw e (ap isRefused (close-answer _)))
     (λ e. rw e refl)
 

@@ -1,6 +1,6 @@
 -- Document 01's cases C1 to C9, the limits, the numbers that owners meet, and the crossings, as one table of runs, computed.
 -- 8 is page 1, object 0; 9 is page 1, object 1. A message is written as the station on the line, then what its kind names, in document
--- 01's order: `page 2 1 1 1 0 1 noValues` is 16 to station 2: page 1, object 1, transaction 1, version 0, unavailable set 1, zeros.
+-- 01's order: `page 2 1 1 1 noVersions 1 noValues` is 16 to station 2: page 1, object 1, transaction 1, versions 0, unavailable set 1, zeros.
 use mathlib.Core.Path.{refl}
 use mathlib.Core.List.{List, [], _∷_, _++_}
 use Prim.Native.Nat.{ℕ, zero, suc, _^_}
@@ -35,7 +35,7 @@ abbrev pub reads : ℕ → ℕ → List Step
 reads i o =
     answers (Owner i Begin) (Begun 1)
     ∷ sends (Owner i (Read (address 1 o))) Waits (readRequest i 1 o 1 ∷ [])
-    ∷ serves i (page i 1 o 1 0 0 noValues ∷ [])
+    ∷ serves i (page i 1 o 1 noVersions 0 noValues ∷ [])
     ∷ answers (StationTakes i) (Value 0)
     ∷ []
 
@@ -51,7 +51,7 @@ abbrev holdsWhole : List Step
 holdsWhole =
     reads 0 0
     ++ (asks
-    ∷ serves 0 (pageWhole 0 1 0 1 0 0 noValues ∷ [])
+    ∷ serves 0 (pageWhole 0 1 0 1 noVersions 0 noValues ∷ [])
     ∷ answers (StationTakes 0) Written
     ∷ [])
 
@@ -63,13 +63,13 @@ C3 =
     row "C3 as C2, page 1 unused at 2: 20, 7 dropping page 1, 18." line
     (reads 0 0
     ++ reads 2 0
-    ++ (sends (Owner 2 Commits) Waits (commit 2 1 (only 1) noVersions (recorded 0 1 2 0 ((8, 0) ∷ []) []) ∷ [])
+    ++ (sends (Owner 2 Commits) Waits (commit 2 1 (only 1) (0 ∷ []) (recorded 0 1 2 0 ((8, 0) ∷ []) []) ∷ [])
     ∷ step (ServerTakes 2) Nothing (committed 2 1 1 ∷ []) (recorded 1 1 2 0 ((8, 0) ∷ []) [] ∷ [])
     ∷ answers (StationTakes 2) (CommittedAs 1)
     ∷ asks
     ∷ serves 0 (callback 2 0 1 (setOn 1 1) ∷ [])
     ∷ sends (StationTakes 2) Nothing (done 2 0 1 (only 1) ∷ [])
-    ∷ serves 2 (pageWhole 0 1 0 1 0 0 noValues ∷ [])
+    ∷ serves 2 (pageWhole 0 1 0 1 noVersions 0 noValues ∷ [])
     ∷ answers (StationTakes 0) Written
     ∷ []))
 
@@ -81,7 +81,7 @@ C4 =
     ++ (asks
     ∷ serves 0 (callback 2 0 1 (setOn 1 1) ∷ [])
     ∷ sends (StationTakes 2) Nothing (done 2 0 1 0 ∷ [])
-    ∷ serves 2 (pageAndObject 0 1 0 1 0 0 noValues ∷ [])
+    ∷ serves 2 (pageAndObject 0 1 0 1 noVersions 0 noValues ∷ [])
     ∷ answers (StationTakes 0) Written
     ∷ []))
 
@@ -98,7 +98,7 @@ C5 =
     ∷ answers (Owner 0 (Write 8 6)) (Refused 7)
     ∷ sends (Owner 2 Aborts) (AbortedFor 0) (abort 2 1 ∷ done 2 0 1 (only 1) ∷ [])
     ∷ serves 2 []
-    ∷ serves 2 (pageWhole 0 1 0 1 0 0 noValues ∷ [])
+    ∷ serves 2 (pageWhole 0 1 0 1 noVersions 0 noValues ∷ [])
     ∷ answers (StationTakes 0) Written
     ∷ []))
 
@@ -114,7 +114,7 @@ C6 =
     ∷ sends (StationTakes 2) Nothing (busy 2 0 1 ∷ [])
     ∷ serves 2 (aborted 2 1 1 ∷ [])
     ∷ sends (StationTakes 2) (AbortedFor 1) (done 2 0 1 (only 1) ∷ [])
-    ∷ serves 2 (pageWhole 0 1 0 1 0 0 noValues ∷ [])
+    ∷ serves 2 (pageWhole 0 1 0 1 noVersions 0 noValues ∷ [])
     ∷ answers (StationTakes 0) Written
     ∷ []))
 
@@ -124,10 +124,10 @@ C7 =
     (reads 1 0
     ++ (answers (Owner 0 Begin) (Begun 1)
     ∷ asks
-    ∷ serves 0 (pageWhole 0 1 0 1 0 0 noValues ∷ [])
+    ∷ serves 0 (pageWhole 0 1 0 1 noVersions 0 noValues ∷ [])
     ∷ answers (StationTakes 0) Written
-    ∷ sends (Owner 0 Commits) Waits (commit 0 1 (only 1) noVersions (recorded 0 1 0 0 [] ((8, 5) ∷ [])) ∷ [])
-    ∷ step (ServerTakes 0) Nothing (committed 0 1 1 ∷ invalidate 1 (only 1) ∷ []) (recorded 1 1 0 0 [] ((8, 5) ∷ []) ∷ [])
+    ∷ sends (Owner 0 Commits) Waits (commit 0 1 (only 1) (0 ∷ []) (recorded 0 1 0 0 [] ((8, 5) ∷ [])) ∷ [])
+    ∷ step (ServerTakes 0) Nothing (committed 0 1 1 ∷ invalidate 1 (setOn 1 1) ∷ []) (recorded 1 1 0 0 [] ((8, 5) ∷ []) ∷ [])
     ∷ answers (StationTakes 1) (AbortedFor 2)
     ∷ answers (StationTakes 0) (CommittedAs 1)
     ∷ []))
@@ -137,14 +137,14 @@ abbrev writesNine : List Step
 writesNine =
     answers (Owner 1 Begin) (Begun 1)
     ∷ sends (Owner 1 (Write 9 7)) Waits (readRequest 1 1 1 1 ∷ [])
-    ∷ serves 1 (page 1 1 1 1 0 0 noValues ∷ [])
+    ∷ serves 1 (page 1 1 1 1 noVersions 0 noValues ∷ [])
     ∷ answers (StationTakes 1) Written
     ∷ []
 
 -- .. and commits it: 0, which holds page 1 whole, is asked for it
 abbrev asksForPage : List Step
 asksForPage =
-    sends (Owner 1 Commits) Waits (commit 1 1 (only 1) noVersions (recorded 0 1 1 1 [] ((9, 7) ∷ [])) ∷ [])
+    sends (Owner 1 Commits) Waits (commit 1 1 (only 1) (0 ∷ []) (recorded 0 1 1 1 [] ((9, 7) ∷ [])) ∷ [])
     ∷ serves 1 (deescalate 0 1 1 ∷ [])
     ∷ []
 
@@ -193,10 +193,14 @@ inUseAborts =
 
 unfoldable pub inUseCommits : Row
 inUseCommits =
-    row "C8 with 9 in use: 6, and 1's commit waits; 0 commits: cause 2, versions being those of pages." line
+    row "C8 with 9 in use: 6, and 1's commit waits; 0 commits 8: committed, versions being those of objects." line
     (holdsNine
-    ++ (sends (Owner 0 Commits) Waits (commit 0 1 (only 1) noVersions (recorded 0 1 0 0 ((8, 0) ∷ (9, 0) ∷ []) ((8, 5) ∷ [])) ∷ [])
-    ∷ step (ServerTakes 0) Nothing (committed 0 1 1 ∷ invalidate 1 (only 1) ∷ aborted 1 1 2 ∷ []) (recorded 1 1 0 0 ((8, 0) ∷ (9, 0) ∷ []) ((8, 5) ∷ []) ∷ [])
+    ++ (sends (Owner 0 Commits) Waits (commit 0 1 (only 1) (0 ∷ 0 ∷ 0 ∷ []) (recorded 0 1 0 0 ((8, 0) ∷ (9, 0) ∷ []) ((8, 5) ∷ [])) ∷ [])
+    ∷ step (ServerTakes 0) Nothing (committed 0 1 1 ∷ invalidate 1 (setOn 1 1) ∷ []) (recorded 1 1 0 0 ((8, 0) ∷ (9, 0) ∷ []) ((8, 5) ∷ []) ∷ [])
+    ∷ sends (StationTakes 0) (CommittedAs 1) (done 0 1 1 (only 1) ∷ [])
+    ∷ installsNine 0 2
+    ∷ answers (StationTakes 1) Nothing
+    ∷ answers (StationTakes 1) (CommittedAs 2)
     ∷ []))
 
 unfoldable pub wroteNine : Row
@@ -220,20 +224,20 @@ besideWhole =
     ++ (asks
     ∷ serves 0 (callback 2 0 1 (setOn 1 1) ∷ [])
     ∷ sends (StationTakes 2) Nothing (done 2 0 1 0 ∷ [])
-    ∷ serves 2 (pageAndObject 0 1 0 1 0 0 noValues ∷ [])
+    ∷ serves 2 (pageAndObject 0 1 0 1 noVersions 0 noValues ∷ [])
     ∷ answers (StationTakes 0) Written
     ∷ sends (Owner 2 Aborts) (AbortedFor 0) (abort 2 1 ∷ [])
     ∷ sends (Owner 2 (Purges 1)) Purged (purge 2 1 ∷ [])
     ∷ serves 2 []
     ∷ serves 2 []
     ∷ sends (Owner 0 (Write 9 6)) Waits (writeRequest 0 1 1 1 ∷ [])
-    ∷ serves 0 (pageWhole 0 1 1 1 0 0 noValues ∷ [])
+    ∷ serves 0 (pageWhole 0 1 1 1 noVersions 0 noValues ∷ [])
     ∷ answers (StationTakes 0) Written
     ∷ answers (Owner 1 Begin) (Begun 1)
     ∷ sends (Owner 1 (Write 8 7)) Waits (readRequest 1 1 0 1 ∷ [])
-    ∷ serves 1 (page 1 1 0 1 0 0 noValues ∷ [])
+    ∷ serves 1 (page 1 1 0 1 noVersions 0 noValues ∷ [])
     ∷ answers (StationTakes 1) Written
-    ∷ sends (Owner 1 Commits) Waits (commit 1 1 (only 1) noVersions (recorded 0 1 1 1 [] ((8, 7) ∷ [])) ∷ [])
+    ∷ sends (Owner 1 Commits) Waits (commit 1 1 (only 1) (0 ∷ []) (recorded 0 1 1 1 [] ((8, 7) ∷ [])) ∷ [])
     ∷ serves 1 (aborted 1 1 3 ∷ [])
     ∷ answers (StationTakes 1) (AbortedFor 3)
     ∷ []))
@@ -246,7 +250,7 @@ C9 =
     ∷ sends (Owner 2 (Read 9)) Waits (readRequest 2 1 1 1 ∷ [])
     ∷ serves 2 (deescalate 0 1 1 ∷ [])
     ∷ sends (StationTakes 0) Nothing (writtenSet 0 1 1 1 ∷ [])
-    ∷ serves 0 (page 2 1 1 1 0 1 noValues ∷ [])
+    ∷ serves 0 (page 2 1 1 1 noVersions 1 noValues ∷ [])
     ∷ answers (StationTakes 2) (Value 0)
     ∷ []))
 
@@ -260,15 +264,15 @@ unfoldable pub lastCommit : Row
 lastCommit =
     row "number 4,294,967,295 already used, cause 4 (so too a locking commit)" nearlyFull
     (answers (Owner 0 Begin) (Begun 1)
-    ∷ sends (Owner 0 Commits) Waits (commit 0 1 0 noVersions (recorded 0 1 0 0 [] []) ∷ [])
+    ∷ sends (Owner 0 Commits) Waits (commit 0 1 0 [] (recorded 0 1 0 0 [] []) ∷ [])
     ∷ step (ServerTakes 0) Nothing (committed 0 1 lastNumber ∷ []) (recorded lastNumber 1 0 0 [] [] ∷ [])
     ∷ answers (StationTakes 0) (CommittedAs lastNumber)
     ∷ answers (Owner 0 Begin) (Begun 2)
-    ∷ sends (Owner 0 Commits) Waits (commit 0 2 0 noVersions (recorded 0 2 0 0 [] []) ∷ [])
+    ∷ sends (Owner 0 Commits) Waits (commit 0 2 0 [] (recorded 0 2 0 0 [] []) ∷ [])
     ∷ serves 0 (aborted 0 2 4 ∷ [])
     ∷ answers (StationTakes 0) (AbortedFor 4)
     ∷ answers (Owner 1 Begin) (Begun 1)
-    ∷ sends (Owner 1 Commits) Waits (commit 1 1 0 noVersions (recorded 0 1 1 1 [] []) ∷ [])
+    ∷ sends (Owner 1 Commits) Waits (commit 1 1 0 [] (recorded 0 1 1 1 [] []) ∷ [])
     ∷ serves 1 (aborted 1 1 4 ∷ [])
     ∷ answers (StationTakes 1) (AbortedFor 4)
     ∷ [])
@@ -296,7 +300,7 @@ readsOn i p o (suc n) = answers (Owner i (Read (address p o))) (Value 0) ∷ rea
 abbrev readsPage : ℕ → ℕ → ℕ → List Step
 readsPage i p n =
     sends (Owner i (Read (address p 0))) Waits (readRequest i p 0 1 ∷ [])
-    ∷ serves i (page i p 0 1 0 0 noValues ∷ [])
+    ∷ serves i (page i p 0 1 noVersions 0 noValues ∷ [])
     ∷ answers (StationTakes i) (Value 0)
     ∷ readsOn i p 1 n
 
@@ -308,7 +312,7 @@ writesOn i p o (suc n) = answers (Owner i (Write (address p o) 1)) Written ∷ w
 abbrev writesPage : ℕ → ℕ → ℕ → List Step
 writesPage i p n =
     sends (Owner i (Write (address p 0) 1)) Waits (readRequest i p 0 1 ∷ [])
-    ∷ serves i (page i p 0 1 0 0 noValues ∷ [])
+    ∷ serves i (page i p 0 1 noVersions 0 noValues ∷ [])
     ∷ answers (StationTakes i) Written
     ∷ writesOn i p 1 n
 
@@ -357,7 +361,7 @@ turnedBack =
     ∷ answers (Owner 0 (Purges 1)) (Refused 7)
     ∷ answers (Owner 0 (Purges 32)) (Refused 4)
     ∷ answers (Broken 5) (Refused 5)
-    ∷ serves 0 (page 0 1 0 1 0 0 noValues ∷ [])
+    ∷ serves 0 (page 0 1 0 1 noVersions 0 noValues ∷ [])
     ∷ answers (StationTakes 0) (Value 0)
     ∷ answers (Owner 0 (Purges 1)) (Refused 10)
     ∷ sends (Owner 0 Aborts) (AbortedFor 0) (abort 0 1 ∷ [])
@@ -382,10 +386,10 @@ requestOut =
     ∷ serves 0 (callback 2 0 1 (setOn 1 1) ∷ [])
     ∷ sends (StationTakes 2) Nothing (done 2 0 1 0 ∷ [])
     ∷ serves 2 (callback 0 2 2 (setOn 1 2) ∷ [])
-    ∷ serves 2 (pageAndObject 0 1 0 1 0 2 noValues ∷ [])
+    ∷ serves 2 (pageAndObject 0 1 0 1 noVersions 2 noValues ∷ [])
     ∷ sends (StationTakes 0) Nothing (done 0 2 2 0 ∷ [])
     ∷ answers (StationTakes 0) Written
-    ∷ serves 0 (pageAndObject 2 1 1 2 0 1 noValues ∷ [])
+    ∷ serves 0 (pageAndObject 2 1 1 2 noVersions 1 noValues ∷ [])
     ∷ answers (StationTakes 2) Written
     ∷ []))
 
@@ -396,7 +400,7 @@ pageUnderWay =
     (reads 0 0
     ++ (answers (Owner 2 Begin) (Begun 1)
     ∷ sends (Owner 2 (Read 8)) Waits (readRequest 2 1 0 1 ∷ [])
-    ∷ serves 2 (page 2 1 0 1 0 0 noValues ∷ [])
+    ∷ serves 2 (page 2 1 0 1 noVersions 0 noValues ∷ [])
     ∷ asks
     ∷ serves 0 (callback 2 0 1 (setOn 1 1) ∷ [])
     ∷ answers (StationTakes 2) (Value 0)
@@ -409,10 +413,10 @@ staleCommit =
     row "A validating commit checked at arrival alone goes stale while it waits." line
     (reads 1 0
     ++ holdsWhole
-    ++ (sends (Owner 1 Commits) Waits (commit 1 1 (only 1) noVersions (recorded 0 1 1 1 ((8, 0) ∷ []) []) ∷ [])
+    ++ (sends (Owner 1 Commits) Waits (commit 1 1 (only 1) (0 ∷ []) (recorded 0 1 1 1 ((8, 0) ∷ []) []) ∷ [])
     ∷ serves 1 (deescalate 0 1 1 ∷ [])
-    ∷ sends (Owner 0 Commits) Waits (commit 0 1 (only 1) noVersions (recorded 0 1 0 0 ((8, 0) ∷ []) ((8, 5) ∷ [])) ∷ [])
-    ∷ step (ServerTakes 0) Nothing (committed 0 1 1 ∷ invalidate 1 (only 1) ∷ aborted 1 1 2 ∷ []) (recorded 1 1 0 0 ((8, 0) ∷ []) ((8, 5) ∷ []) ∷ [])
+    ∷ sends (Owner 0 Commits) Waits (commit 0 1 (only 1) (0 ∷ 0 ∷ []) (recorded 0 1 0 0 ((8, 0) ∷ []) ((8, 5) ∷ [])) ∷ [])
+    ∷ step (ServerTakes 0) Nothing (committed 0 1 1 ∷ invalidate 1 (setOn 1 1) ∷ aborted 1 1 2 ∷ []) (recorded 1 1 0 0 ((8, 0) ∷ []) ((8, 5) ∷ []) ∷ [])
     ∷ answers (StationTakes 1) Nothing
     ∷ answers (StationTakes 1) (AbortedFor 2)
     ∷ sends (StationTakes 0) Nothing (writtenSet 0 1 1 1 ∷ [])
@@ -428,15 +432,139 @@ byArrival =
     ++ holdsWhole
     ++ (answers (Owner 2 Begin) (Begun 1)
     ∷ sends (Owner 2 (Read 8)) Waits (readRequest 2 1 0 1 ∷ [])
-    ∷ sends (Owner 1 Commits) Waits (commit 1 1 (only 1) noVersions (recorded 0 1 1 1 ((8, 0) ∷ []) []) ∷ [])
+    ∷ sends (Owner 1 Commits) Waits (commit 1 1 (only 1) (0 ∷ []) (recorded 0 1 1 1 ((8, 0) ∷ []) []) ∷ [])
     ∷ serves 2 (deescalate 0 1 1 ∷ [])
     ∷ serves 1 []
     ∷ sends (Owner 0 Aborts) (AbortedFor 0) (abort 0 1 ∷ [])
-    ∷ step (ServerTakes 0) Nothing (page 2 1 0 1 0 0 noValues ∷ committed 1 1 1 ∷ []) (recorded 1 1 1 1 ((8, 0) ∷ []) [] ∷ [])
+    ∷ step (ServerTakes 0) Nothing (page 2 1 0 1 noVersions 0 noValues ∷ committed 1 1 1 ∷ []) (recorded 1 1 1 1 ((8, 0) ∷ []) [] ∷ [])
+    ∷ []))
+
+-- Document 02, wish 6: two validating heads, 1 and 3, count on objects of page 1.
+abbrev heads : World
+heads = fresh (λ i. at (0 ∷ 1 ∷ 0 ∷ 1 ∷ []) i 0)
+
+-- station i has read object o as 0, and counts 1 there
+abbrev counts : ℕ → ℕ → List Step
+counts i o = reads i o ++ (answers (Owner i (Write (address 1 o) 1)) Written ∷ [])
+
+-- the record of that: its reads and writes
+abbrev counted : ℕ → List (ℕ × ℕ)
+counted a = (a, 0) ∷ []
+
+abbrev counted1 : ℕ → List (ℕ × ℕ)
+counted1 a = (a, 1) ∷ []
+
+-- station i's commit of it goes up
+abbrev commitsCount : ℕ → ℕ → Step
+commitsCount i a = sends (Owner i Commits) Waits (commit i 1 (only 1) (0 ∷ 0 ∷ []) (recorded 0 1 i 1 (counted a) (counted1 a)) ∷ [])
+
+-- .. and is commit n, of which the other head j hears by the set u
+abbrev countedAs : ℕ → ℕ → ℕ → ℕ → ℕ → Step
+countedAs i a n j u = step (ServerTakes i) Nothing (committed i 1 n ∷ invalidate j (setOn 1 u) ∷ []) (recorded n 1 i 1 (counted a) (counted1 a) ∷ [])
+
+-- 1 counts on 8 and 3 on 9
+abbrev neighbours : List Step
+neighbours =
+    counts 1 0
+    ++ counts 3 1
+    ++ (commitsCount 1 8
+    ∷ countedAs 1 8 1 3 1
+    ∷ answers (StationTakes 3) Nothing
+    ∷ commitsCount 3 9
+    ∷ countedAs 3 9 2 1 2
+    ∷ answers (StationTakes 1) (CommittedAs 1)
+    ∷ answers (StationTakes 3) (CommittedAs 2)
+    ∷ answers (StationTakes 1) Nothing
+    ∷ [])
+
+unfoldable pub neighboursCommit : Row
+neighboursCommit = row "Neighbours on one page stop aborting each other: 1 counts on 8, 3 on 9, and both commit." heads neighbours
+
+-- 3 has object 8 marked by a 23: it asks before it reads or writes it
+unfoldable pub marked : Row
+marked =
+    row "It writes locally only on available objects." heads
+    (neighbours
+    ++ (answers (Owner 3 Begin) (Begun 2)
+    ∷ answers (Owner 3 (Write 9 2)) Written
+    ∷ sends (Owner 3 (Write 8 2)) Waits (readRequest 3 1 0 2 ∷ [])
+    ∷ []))
+
+-- the same with 3's commit out when the 23 comes: it goes on, and 8 is marked
+unfoldable pub markedOut : Row
+markedOut =
+    row "The station marks those objects unavailable, and its transaction, if no commit is out, ends if it used one." heads
+    (counts 1 0
+    ++ counts 3 1
+    ++ (commitsCount 1 8
+    ∷ countedAs 1 8 1 3 1
+    ∷ commitsCount 3 9
+    ∷ answers (StationTakes 3) Nothing
+    ∷ countedAs 3 9 2 1 2
+    ∷ answers (StationTakes 3) (CommittedAs 2)
+    ∷ answers (Owner 3 Begin) (Begun 2)
+    ∷ answers (Owner 3 (Read 9)) (Value 1)
+    ∷ sends (Owner 3 (Read 8)) Waits (readRequest 3 1 0 2 ∷ [])
+    ∷ []))
+
+-- 1 has read 8 from its copy when the page comes anew for 9: the read stays, and each entry carries the version of its own object
+unfoldable pub arrivesOver : Row
+arrivesOver =
+    row "A page that arrives over objects already read." heads
+    (neighbours
+    ++ (answers (Owner 1 Begin) (Begun 2)
+    ∷ answers (Owner 1 (Read 8)) (Value 1)
+    ∷ sends (Owner 1 (Read 9)) Waits (readRequest 1 1 1 2 ∷ [])
+    ∷ serves 1 (page 1 1 1 2 (1 ∷ 2 ∷ 0 ∷ 0 ∷ 0 ∷ 0 ∷ 0 ∷ 0 ∷ []) 0 (1 ∷ 1 ∷ 0 ∷ 0 ∷ 0 ∷ 0 ∷ 0 ∷ 0 ∷ []) ∷ [])
+    ∷ answers (StationTakes 1) (Value 1)
+    ∷ answers (Owner 1 (Write 8 2)) Written
+    ∷ answers (Owner 1 (Read 8)) (Value 2)
+    ∷ sends (Owner 1 Commits) Waits (commit 1 2 (only 1) (1 ∷ 2 ∷ 1 ∷ []) (recorded 0 2 1 1 ((8, 1) ∷ (9, 1) ∷ []) ((8, 2) ∷ [])) ∷ [])
+    ∷ step (ServerTakes 1) Nothing (committed 1 2 3 ∷ invalidate 3 (setOn 1 1) ∷ []) (recorded 3 2 1 1 ((8, 1) ∷ (9, 1) ∷ []) ((8, 2) ∷ []) ∷ [])
+    ∷ []))
+
+unfoldable pub sameObject : Row
+sameObject =
+    row "Cause 2 is given for a used object with another version: 1 and 3 count on 8." heads
+    (counts 1 0
+    ++ counts 3 0
+    ++ (commitsCount 1 8
+    ∷ commitsCount 3 8
+    ∷ countedAs 1 8 1 3 1
+    ∷ serves 3 (aborted 3 1 2 ∷ [])
+    ∷ answers (StationTakes 3) Nothing
+    ∷ answers (StationTakes 3) (AbortedFor 2)
+    ∷ []))
+
+-- 1 writes 8 unread, and its commit is out when 3 counts there
+unfoldable pub blindWrite : Row
+blindWrite =
+    row "Used: read or written. 1 writes 8 unread, 3 counts there, and 1 gets cause 2." heads
+    (answers (Owner 1 Begin) (Begun 1)
+    ∷ sends (Owner 1 (Write 8 7)) Waits (readRequest 1 1 0 1 ∷ [])
+    ∷ serves 1 (page 1 1 0 1 noVersions 0 noValues ∷ [])
+    ∷ answers (StationTakes 1) Written
+    ∷ sends (Owner 1 Commits) Waits (commit 1 1 (only 1) (0 ∷ []) (recorded 0 1 1 1 [] ((8, 7) ∷ [])) ∷ [])
+    ∷ (counts 3 0
+    ++ (commitsCount 3 8
+    ∷ countedAs 3 8 1 1 1
+    ∷ serves 1 (aborted 1 1 2 ∷ [])
+    ∷ [])))
+
+-- 1 writes 8 and 9; 3 has read 9, and 8 not
+unfoldable pub usedAndUnused : Row
+usedAndUnused =
+    row "A 23 that names a used and an unused object: the transaction ends, cause 2." heads
+    (counts 1 0
+    ++ (answers (Owner 1 (Write 9 1)) Written ∷ [])
+    ++ reads 3 1
+    ++ (sends (Owner 1 Commits) Waits (commit 1 1 (only 1) (0 ∷ 0 ∷ 0 ∷ []) (recorded 0 1 1 1 (counted 8) ((8, 1) ∷ (9, 1) ∷ [])) ∷ [])
+    ∷ step (ServerTakes 1) Nothing (committed 1 1 1 ∷ invalidate 3 (setOn 1 3) ∷ []) (recorded 1 1 1 1 (counted 8) ((8, 1) ∷ (9, 1) ∷ []) ∷ [])
+    ∷ answers (StationTakes 3) (AbortedFor 2)
     ∷ []))
 
 unfoldable pub table : List Row
-table = C1 ∷ C2 ∷ C3 ∷ C4 ∷ C5 ∷ C6 ∷ C7 ∷ C8 ∷ inUseAborts ∷ inUseCommits ∷ wroteNine ∷ besideWhole ∷ C9 ∷ lastCommit ∷ spent ∷ longReads ∷ longWrites ∷ turnedBack ∷ requestOut ∷ pageUnderWay ∷ staleCommit ∷ byArrival ∷ []
+table = C1 ∷ C2 ∷ C3 ∷ C4 ∷ C5 ∷ C6 ∷ C7 ∷ C8 ∷ inUseAborts ∷ inUseCommits ∷ wroteNine ∷ besideWhole ∷ C9 ∷ lastCommit ∷ spent ∷ longReads ∷ longWrites ∷ turnedBack ∷ requestOut ∷ pageUnderWay ∷ staleCommit ∷ byArrival ∷ neighboursCommit ∷ marked ∷ markedOut ∷ arrivesOver ∷ sameObject ∷ blindWrite ∷ usedAndUnused ∷ []
 
 C1-holds : Holds C1
 unfolding Holds seen C1
@@ -526,6 +654,34 @@ byArrival-holds : Holds byArrival
 unfolding Holds seen byArrival
 byArrival-holds = refl
 
+neighboursCommit-holds : Holds neighboursCommit
+unfolding Holds seen neighboursCommit
+neighboursCommit-holds = refl
+
+marked-holds : Holds marked
+unfolding Holds seen marked
+marked-holds = refl
+
+markedOut-holds : Holds markedOut
+unfolding Holds seen markedOut
+markedOut-holds = refl
+
+arrivesOver-holds : Holds arrivesOver
+unfolding Holds seen arrivesOver
+arrivesOver-holds = refl
+
+sameObject-holds : Holds sameObject
+unfolding Holds seen sameObject
+sameObject-holds = refl
+
+blindWrite-holds : Holds blindWrite
+unfolding Holds seen blindWrite
+blindWrite-holds = refl
+
+usedAndUnused-holds : Holds usedAndUnused
+unfolding Holds seen usedAndUnused
+usedAndUnused-holds = refl
+
 pub table-holds : AllHold table
 unfolding AllHold table
-table-holds = (C1-holds, (C2-holds, (C3-holds, (C4-holds, (C5-holds, (C6-holds, (C7-holds, (C8-holds, (inUseAborts-holds, (inUseCommits-holds, (wroteNine-holds, (besideWhole-holds, (C9-holds, (lastCommit-holds, (spent-holds, (longReads-holds, (longWrites-holds, (turnedBack-holds, (requestOut-holds, (pageUnderWay-holds, (staleCommit-holds, (byArrival-holds, tt))))))))))))))))))))))
+table-holds = (C1-holds, (C2-holds, (C3-holds, (C4-holds, (C5-holds, (C6-holds, (C7-holds, (C8-holds, (inUseAborts-holds, (inUseCommits-holds, (wroteNine-holds, (besideWhole-holds, (C9-holds, (lastCommit-holds, (spent-holds, (longReads-holds, (longWrites-holds, (turnedBack-holds, (requestOut-holds, (pageUnderWay-holds, (staleCommit-holds, (byArrival-holds, (neighboursCommit-holds, (marked-holds, (markedOut-holds, (arrivesOver-holds, (sameObject-holds, (blindWrite-holds, (usedAndUnused-holds, tt)))))))))))))))))))))))))))))

@@ -12,7 +12,7 @@ use Rattle.sets.specs.Laws.{byB, byEq, eqb-same, eqb-yes, eqb-no}
 use Rattle.line.specs.Messages.{lastNumber, locking, Work, Lock, NoLock, ObjectLock, WholeLock, Up, ReadRequest, WriteRequest, Commit, Abort, Purge, Busy, Done, WrittenSet, Down, Page, Deescalate, Callback, Committed, Aborted, Invalidate}
 use Rattle.line.specs.Server.{Server, Serving, aged, badNumber, unexpected, notice, finish, join, leave, sendPage, abort, informed, write, archive, inform, informFrom, install, serveNow, joinRead, joinWrite, joinCommit, commitNow, unlist, openCall, markBusy, answered, openAsk, loosen, accept, ask, serveRead, call, grantPage, grantObject, installWaiter, start, serverStep}
 use Rattle.line.specs.Station as S
-use Rattle.line.specs.Station.{Station, Did, unless, Wait, Idle, ForRead, ForWrite, ForCommit, waiting, Kept, NotKept, KeptCall, shown, mayWrite, usedAt, usedPage, forCommit, live, ended, fits, checkBegin, checkOpen, longRead, longWrite, checkAddress, checkPurge, dropPages, recordRead, writeLocal, mark, doCallback, doKept, doAllKept, closed, close, undo, ownBegin, readLocal, readAsk, readAs, ownRead, writeAsk, ownWrite, ownCommit, ownAbort, ownPurge, arrive, takeLock, answerWait, onPage, onDeescalate, onCallback, onCommitted, onAborted, onInvalidate, onDown, stationStep}
+use Rattle.line.specs.Station.{Station, Did, unless, Wait, Idle, ForRead, ForWrite, ForCommit, waiting, Kept, NotKept, KeptCall, shown, mayWrite, usedAt, forCommit, live, ended, fits, checkBegin, checkOpen, longRead, longWrite, checkAddress, checkPurge, dropPages, recordRead, writeLocal, mark, doCallback, doKept, doAllKept, closed, close, undo, ownBegin, readLocal, readAsk, readAs, ownRead, writeAsk, ownWrite, ownCommit, ownAbort, ownPurge, arrive, takeLock, answerWait, onPage, onDeescalate, onCallback, onCommitted, onAborted, onInvalidate, onDown, stationStep}
 use Rattle.line.specs.Line.{World, Op, Begin, Read, Write, Commits, Aborts, Purges, Call, fresh, perform, act, run}
 use Rattle.line.specs.Pass.{Atomic, if-keeps, step-keeps}
 use Rattle.line.specs.Fuel.{sumTo, sum-at}
@@ -247,8 +247,8 @@ module _ (s : Station) (b : s .num ≤ lastNumber) where
   down-numbered (Committed t n) = close-numbered (s .num) b _ (silent (s .num) b)
   down-numbered (Aborted t c) = close-numbered (s .num) b _ (rw (undo-num s) (silent (s .num) b))
   down-numbered (Invalidate d) =
-      if-did (NumberedBy s) (any 32 (λ p. d p && usedPage s p) && not (forCommit (s .wait)))
-      (λ e. close-numbered (s .num) b _ (rw (undo-num (dropPages d s)) (silent (s .num) b)))
+      if-did (NumberedBy s) (any 256 (λ a. d a && usedAt s a) && not (forCommit (s .wait)))
+      (λ e. close-numbered (s .num) b _ (rw (undo-num (mark d s)) (silent (s .num) b)))
       (λ e. silent (s .num) b)
 
   step-numbered : (m : Down) → NumberedBy s (stationStep m s)

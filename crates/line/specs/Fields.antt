@@ -1,6 +1,6 @@
 -- A message as the fields of its bytes, and a record as the fields of its own: what a run shows.
 use mathlib.Core.Bool.{Bool, cond}
-use mathlib.Core.List.{List, [], _∷_}
+use mathlib.Core.List.{List, [], _∷_, _++_}
 use Prim.Native.Nat.{ℕ, zero, suc, _+_, _*_, _%_}
 use lib.Dec.{eqb}
 use Rattle.sets.specs.Base.{Val, none, some, table}
@@ -24,11 +24,12 @@ pub record Fields : Type 0 where
   pub objectOrCause : ℕ  -- 3 object or cause,
   pub transaction : ℕ  -- 4–7 transaction,
   pub pages : ℕ  -- 8–11 page set,
-  pub versionOrNumber : ℕ  -- 12–15 version or commit number,
+  pub commitNumber : ℕ  -- 12–15 commit number,
   pub sets : List ℕ  -- 16–47 object sets by page (one set of a single page: byte 16),
   pub values : List ℕ  -- 48–111 eight values."
-  pub versions : List ℕ  -- "A commit is followed by 32 versions
-  pub behind : List RecordFields  -- and a record."
+  pub pageVersions : List ℕ  -- by document 02 "kinds 16 to 18 carry eight of 4 bytes after the values"
+  pub versions : List ℕ  -- "A commit carries one version for each entry of its record, in record order",
+  pub behind : List RecordFields  -- and the record
 
 -- parts
 
@@ -43,7 +44,7 @@ abbrev pub noValues : List ℕ
 noValues = times 8 0
 
 abbrev pub noVersions : List ℕ
-noVersions = times 32 0
+noVersions = times 8 0
 
 -- "one set of a single page: byte 16"
 abbrev pub oneSet : ℕ → List ℕ
@@ -89,10 +90,10 @@ recordFields r = recorded (r .number) (r .transaction) (r .station) (r .kind) (e
 
 -- Makers: the station on the line, then what the kind names, in document 01's order. "Fields that a kind doesn't name are 0."
 
--- kind, station, page or requester, object or cause, transaction, page set, version or commit number, sets, values
+-- kind, station, page or requester, object or cause, transaction, page set, commit number, sets, values
 abbrev pub fields : ℕ → ℕ → ℕ → ℕ → ℕ → ℕ → ℕ → List ℕ → List ℕ → Fields
 fields k i r o t d n u x =
-    record { kind = k; station = i; pageOrRequester = r; objectOrCause = o; transaction = t; pages = d; versionOrNumber = n; sets = u; values = x; versions = []; behind = [] }
+    record { kind = k; station = i; pageOrRequester = r; objectOrCause = o; transaction = t; pages = d; commitNumber = n; sets = u; values = x; pageVersions = noVersions; versions = []; behind = [] }
 
 -- "1 read request (page, object, transaction)"
 abbrev pub readRequest : ℕ → ℕ → ℕ → ℕ → Fields
@@ -102,10 +103,10 @@ readRequest i p o t = fields 1 i p o t 0 0 noSets noValues
 abbrev pub writeRequest : ℕ → ℕ → ℕ → ℕ → Fields
 writeRequest i p o t = fields 2 i p o t 0 0 noSets noValues
 
--- "3 commit (transaction, set of pages used)", "followed by 32 versions .. and a record"
+-- "3 commit (transaction, set of pages used)", its entries' versions and its record
 abbrev pub commit : ℕ → ℕ → ℕ → List ℕ → RecordFields → Fields
 commit i t d v r =
-    record { kind = 3; station = i; pageOrRequester = 0; objectOrCause = 0; transaction = t; pages = d; versionOrNumber = 0; sets = noSets; values = noValues; versions = v; behind = r ∷ [] }
+    record { kind = 3; station = i; pageOrRequester = 0; objectOrCause = 0; transaction = t; pages = d; commitNumber = 0; sets = noSets; values = noValues; pageVersions = noVersions; versions = v; behind = r ∷ [] }
 
 -- "4 abort (transaction)"
 abbrev pub abort : ℕ → ℕ → Fields
@@ -127,17 +128,21 @@ done i r t d = fields 7 i r 0 t d 0 noSets noValues
 abbrev pub writtenSet : ℕ → ℕ → ℕ → ℕ → Fields
 writtenSet i p t u = fields 8 i p 0 t 0 0 (oneSet u) noValues
 
--- "16 page (page, object, transaction, version, unavailable set, values)"
-abbrev pub page : ℕ → ℕ → ℕ → ℕ → ℕ → ℕ → List ℕ → Fields
-page i p o t v u x = fields 16 i p o t 0 v (oneSet u) x
+-- "16 page (page, object, transaction, version, unavailable set, values)", the versions those of the eight objects
+abbrev pageOfKind : ℕ → ℕ → ℕ → ℕ → ℕ → List ℕ → ℕ → List ℕ → Fields
+pageOfKind k i p o t v u x =
+    record { kind = k; station = i; pageOrRequester = p; objectOrCause = o; transaction = t; pages = 0; commitNumber = 0; sets = oneSet u; values = x; pageVersions = v; versions = []; behind = [] }
+
+abbrev pub page : ℕ → ℕ → ℕ → ℕ → List ℕ → ℕ → List ℕ → Fields
+page i p o t v u x = pageOfKind 16 i p o t v u x
 
 -- "17 the same with a lock on the object"
-abbrev pub pageAndObject : ℕ → ℕ → ℕ → ℕ → ℕ → ℕ → List ℕ → Fields
-pageAndObject i p o t v u x = fields 17 i p o t 0 v (oneSet u) x
+abbrev pub pageAndObject : ℕ → ℕ → ℕ → ℕ → List ℕ → ℕ → List ℕ → Fields
+pageAndObject i p o t v u x = pageOfKind 17 i p o t v u x
 
 -- "18 with a lock on the whole page"
-abbrev pub pageWhole : ℕ → ℕ → ℕ → ℕ → ℕ → ℕ → List ℕ → Fields
-pageWhole i p o t v u x = fields 18 i p o t 0 v (oneSet u) x
+abbrev pub pageWhole : ℕ → ℕ → ℕ → ℕ → List ℕ → ℕ → List ℕ → Fields
+pageWhole i p o t v u x = pageOfKind 18 i p o t v u x
 
 -- "19 de-escalate (page, transaction)"
 abbrev pub deescalate : ℕ → ℕ → ℕ → Fields
@@ -155,9 +160,9 @@ committed i t n = fields 21 i 0 0 t 0 n noSets noValues
 abbrev pub aborted : ℕ → ℕ → ℕ → Fields
 aborted i t c = fields 22 i 0 c t 0 0 noSets noValues
 
--- "23 invalidate (page set)"
-abbrev pub invalidate : ℕ → ℕ → Fields
-invalidate i d = fields 23 i 0 0 0 d 0 noSets noValues
+-- "Kind 23 carries object sets by page and no page set"
+abbrev pub invalidate : ℕ → List ℕ → Fields
+invalidate i u = fields 23 i 0 0 0 0 0 u noValues
 
 -- the line's messages
 
@@ -165,18 +170,31 @@ invalidate i d = fields 23 i 0 0 0 d 0 noSets noValues
 abbrev pub workFields : ℕ → ℕ → Work → RecordFields
 workFields i k w = recorded 0 (w .transaction) i k (entries (w .reads)) (entries (w .writes))
 
+-- the versions of what there is, rising
+abbrev pub versionIf : Val → ℕ → List ℕ → List ℕ
+versionIf none n l = l
+versionIf (some v) n l = n ∷ l
+
+abbrev pub versionsFrom : ℕ → ℕ → (ℕ → Val) → (ℕ → ℕ) → List ℕ
+versionsFrom zero a f v = []
+versionsFrom (suc n) a f v = versionIf (f a) (v a) (versionsFrom n (suc a) f v)
+
+-- "in record order": those of the reads, then those of the writes
+abbrev pub entryVersions : Work → List ℕ
+entryVersions w = versionsFrom 256 0 (w .reads) (w .readVersions) ++ versionsFrom 256 0 (w .writes) (w .writtenVersions)
+
 -- of a station and its kind
 abbrev pub upFields : ℕ → ℕ → Up → Fields
 upFields i k (ReadRequest a t) = readRequest i (pageOf a) (objectOf a) t
 upFields i k (WriteRequest a t) = writeRequest i (pageOf a) (objectOf a) t
-upFields i k (Commit w) = commit i (w .transaction) (pageSet (usedPage w)) (table 32 0 (w .versions)) (workFields i k w)
+upFields i k (Commit w) = commit i (w .transaction) (pageSet (usedPage w)) (entryVersions w) (workFields i k w)
 upFields i k (Abort t) = abort i t
 upFields i k (Purge p) = purge i p
 upFields i k (Busy r t) = busy i r t
 upFields i k (Done r t d) = done i r t (pageSet d)
 upFields i k (WrittenSet p t set) = writtenSet i p t (objectSet set p)
 
-abbrev pub pageFields : Lock → ℕ → ℕ → ℕ → ℕ → ℕ → ℕ → List ℕ → Fields
+abbrev pub pageFields : Lock → ℕ → ℕ → ℕ → ℕ → List ℕ → ℕ → List ℕ → Fields
 pageFields NoLock i p o t v u x = page i p o t v u x
 pageFields ObjectLock i p o t v u x = pageAndObject i p o t v u x
 pageFields WholeLock i p o t v u x = pageWhole i p o t v u x
@@ -184,9 +202,9 @@ pageFields WholeLock i p o t v u x = pageWhole i p o t v u x
 abbrev pub downFields : Sent → Fields
 downFields (To i (Page l a t v u x)) =
     let p = pageOf a in
-    pageFields l i p (objectOf a) t v (objectSet u p) (table 8 (address p 0) x)
+    pageFields l i p (objectOf a) t (table 8 (address p 0) v) (objectSet u p) (table 8 (address p 0) x)
 downFields (To i (Deescalate p t)) = deescalate i p t
 downFields (To i (Callback r t set)) = callback i r t (table 32 0 (objectSet set))
 downFields (To i (Committed t n)) = committed i t n
 downFields (To i (Aborted t c)) = aborted i t c
-downFields (To i (Invalidate d)) = invalidate i (pageSet d)
+downFields (To i (Invalidate set)) = invalidate i (table 32 0 (objectSet set))

@@ -12,7 +12,7 @@ use Rattle.sets.specs.Size.{size, size-empty, size-part, size-joined}
 use Rattle.limits.specs.Limit.{limit}
 use Rattle.sets.specs.Laws.{byB, byEq, eqb-same, eqb-yes, eqb-no, and-l, and-r, not-no, any-some}
 use Rattle.line.specs.Messages.{locking, Lock, NoLock, ObjectLock, WholeLock, Down, Page, Deescalate, Callback, Committed, Aborted, Invalidate}
-use Rattle.line.specs.Station.{Station, freshStation, Did, unless, Wait, Idle, ForRead, ForWrite, ForCommit, waiting, Kept, NotKept, KeptCall, shown, mayWrite, usedAt, inUse, touched, forRead, forWrite, forCommit, requested, usedPage, live, ended, fitsPage, fits, checkBegin, openThen, checkOpen, longRead, longWrite, checkAddress, checkPurge, dropPages, recordRead, writeLocal, mark, doCallback, doKept, doAllKept, closed, close, undo, ownBegin, readLocal, readAsk, readAs, ownRead, writeAsk, ownWrite, ownCommit, ownAbort, ownPurge, arrive, takeLock, answerWait, onPage, onDeescalate, loosen, onCallback, onCommitted, onAborted, onInvalidate, onDown, stationStep}
+use Rattle.line.specs.Station.{Station, freshStation, Did, unless, Wait, Idle, ForRead, ForWrite, ForCommit, waiting, Kept, NotKept, KeptCall, shown, mayWrite, usedAt, inUse, forRead, forWrite, forCommit, requested, usedPage, live, ended, fitsPage, fits, checkBegin, openThen, checkOpen, longRead, longWrite, checkAddress, checkPurge, dropPages, recordRead, writeLocal, mark, doCallback, doKept, doAllKept, closed, close, undo, ownBegin, readLocal, readAsk, readAs, ownRead, writeAsk, ownWrite, ownCommit, ownAbort, ownPurge, arrive, takeLock, answerWait, onPage, onDeescalate, loosen, onCallback, onCommitted, onAborted, onInvalidate, onDown, stationStep}
 use Rattle.line.specs.Line.{Op, Begin, Read, Write, Commits, Aborts, Purges, perform}
 use Rattle.line.specs.All.{All, all-append}
 use Rattle.line.specs.Bounds.{undo-kept}
@@ -404,7 +404,7 @@ used-open own s h a e =
     (λ o. absurd (false≢true (rw (h .works .unread o a, h .works .unwritten o a) at e)))
 
 module _ (own : ℕ) (s : Station) (h : FitStation own s) where
-  page-fit : (l : Lock) (a t v : ℕ) (u : ℕ → Bool) (x : ℕ → ℕ) → fitsPage l a t s ≡ true → FitDid own (onPage l a t v u x s)
+  page-fit : (l : Lock) (a t : ℕ) (v : ℕ → ℕ) (u : ℕ → Bool) (x : ℕ → ℕ) → fitsPage l a t s ≡ true → FitDid own (onPage l a t v u x s)
   unfolding onPage arrive
   page-fit l a t v u x f =
       if-fit (FitDid own) (ended s t) (λ e. record { station = h; sent = tt })
@@ -457,10 +457,10 @@ module _ (own : ℕ) (s : Station) (h : FitStation own s) where
       (λ e. record { station = record { works = h .works; few = h .few; locked = h .locked; callbacks = h .callbacks }; sent = (record { names = n; kind-fits = k }, tt) })
 
   invalidate-fit : (d : ℕ → Bool) → FitDid own (onInvalidate d s)
-  unfolding onInvalidate dropPages
+  unfolding onInvalidate mark
   invalidate-fit d =
-      let y : Station = dropPages d s in
-      if-fit (FitDid own) (touched d s && not (forCommit (s .wait)))
+      let y : Station = mark d s in
+      if-fit (FitDid own) (inUse d s && not (forCommit (s .wait)))
       (λ e. close-fit own _ (rw (undo-kept y) (h .callbacks .not-own)) (λ r. rw (undo-kept y, undo-kind y) (h .callbacks .fit r)) tt)
       (λ e. record { station = record { works = h .works; few = h .few; locked = h .locked; callbacks = h .callbacks }; sent = tt })
 

@@ -8,7 +8,7 @@ use lib.Dec.{eqb}
 use Rattle.sets.specs.Base.{Val, none, some, turned}
 use Rattle.sets.specs.Laws.{byB, byEq, eqb-yes}
 use Rattle.line.specs.Messages.{Lock, NoLock, ObjectLock, WholeLock, Down, Page, Deescalate, Callback, Committed, Aborted, Invalidate}
-use Rattle.line.specs.Station.{Station, Did, unless, Wait, Idle, ForRead, ForWrite, ForCommit, NotKept, live, shown, mayWrite, ended, fits, inUse, touched, forCommit, checkBegin, checkOpen, longRead, longWrite, checkAddress, checkPurge, dropPages, mark, recordRead, writeLocal, doCallback, doKept, doAllKept, closed, close, ownBegin, readLocal, readAsk, readAs, ownRead, writeAsk, ownWrite, ownCommit, ownAbort, ownPurge, arrive, takeLock, answerWait, onPage, onDeescalate, loosen, onCallback, onCommitted, onAborted, onInvalidate, onDown, stationStep}
+use Rattle.line.specs.Station.{Station, Did, unless, Wait, Idle, ForRead, ForWrite, ForCommit, NotKept, live, shown, mayWrite, ended, fits, inUse, forCommit, checkBegin, checkOpen, longRead, longWrite, checkAddress, checkPurge, dropPages, mark, recordRead, writeLocal, doCallback, doKept, doAllKept, closed, close, ownBegin, readLocal, readAsk, readAs, ownRead, writeAsk, ownWrite, ownCommit, ownAbort, ownPurge, arrive, takeLock, answerWait, onPage, onDeescalate, loosen, onCallback, onCommitted, onAborted, onInvalidate, onDown, stationStep}
 use Rattle.line.specs.Server.{serverStep}
 use Rattle.line.specs.Line.{Op, Begin, Read, Write, Commits, Aborts, Purges, perform, Call, fresh, sentTo, act, run}
 use Rattle.line.specs.All.{All, all-append}
@@ -70,7 +70,7 @@ module _ (own : ℕ) where
   down-kept (Callback r t set) s h e = byB (inUse set s) (λ q. rw (q, h) e) (λ q. rw q e)
   down-kept (Committed t n) s h e = close-kept _ e
   down-kept (Aborted t c) s h e = close-kept _ (rw (undo-kept s) e)
-  down-kept (Invalidate d) s h e = byB (touched d s && not (forCommit (s .wait))) (λ q. rw q (close-kept _ (rw (undo-kept (dropPages d s)) e))) (λ q. rw q e)
+  down-kept (Invalidate d) s h e = byB (inUse d s && not (forCommit (s .wait))) (λ q. rw q (close-kept _ (rw (undo-kept (mark d s)) e))) (λ q. rw q e)
 
   -- a delivery of what the server sends
   pub station-kept : (m : Down) (s : Station) → Says own m → s .kept own ≡ NotKept → KeepsOthers own (stationStep m s)

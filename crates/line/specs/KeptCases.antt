@@ -18,20 +18,24 @@ use Rattle.line.specs.Cases.{line, answers, sends, serves, only, C6}
 abbrev fives : List ℕ
 fives = 5 ∷ 0 ∷ 0 ∷ 0 ∷ 0 ∷ 0 ∷ 0 ∷ 0 ∷ []
 
+-- .. and versions
+abbrev ones : List ℕ
+ones = 1 ∷ 0 ∷ 0 ∷ 0 ∷ 0 ∷ 0 ∷ 0 ∷ 0 ∷ []
+
 -- 0 commits; its next transaction comes to the server first, by a read of 16, then that of 2, the loser of C6; both have read 8
 abbrev repeats : List Step
 repeats =
-    sends (Owner 0 Commits) Waits (commit 0 1 (only 1) noVersions (recorded 0 1 0 0 ((8, 0) ∷ []) ((8, 5) ∷ [])) ∷ [])
+    sends (Owner 0 Commits) Waits (commit 0 1 (only 1) (0 ∷ 0 ∷ []) (recorded 0 1 0 0 ((8, 0) ∷ []) ((8, 5) ∷ [])) ∷ [])
     ∷ step (ServerTakes 0) Nothing (committed 0 1 1 ∷ []) (recorded 1 1 0 0 ((8, 0) ∷ []) ((8, 5) ∷ []) ∷ [])
     ∷ answers (StationTakes 0) (CommittedAs 1)
     ∷ answers (Owner 0 Begin) (Begun 2)
     ∷ sends (Owner 0 (Read 16)) Waits (readRequest 0 2 0 2 ∷ [])
-    ∷ serves 0 (page 0 2 0 2 0 0 noValues ∷ [])
+    ∷ serves 0 (page 0 2 0 2 noVersions 0 noValues ∷ [])
     ∷ answers (StationTakes 0) (Value 0)
     ∷ answers (Owner 0 (Read 8)) (Value 5)
     ∷ answers (Owner 2 Begin) (Begun 2)
     ∷ sends (Owner 2 (Read 8)) Waits (readRequest 2 1 0 2 ∷ [])
-    ∷ serves 2 (page 2 1 0 2 1 0 fives ∷ [])
+    ∷ serves 2 (page 2 1 0 2 ones 0 fives ∷ [])
     ∷ answers (StationTakes 2) (Value 5)
     ∷ []
 
@@ -46,7 +50,7 @@ wins =
     ∷ serves 2 (aborted 0 2 1 ∷ callback 0 2 2 (setOn 1 1) ∷ [])
     ∷ answers (StationTakes 0) (AbortedFor 1)
     ∷ sends (StationTakes 0) Nothing (done 0 2 2 (only 1) ∷ [])
-    ∷ serves 0 (pageWhole 2 1 0 2 1 0 fives ∷ [])
+    ∷ serves 0 (pageWhole 2 1 0 2 ones 0 fives ∷ [])
     ∷ answers (StationTakes 2) Written
     ∷ []
 
@@ -129,9 +133,9 @@ beaten1 =
     ∷ StationTakes 0 ∷ ServerTakes 0 ∷ Owner 0 (Write 8 7) ∷ ServerTakes 0 ∷ StationTakes 1 ∷ StationTakes 0
     ∷ []
 
--- its next transaction reads 9, on a page that it has cached and that 0 has locked whole, and comes to the server by a read of 24
+-- its next transaction reads 8, which it has cached and 0 has written, and comes to the server by a read of 24
 abbrev next1 : List Call
-next1 = Owner 1 Begin ∷ Owner 1 (Read 9) ∷ Owner 1 (Read 24) ∷ ServerTakes 1 ∷ StationTakes 1 ∷ []
+next1 = Owner 1 Begin ∷ Owner 1 (Read 8) ∷ Owner 1 (Read 24) ∷ ServerTakes 1 ∷ StationTakes 1 ∷ []
 
 -- the one behind that comes to the server
 abbrev third1 : List Call

@@ -1,6 +1,6 @@
 -- What goes over the lines. "Kinds 1 to 8 go to the server and 16 to 23 to stations."
 -- A page and an object on it are one address everywhere: "Address = page × 8 + object." Sets of objects are sets of addresses,
--- a page's eight values are a function of the address, 0 off the message's page.
+-- a page's eight values and its eight versions are functions of the address, 0 off the message's page.
 use mathlib.Core.Bool.{Bool}
 use Prim.Native.Nat.{ℕ, _+_, _*_, _/_}
 use lib.Dec.{eqb}
@@ -20,13 +20,15 @@ lastNumber = 4294967295
 abbrev pub locking : ℕ → Bool
 locking k = eqb k 0
 
--- what a commit brings: its record's reads and writes, and "32 versions (0 for an unused page; all 0 from a locking station)".
--- The set of pages used is that of the reads and writes (number 5 otherwise).
+-- what a commit brings: its record's reads and writes, and by document 02 "one version for each entry of its record, in record order, in
+-- place of the 32 page versions; from a locking station all are 0". An object that is read and written has two entries, each with a
+-- version. The set of pages used is that of the reads and writes (number 5 otherwise).
 pub record Work : Type 0 where
   pub transaction : ℕ
   pub reads : ℕ → Val
   pub writes : ℕ → Val
-  pub versions : ℕ → ℕ
+  pub readVersions : ℕ → ℕ
+  pub writtenVersions : ℕ → ℕ
 
 pub data Up : Type 0 where
   ReadRequest : ℕ → ℕ → Up  -- 1: address, transaction
@@ -43,12 +45,12 @@ pub data Lock : Type 0 where
   NoLock ObjectLock WholeLock : Lock
 
 pub data Down : Type 0 where
-  Page : Lock → ℕ → ℕ → ℕ → (ℕ → Bool) → (ℕ → ℕ) → Down  -- 16, 17, 18: address, transaction, version, unavailable, values
+  Page : Lock → ℕ → ℕ → (ℕ → ℕ) → (ℕ → Bool) → (ℕ → ℕ) → Down  -- 16, 17, 18: address, transaction, versions, unavailable, values
   Deescalate : ℕ → ℕ → Down  -- 19: page, transaction
   Callback : ℕ → ℕ → (ℕ → Bool) → Down  -- 20: requester, its transaction, addresses
   Committed : ℕ → ℕ → Down  -- 21: transaction, commit number
   Aborted : ℕ → ℕ → Down  -- 22: transaction, cause
-  Invalidate : (ℕ → Bool) → Down  -- 23: pages
+  Invalidate : (ℕ → Bool) → Down  -- 23: addresses
 
 -- a message and the station it goes to
 pub data Sent : Type 0 where

@@ -9,7 +9,7 @@ use lib.Dec.{eqb, ltb}
 use native.Mathlib.Omega.{arith}
 use Rattle.sets.specs.Base.{any, turned}
 use Rattle.line.specs.Messages.{Up}
-use Rattle.line.specs.Server.{isWant, firstFrom, youngest, edges, lockedAt, locked, stale, blockedAt, other, wants, wantsPage, waits, blocks, Server, Serving, Want, NoWant, WantRead, WantWrite, WantCommit, abort, ask, askFrom, holder, call, callOnce, serveRead, grantObject, grantPage, grant, hinders, installWaiter, blocked, shut, fault, allAnswered, afterCalls, proceed, gates, visit, pass, order, victim, moved, settle, fuel, accept, start, serverStep}
+use Rattle.line.specs.Server.{isWant, firstFrom, youngest, edges, lockedAt, locked, stale, blockedAt, other, wants, wantsPage, waits, blocks, Server, Serving, Want, NoWant, WantRead, WantWrite, WantCommit, abort, ask, askFrom, holder, call, callOnce, serveRead, grantObject, grantPage, grant, hinders, installWaiter, blocked, shut, fault, allAnswered, afterCalls, proceed, gates, visit, pass, order, victim, moved, settle, fuel, accept, start, serverStep, staleAt}
 use Rattle.line.specs.Messages.{pageOf, address, lastNumber}
 use Rattle.sets.specs.Laws.{byB, byEq, eqb-same, eqb-yes, any-ext, not-yes, and-l, and-r}
 use Rattle.sets.specs.Reach.{onCycle}
@@ -162,8 +162,13 @@ module _ (i : ℕ) (x : Serving) where
   call-locked : locked ((call i x) .server) i ≡ locked (x .server) i
   call-locked = any-ext 256 (lockedAt ((call i x) .server) i) (lockedAt (x .server) i) (λ a. rw (call-writes i a, call-ol a) refl)
 
+  call-stale : stale ((call i x) .server) ((call i x) .server .queue i .work) ≡ stale (x .server) (x .server .queue i .work)
+  call-stale =
+      rw (call-work i)
+      (any-ext 256 (staleAt ((call i x) .server) (x .server .queue i .work)) (staleAt (x .server) (x .server .queue i .work)) (λ a. rw call-ver refl))
+
   call-fault : fault ((call i x) .server) i ≡ fault (x .server) i
-  call-fault = rw (call-last, call-ver, call-work i, call-locked) refl
+  call-fault = rw (call-last, call-stale, call-locked) refl
 
 -- whoever is shut out is so by a holder
 held-by : (x i : ℕ) → other x i ≡ true → x ≡ suc (holder x)

@@ -1,4 +1,4 @@
--- What every message down a line says. A page message says nothing off its page: values 0, nothing unavailable; so its bytes, which
+-- What every message down a line says. A page message says nothing off its page: values and versions 0, nothing unavailable; so its bytes, which
 -- have room for one page, say all of it. A callback goes to another than its requester.
 use mathlib.Core.Path.{_≡_, refl}
 use mathlib.Core.Bool.{Bool, true, false, false≢true, cond}
@@ -14,13 +14,14 @@ use Rattle.line.specs.Line.{sentTo}
 use Rattle.line.specs.Pass.{Atomic, if-keeps, step-keeps}
 use Rattle.line.specs.All.{All, all-append}
 
-pub record OnPage (a : ℕ) (u : ℕ → Bool) (x : ℕ → ℕ) : Type 0 where
+pub record OnPage (a : ℕ) (v : ℕ → ℕ) (u : ℕ → Bool) (x : ℕ → ℕ) : Type 0 where
+  pub versions : (b : ℕ) → pageOf b ≢ pageOf a → v b ≡ 0
   pub unavailables : (b : ℕ) → pageOf b ≢ pageOf a → u b ≡ false
   pub values : (b : ℕ) → pageOf b ≢ pageOf a → x b ≡ 0
 
 -- of a message to station j
 abbrev pub Says : ℕ → Down → Type 0
-Says j (Page l a t v u x) = OnPage a u x
+Says j (Page l a t v u x) = OnPage a v u x
 Says j (Deescalate p t) = Unit {0}
 Says j (Callback r t set) = eqb j r ≡ false
 Says j (Committed t n) = Unit {0}
@@ -42,7 +43,7 @@ off-page a b x y n = byEq (pageOf b) (pageOf a) (λ e. absurd (n (eqb-yes (pageO
 
 page-says : (l : Lock) (i a : ℕ) (u : ℕ → Bool) (x : Serving) → ((b : ℕ) → pageOf b ≢ pageOf a → u b ≡ false) → AllSay x → AllSay (sendPage l i a u x)
 unfolding sendPage
-page-says l i a u x n h = more (x .sent) _ h (record { unavailables = n; values = λ b k. off-page a b (x .server .val b) 0 k })
+page-says l i a u x n h = more (x .sent) _ h (record { versions = λ b k. off-page a b (x .server .ver b) 0 k; unavailables = n; values = λ b k. off-page a b (x .server .val b) 0 k })
 
 -- what `unavailable` gives
 unavailable-off : (s : Server) (i a b : ℕ) → pageOf b ≢ pageOf a → unavailable s i a b ≡ false

@@ -51,7 +51,7 @@ abbrev pub waiterBusy : Waiter → (ℕ → Bool) → Waiter
 waiterBusy s x = record { want = s .want; arrival = s .arrival; req = s .req; work = s .work; reads = s .reads; writes = s .writes; called = s .called; pend = s .pend; busy = x }
 
 abbrev pub noWork : Work
-noWork = record { transaction = 0; reads = noneAt; writes = noneAt; versions = zeros }
+noWork = record { transaction = 0; reads = noneAt; writes = noneAt; readVersions = zeros; writtenVersions = zeros }
 
 abbrev pub noWaiter : Waiter
 noWaiter = record { want = NoWant; arrival = 0; req = 0; work = noWork; reads = nowhere; writes = nowhere; called = false; pend = nowhere; busy = nowhere }
@@ -60,7 +60,7 @@ noWaiter = record { want = NoWant; arrival = 0; req = 0; work = noWork; reads = 
 pub record Server : Type 0 where
   pub kind : ℕ → ℕ
   pub val : ℕ → ℕ  -- by address
-  pub ver : ℕ → ℕ  -- by page
+  pub ver : ℕ → ℕ  -- "The version is kept for each object": by address
   pub last : ℕ  -- last commit number
   pub ol : ℕ → ℕ  -- object locks, by address
   pub wl : ℕ → ℕ  -- whole locks, by page
@@ -252,7 +252,7 @@ join i w x = let s = x .server in onServer x (setQueue (setArrivals s (s .arriva
 unfoldable pub leave : ℕ → Serving → Serving
 leave i x = onServer x (setQueue (x .server) (upd (x .server .queue) i noWaiter))
 
--- "eight values": those of the page, and nothing of any other
+-- "eight values", and "eight of 4 bytes after the values": those of the page, and nothing of any other
 abbrev pub valuesOn : ℕ → (ℕ → ℕ) → ℕ → ℕ
 valuesOn p v b = cond (eqb (pageOf b) p) (v b) 0
 
@@ -260,7 +260,7 @@ valuesOn p v b = cond (eqb (pageOf b) p) (v b) 0
 unfoldable pub sendPage : Lock → ℕ → ℕ → (ℕ → Bool) → Serving → Serving
 sendPage l i a u x =
     let s = x .server in
-    send (onServer x (setListed s (upd2 (s .listed) i (pageOf a) true))) i (Page l a (s .latest i) (s .ver (pageOf a)) u (valuesOn (pageOf a) (s .val)))
+    send (onServer x (setListed s (upd2 (s .listed) i (pageOf a) true))) i (Page l a (s .latest i) (valuesOn (pageOf a) (s .ver)) u (valuesOn (pageOf a) (s .val)))
 
 -- "Unavailable in 16 to 18 are objects that others have locked or wait to write, without the one requested."
 abbrev pub unavailable : Server → ℕ → ℕ → ℕ → Bool
@@ -270,8 +270,8 @@ unavailable s i a b = eqb (pageOf b) (pageOf a) && not (eqb b a) && (other (s .o
 unfoldable pub abort : ℕ → ℕ → Serving → Serving
 abort i c x = let y = finish i (ByCause c) (leave i x) in send y i (Aborted (y .server .latest i) c)
 
--- "Install: write values, archive the record, free locks, send 21, then, stations rising, 23 with all written pages to other
--- validating stations listed for one"                                              P.inst, and U3l
+-- "Install: write values, archive the record, free locks, send 21, then, stations rising, 23" to other validating stations listed for a
+-- written page                                                                     P.inst, and U3l
 abbrev pub informed : Server → ℕ → Work → ℕ → Bool
 informed s i w j = not (eqb j i) && not (locking (s .kind j)) && any 32 (λ p. wrotePage w p && s .listed j p)
 
@@ -280,7 +280,7 @@ write w x =
     let s = x .server in
     onServer x (setVal (setVer (setLast s
     (s .last + 1))
-    (λ p. cond (wrotePage w p) (s .last + 1) (s .ver p)))
+    (λ a. cond (has (w .writes a)) (s .last + 1) (s .ver a)))
     (λ a. valOr (w .writes a) (s .val a)))
 
 abbrev pub recordOf : Server → ℕ → Work → Rec
@@ -289,13 +289,9 @@ recordOf s i w = record { number = s .last; transaction = w .transaction; statio
 unfoldable pub archive : ℕ → Work → Serving → Serving
 archive i w x = servingRecs x (snoc (x .recs) (recordOf (x .server) i w))
 
--- 23 to station j, which is then no longer listed for the pages
+-- "Kind 23 carries object sets by page": all that was written. "A listed copy remains listed after 23 unless purged."
 unfoldable pub inform : ℕ → Work → ℕ → Serving → Serving
-inform i w j x =
-    let s = x .server in
-    cond (informed s i w j)
-    (send (onServer x (setListed s (λ k p. cond (eqb k j) (s .listed k p && not (wrotePage w p)) (s .listed k p)))) j (Invalidate (wrotePage w)))
-    x
+inform i w j x = cond (informed (x .server) i w j) (send x j (Invalidate (λ a. has (w .writes a)))) x
 
 unfoldable pub informFrom : ℕ → ℕ → ℕ → Work → Serving → Serving
 informFrom zero j i w x = x
@@ -375,11 +371,14 @@ accept i (WrittenSet p t set) x = cond (openAsk (x .server) i p t) (loosen i p s
 
 -- the pass: its gates
 
--- "Validating commit: number 4,294,967,295 already used, cause 4; a used page with another version, cause 2", and by document 02:
--- "behind causes 4 and 2, cause 3 is given exactly when a written object itself is locked by another". A page locked whole is asked
+-- "Validating commit: number 4,294,967,295 already used, cause 4", and by document 02: "Cause 2 is given for a used object with another
+-- version"; "behind causes 4 and 2, cause 3 is given exactly when a written object itself is locked by another". A page locked whole is asked
 -- for by 19 and waited for, as a page that is only read (`shut`)
+abbrev pub staleAt : Server → Work → ℕ → Bool
+staleAt s w a = (has (w .reads a) && not (eqb (w .readVersions a) (s .ver a))) || (has (w .writes a) && not (eqb (w .writtenVersions a) (s .ver a)))
+
 abbrev pub stale : Server → Work → Bool
-stale s w = any 32 (λ p. usedPage w p && not (eqb (w .versions p) (s .ver p)))
+stale s w = any 256 (staleAt s w)
 
 abbrev pub lockedAt : Server → ℕ → ℕ → Bool
 lockedAt s i a = s .queue i .writes a && other (s .ol a) i

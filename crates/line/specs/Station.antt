@@ -25,58 +25,62 @@ pub record Station : Type 0 where
   pub num : ℕ  -- "A station numbers its transactions from 1": the latest begun
   pub opened : Bool  -- "one open at a time"
   pub cached : ℕ → Bool  -- by page
-  pub cver : ℕ → ℕ  -- version of the copy, by page
+  pub cver : ℕ → ℕ  -- version of the copy, by address
   pub copy : ℕ → ℕ  -- by address
   pub unav : ℕ → Bool  -- unavailable, by address
   pub rd : ℕ → Val  -- recorded reads
   pub wr : ℕ → Val  -- own last writes
+  pub seen : ℕ → ℕ  -- by address: the copy's version when the transaction first used the object
   pub wait : Wait
   pub ol : ℕ → Bool  -- own object locks
   pub wl : ℕ → Bool  -- own whole locks, by page
   pub kept : ℕ → Kept  -- by requester
 
 abbrev pub setKind : Station → (ℕ) → Station
-setKind s x = record { kind = x; num = s .num; opened = s .opened; cached = s .cached; cver = s .cver; copy = s .copy; unav = s .unav; rd = s .rd; wr = s .wr; wait = s .wait; ol = s .ol; wl = s .wl; kept = s .kept }
+setKind s x = record { kind = x; num = s .num; opened = s .opened; cached = s .cached; cver = s .cver; copy = s .copy; unav = s .unav; rd = s .rd; wr = s .wr; seen = s .seen; wait = s .wait; ol = s .ol; wl = s .wl; kept = s .kept }
 
 abbrev pub setNum : Station → (ℕ) → Station
-setNum s x = record { kind = s .kind; num = x; opened = s .opened; cached = s .cached; cver = s .cver; copy = s .copy; unav = s .unav; rd = s .rd; wr = s .wr; wait = s .wait; ol = s .ol; wl = s .wl; kept = s .kept }
+setNum s x = record { kind = s .kind; num = x; opened = s .opened; cached = s .cached; cver = s .cver; copy = s .copy; unav = s .unav; rd = s .rd; wr = s .wr; seen = s .seen; wait = s .wait; ol = s .ol; wl = s .wl; kept = s .kept }
 
 abbrev pub setOpened : Station → (Bool) → Station
-setOpened s x = record { kind = s .kind; num = s .num; opened = x; cached = s .cached; cver = s .cver; copy = s .copy; unav = s .unav; rd = s .rd; wr = s .wr; wait = s .wait; ol = s .ol; wl = s .wl; kept = s .kept }
+setOpened s x = record { kind = s .kind; num = s .num; opened = x; cached = s .cached; cver = s .cver; copy = s .copy; unav = s .unav; rd = s .rd; wr = s .wr; seen = s .seen; wait = s .wait; ol = s .ol; wl = s .wl; kept = s .kept }
 
 abbrev pub setCached : Station → (ℕ → Bool) → Station
-setCached s x = record { kind = s .kind; num = s .num; opened = s .opened; cached = x; cver = s .cver; copy = s .copy; unav = s .unav; rd = s .rd; wr = s .wr; wait = s .wait; ol = s .ol; wl = s .wl; kept = s .kept }
+setCached s x = record { kind = s .kind; num = s .num; opened = s .opened; cached = x; cver = s .cver; copy = s .copy; unav = s .unav; rd = s .rd; wr = s .wr; seen = s .seen; wait = s .wait; ol = s .ol; wl = s .wl; kept = s .kept }
 
 abbrev pub setCver : Station → (ℕ → ℕ) → Station
-setCver s x = record { kind = s .kind; num = s .num; opened = s .opened; cached = s .cached; cver = x; copy = s .copy; unav = s .unav; rd = s .rd; wr = s .wr; wait = s .wait; ol = s .ol; wl = s .wl; kept = s .kept }
+setCver s x = record { kind = s .kind; num = s .num; opened = s .opened; cached = s .cached; cver = x; copy = s .copy; unav = s .unav; rd = s .rd; wr = s .wr; seen = s .seen; wait = s .wait; ol = s .ol; wl = s .wl; kept = s .kept }
 
 abbrev pub setCopy : Station → (ℕ → ℕ) → Station
-setCopy s x = record { kind = s .kind; num = s .num; opened = s .opened; cached = s .cached; cver = s .cver; copy = x; unav = s .unav; rd = s .rd; wr = s .wr; wait = s .wait; ol = s .ol; wl = s .wl; kept = s .kept }
+setCopy s x = record { kind = s .kind; num = s .num; opened = s .opened; cached = s .cached; cver = s .cver; copy = x; unav = s .unav; rd = s .rd; wr = s .wr; seen = s .seen; wait = s .wait; ol = s .ol; wl = s .wl; kept = s .kept }
 
 abbrev pub setUnav : Station → (ℕ → Bool) → Station
-setUnav s x = record { kind = s .kind; num = s .num; opened = s .opened; cached = s .cached; cver = s .cver; copy = s .copy; unav = x; rd = s .rd; wr = s .wr; wait = s .wait; ol = s .ol; wl = s .wl; kept = s .kept }
+setUnav s x = record { kind = s .kind; num = s .num; opened = s .opened; cached = s .cached; cver = s .cver; copy = s .copy; unav = x; rd = s .rd; wr = s .wr; seen = s .seen; wait = s .wait; ol = s .ol; wl = s .wl; kept = s .kept }
 
 abbrev pub setRd : Station → (ℕ → Val) → Station
-setRd s x = record { kind = s .kind; num = s .num; opened = s .opened; cached = s .cached; cver = s .cver; copy = s .copy; unav = s .unav; rd = x; wr = s .wr; wait = s .wait; ol = s .ol; wl = s .wl; kept = s .kept }
+setRd s x = record { kind = s .kind; num = s .num; opened = s .opened; cached = s .cached; cver = s .cver; copy = s .copy; unav = s .unav; rd = x; wr = s .wr; seen = s .seen; wait = s .wait; ol = s .ol; wl = s .wl; kept = s .kept }
 
 abbrev pub setWr : Station → (ℕ → Val) → Station
-setWr s x = record { kind = s .kind; num = s .num; opened = s .opened; cached = s .cached; cver = s .cver; copy = s .copy; unav = s .unav; rd = s .rd; wr = x; wait = s .wait; ol = s .ol; wl = s .wl; kept = s .kept }
+setWr s x = record { kind = s .kind; num = s .num; opened = s .opened; cached = s .cached; cver = s .cver; copy = s .copy; unav = s .unav; rd = s .rd; wr = x; seen = s .seen; wait = s .wait; ol = s .ol; wl = s .wl; kept = s .kept }
+
+abbrev pub setSeen : Station → (ℕ → ℕ) → Station
+setSeen s x = record { kind = s .kind; num = s .num; opened = s .opened; cached = s .cached; cver = s .cver; copy = s .copy; unav = s .unav; rd = s .rd; wr = s .wr; seen = x; wait = s .wait; ol = s .ol; wl = s .wl; kept = s .kept }
 
 abbrev pub setWait : Station → (Wait) → Station
-setWait s x = record { kind = s .kind; num = s .num; opened = s .opened; cached = s .cached; cver = s .cver; copy = s .copy; unav = s .unav; rd = s .rd; wr = s .wr; wait = x; ol = s .ol; wl = s .wl; kept = s .kept }
+setWait s x = record { kind = s .kind; num = s .num; opened = s .opened; cached = s .cached; cver = s .cver; copy = s .copy; unav = s .unav; rd = s .rd; wr = s .wr; seen = s .seen; wait = x; ol = s .ol; wl = s .wl; kept = s .kept }
 
 abbrev pub setOl : Station → (ℕ → Bool) → Station
-setOl s x = record { kind = s .kind; num = s .num; opened = s .opened; cached = s .cached; cver = s .cver; copy = s .copy; unav = s .unav; rd = s .rd; wr = s .wr; wait = s .wait; ol = x; wl = s .wl; kept = s .kept }
+setOl s x = record { kind = s .kind; num = s .num; opened = s .opened; cached = s .cached; cver = s .cver; copy = s .copy; unav = s .unav; rd = s .rd; wr = s .wr; seen = s .seen; wait = s .wait; ol = x; wl = s .wl; kept = s .kept }
 
 abbrev pub setWl : Station → (ℕ → Bool) → Station
-setWl s x = record { kind = s .kind; num = s .num; opened = s .opened; cached = s .cached; cver = s .cver; copy = s .copy; unav = s .unav; rd = s .rd; wr = s .wr; wait = s .wait; ol = s .ol; wl = x; kept = s .kept }
+setWl s x = record { kind = s .kind; num = s .num; opened = s .opened; cached = s .cached; cver = s .cver; copy = s .copy; unav = s .unav; rd = s .rd; wr = s .wr; seen = s .seen; wait = s .wait; ol = s .ol; wl = x; kept = s .kept }
 
 abbrev pub setKept : Station → (ℕ → Kept) → Station
-setKept s x = record { kind = s .kind; num = s .num; opened = s .opened; cached = s .cached; cver = s .cver; copy = s .copy; unav = s .unav; rd = s .rd; wr = s .wr; wait = s .wait; ol = s .ol; wl = s .wl; kept = x }
+setKept s x = record { kind = s .kind; num = s .num; opened = s .opened; cached = s .cached; cver = s .cver; copy = s .copy; unav = s .unav; rd = s .rd; wr = s .wr; seen = s .seen; wait = s .wait; ol = s .ol; wl = s .wl; kept = x }
 
 abbrev pub freshStation : ℕ → Station
 freshStation k =
-    record { kind = k; num = 0; opened = false; cached = nowhere; cver = zeros; copy = zeros; unav = nowhere; rd = noneAt; wr = noneAt; wait = Idle; ol = nowhere; wl = nowhere; kept = λ r. NotKept }
+    record { kind = k; num = 0; opened = false; cached = nowhere; cver = zeros; copy = zeros; unav = nowhere; rd = noneAt; wr = noneAt; seen = zeros; wait = Idle; ol = nowhere; wl = nowhere; kept = λ r. NotKept }
 
 -- what a call does: the station afterwards, the answer, the messages sent up in order
 pub record Did : Type 0 where
@@ -156,16 +160,18 @@ dropPages d s =
     setCached (setCver (setCopy (setUnav s
     (λ a. not (d (pageOf a)) && s .unav a))
     (λ a. cond (d (pageOf a)) 0 (s .copy a)))
-    (λ p. cond (d p) 0 (s .cver p)))
+    (λ a. cond (d (pageOf a)) 0 (s .cver a)))
     (λ p. not (d p) && s .cached p)
 
--- "Read, write": what happens in the copy
+-- "Read, write": what happens in the copy. The version that a commit carries for an object (document 02, wish 6) is the one that its copy
+-- had when the transaction first read or wrote it.
 
 unfoldable pub recordRead : ℕ → Station → Station
-recordRead a s = setRd s (upd (s .rd) a (some (s .copy a)))
+recordRead a s = setSeen (setRd s (upd (s .rd) a (some (s .copy a)))) (upd (s .seen) a (s .cver a))
 
 unfoldable pub writeLocal : ℕ → ℕ → Station → Station
-writeLocal a v s = setCopy (setWr s (upd (s .wr) a (some v))) (upd (s .copy) a v)
+writeLocal a v s =
+    setSeen (setCopy (setWr s (upd (s .wr) a (some v))) (upd (s .copy) a v)) (upd (s .seen) a (cond (usedAt s a) (s .seen a) (s .cver a)))
 
 -- callbacks
 
@@ -195,7 +201,7 @@ doAllKept (suc n) r d = doAllKept n (suc r) (doKept r (d .station .kept r) d)
 -- ends of a transaction
 
 unfoldable pub closed : Station → Station
-closed s = setOpened (setWait (setRd (setWr (setOl (setWl s nowhere) nowhere) noneAt) noneAt) Idle) false
+closed s = setOpened (setWait (setSeen (setRd (setWr (setOl (setWl s nowhere) nowhere) noneAt) noneAt) zeros) Idle) false
 
 unfoldable pub close : Did → Did
 close d = doAllKept 8 0 (didStation d (closed (d .station)))
@@ -252,10 +258,10 @@ readAs a (some v) r s = does (Value v) s []
 unfoldable pub ownRead : ℕ → Station → Did
 ownRead a s = unless (checkAddress a (longRead a s) s) (readAs a (s .wr a) (s .rd a) s) s
 
--- "A locking station writes locally under its lock on object or page, else sends 2. A validating station writes locally on a
--- cached page, else sends 1."
+-- "A locking station writes locally under its lock on object or page, else sends 2." Of a validating one document 02 says: "It writes
+-- locally only on available objects"; else it sends 1.
 abbrev pub mayWrite : ℕ → Station → Bool
-mayWrite a s = cond (locking (s .kind)) (s .ol a || s .wl (pageOf a)) (s .cached (pageOf a))
+mayWrite a s = cond (locking (s .kind)) (s .ol a || s .wl (pageOf a)) (shown s a)
 
 unfoldable pub writeAsk : ℕ → ℕ → Station → Did
 writeAsk a v s = does Waits (setWait s (ForWrite a v)) (cond (locking (s .kind)) (WriteRequest a (s .num)) (ReadRequest a (s .num)) ∷ [])
@@ -263,9 +269,12 @@ writeAsk a v s = does Waits (setWait s (ForWrite a v)) (cond (locking (s .kind))
 unfoldable pub ownWrite : ℕ → ℕ → Station → Did
 ownWrite a v s = unless (checkAddress a (longWrite a s) s) (cond (mayWrite a s) (does Written (writeLocal a v s) []) (writeAsk a v s)) s
 
--- "0 for an unused page; all 0 from a locking station"
+-- "one version for each entry of its record ..; from a locking station all are 0"
+abbrev pub versionSent : Station → (ℕ → Val) → ℕ → ℕ
+versionSent s entries a = cond (not (locking (s .kind)) && has (entries a)) (s .seen a) 0
+
 abbrev pub workOf : Station → Work
-workOf s = record { transaction = s .num; reads = s .rd; writes = s .wr; versions = λ p. cond (not (locking (s .kind)) && usedPage s p) (s .cver p) 0 }
+workOf s = record { transaction = s .num; reads = s .rd; writes = s .wr; readVersions = versionSent s (s .rd); writtenVersions = versionSent s (s .wr) }
 
 -- "Commit sends 3 and waits for 21 or 22."
 unfoldable pub ownCommit : Station → Did
@@ -296,15 +305,15 @@ fits (Deescalate p t) s = locking (s .kind)
 fits (Callback r t set) s = locking (s .kind)
 fits (Committed t n) s = live s t && forCommit (s .wait)
 fits (Aborted t c) s = live s t && waiting (s .wait)
-fits (Invalidate d) s = not (locking (s .kind))
+fits (Invalidate set) s = not (locking (s .kind))
 
 -- "An arriving page replaces the copy save for the transaction's own values."
-unfoldable pub arrive : ℕ → ℕ → (ℕ → Bool) → (ℕ → ℕ) → Station → Station
+unfoldable pub arrive : ℕ → (ℕ → ℕ) → (ℕ → Bool) → (ℕ → ℕ) → Station → Station
 arrive p v u x s =
     setCached (setCver (setCopy (setUnav s
     (λ b. cond (eqb (pageOf b) p) (u b) (s .unav b)))
     (λ b. cond (eqb (pageOf b) p) (valOr (s .wr b) (x b)) (s .copy b)))
-    (upd (s .cver) p v))
+    (λ b. cond (eqb (pageOf b) p) (v b) (s .cver b)))
     (upd (s .cached) p true)
 
 unfoldable pub takeLock : Lock → ℕ → Station → Station
@@ -320,10 +329,10 @@ answerWait (ForWrite a v) s = does Written (writeLocal a v s) []
 answerWait ForCommit s = does Nothing s []
 
 -- "taken and ignored"
-abbrev pub ignored : ℕ → ℕ → (ℕ → Bool) → (ℕ → ℕ) → Station → Did
+abbrev pub ignored : ℕ → (ℕ → ℕ) → (ℕ → Bool) → (ℕ → ℕ) → Station → Did
 ignored a v u x s = does Nothing s []
 
-unfoldable pub onPage : Lock → ℕ → ℕ → ℕ → (ℕ → Bool) → (ℕ → ℕ) → Station → Did
+unfoldable pub onPage : Lock → ℕ → ℕ → (ℕ → ℕ) → (ℕ → Bool) → (ℕ → ℕ) → Station → Did
 onPage l a t v u x s = cond (ended s t) (ignored a v u x s) (answerWait (s .wait) (setWait (arrive (pageOf a) v u x (takeLock l a s)) Idle))
 
 -- "On 19: send 8 with the objects written on that page, empty if that transaction is over; if it is open, the whole lock becomes
@@ -349,23 +358,20 @@ onCallback r t set s =
     (does Nothing (setKept s (upd (s .kept) r (KeptCall t set))) (Busy r t ∷ []))
     (doCallback r t set (does Nothing s []))
 
--- "On 21 written pages take the commit number as version."
+-- "on 21 the written objects, no longer their pages, take the commit number"
 unfoldable pub onCommitted : ℕ → Station → Did
-onCommitted n s = close (does (CommittedAs n) (setCver s (λ p. cond (s .cached p && wrotePage s p) n (s .cver p))) [])
+onCommitted n s = close (does (CommittedAs n) (setCver s (λ a. cond (s .cached (pageOf a) && has (s .wr a)) n (s .cver a))) [])
 
 unfoldable pub onAborted : ℕ → Station → Did
 onAborted c s = close (does (AbortedFor c) (undo s) [])
 
--- "the transaction used one" of the pages
-abbrev pub touched : (ℕ → Bool) → Station → Bool
-touched d s = any 32 (λ p. d p && usedPage s p)
-
--- "Validating, on 23: drop the pages; if the transaction used one and no commit is out, it ends as aborted, cause 2"
+-- Validating, on 23: "the station marks those objects unavailable, and its transaction, if no commit is out, ends if it used one", as
+-- aborted, cause 2
 unfoldable pub onInvalidate : (ℕ → Bool) → Station → Did
-onInvalidate d s =
-    cond (touched d s && not (forCommit (s .wait)))
-    (close (does (AbortedFor 2) (undo (dropPages d s)) []))
-    (does Nothing (dropPages d s) [])
+onInvalidate set s =
+    cond (inUse set s && not (forCommit (s .wait)))
+    (close (does (AbortedFor 2) (undo (mark set s)) []))
+    (does Nothing (mark set s) [])
 
 unfoldable pub onDown : Down → Station → Did
 onDown (Page l a t v u x) s = onPage l a t v u x s
@@ -373,7 +379,7 @@ onDown (Deescalate p t) s = onDeescalate p t s
 onDown (Callback r t set) s = onCallback r t set s
 onDown (Committed t n) s = onCommitted n s
 onDown (Aborted t c) s = onAborted c s
-onDown (Invalidate d) s = onInvalidate d s
+onDown (Invalidate set) s = onInvalidate set s
 
 unfoldable pub stationStep : Down → Station → Did
 stationStep m s = unless (turned (not (fits m s)) 6 0) (onDown m s) s

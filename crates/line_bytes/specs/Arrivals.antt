@@ -335,7 +335,7 @@ module _ (s : Station) (h : SteadyAt s) where
       kept true y k = refl
       kept false y k = k
 
-  page-paid : (a t v : ℕ) (u : ℕ → Bool) (x : ℕ → ℕ) → live s t ≡ true → s .wait ≡ ForRead a
+  page-paid : (a t : ℕ) (v : ℕ → ℕ) (u : ℕ → Bool) (x : ℕ → ℕ) → live s t ≡ true → s .wait ≡ ForRead a
       → Paid s (does (Value ((arrived NoLock a v u x s) .copy a)) (recordRead a (arrived NoLock a v u x s)) [])
   unfolding takeLock recordRead arrive
   page-paid a t v u x f p =
@@ -386,7 +386,7 @@ module _ (s : Station) (h : SteadyAt s) where
         dones = λ r t set f u. record { steady = h; pays = omega arith };
         commits = λ t n f p. close-paid _ refl refl;
         aborts = λ t c f p. close-paid _ (undo-num s) refl;
-        invalid-ends = λ d f u c. close-paid _ (undo-num (dropPages d s)) refl;
+        invalid-ends = λ d f u c. close-paid _ (undo-num (mark d s)) refl;
         invalid = λ d f u. record { steady = h; pays = omega arith };
       }
 

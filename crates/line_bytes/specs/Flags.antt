@@ -10,22 +10,21 @@ use lib.Dec.{eqb}
 use lib.ListN.{getD, set, replicate}
 use lib.Seq.{getD-set-other}
 use Rattle.sets.specs.Laws.{byB, byEq, eqb-yes, eqb-no}
-use Rattle.le.specs.Le.{u16At, u64At, setU32, setU64}
+use Rattle.le.specs.Le.{u64At, setU32, setU64}
 use Rattle.le.specs.Laws.{setU32-is}
 use Rattle.cells.specs.Num.{AllBytes, put-other}
 use Rattle.message.specs.Layout.{stationOf, pageOf, requesterOf, transactionOf, pagesOf, setOf}
 use Rattle.message.specs.Layout as Message
 use Rattle.message.specs.Number.{upNumber}
-use Rattle.message.specs.Commit.{recordAt, addressesAt}
-use Rattle.record.specs.Check.{writeCountFrom, readCountFrom}
+use Rattle.message.specs.Commit.{addressesAt, sentReads, sentWrites}
 use Rattle.message_meaning.specs.UpAccepted.{UpAccepted, up-accepted}
 use Rattle.station_state.specs.Layout.{pageSetWidth, numberWidth, valueWidth, hasBit, member}
 use Rattle.station_state.specs.Changes.{addTo, pageOn, pageOff, clearTo}
 use Rattle.server_state.specs.Valid.{kindsTo, freshServer}
-use Rattle.server_state.specs.Layout.{ageWidth, valueFrom, valueRow, setRow, ageFrom, arrivalFrom, nextAgeFrom, nextArrivalFrom, versionFrom, workFrom, latestFrom, listedFrom, lastFrom, askedFrom, lockFrom, wholeFrom, kindFrom, wantFrom, requestFrom, calledFrom, pendFrom, busyFrom, unfinishedFrom, ageKeptFrom, readValuesFrom, sentVersionsFrom, readSetFrom, serverLength, agesOf, ageKeptOf, latestOf, lastOf, lockOf, wholeOf, askedOf, arrivalOf, writtenSet, writtenSetFrom, writtenValuesFrom, wantOf, requestOf, calledOf, pendOf, lockingB}
+use Rattle.server_state.specs.Layout.{ageWidth, valueFrom, valueRow, setRow, ageFrom, arrivalFrom, nextAgeFrom, nextArrivalFrom, versionFrom, workFrom, latestFrom, listedFrom, lastFrom, askedFrom, lockFrom, wholeFrom, kindFrom, wantFrom, requestFrom, calledFrom, pendFrom, busyFrom, unfinishedFrom, ageKeptFrom, readValuesFrom, readVersionsFrom, writtenVersionsFrom, versionRow, readSetFrom, serverLength, agesOf, ageKeptOf, latestOf, lastOf, lockOf, wholeOf, askedOf, arrivalOf, writtenSetFrom, writtenValuesFrom, wantOf, requestOf, calledOf, pendOf, lockingB}
 use Rattle.server_tests.specs.Tests.{openCallB, openAskB, faultB, blockedB, shutB, shutOutB, hinderedB, informedB}
 use Rattle.server_order.specs.Order.{comesFirst, firstTo, edgesTo, youngerB, youngestTo, victimB}
-use Rattle.server_changes.specs.Changes.{newAgeB, ageB, noticeB, keepsAgeB, freePageB, freePagesTo, freeOneB, freeTo, finishB, leaveB, joinB, joinReadB, joinWriteB, unpackOne, unpackTo, versionsIn, unpackB, joinCommitB, listB, unlistB, markBusyB, answeredB, lockOneB, lockTo, loosenB, askedB, calledB, lockPageB, lockObjectB, versionOneB, versionsTo, valueOneB, valuesTo, writeB}
+use Rattle.server_changes.specs.Changes.{newAgeB, ageB, noticeB, keepsAgeB, freePageB, freePagesTo, freeOneB, freeTo, finishB, leaveB, joinB, joinReadB, joinWriteB, unpackOne, unpackTo, unpackB, joinCommitB, listB, unlistB, markBusyB, answeredB, lockOneB, lockTo, loosenB, askedB, calledB, lockPageB, lockObjectB, valueOneB, valuesTo, writeB}
 use Rattle.server_actions.specs.Actions.{Serving, serving, sendPageB, abortB, informB, informTo, installB, commitNowB, addressOf, noticedB, onReadB, onWriteB, onCommitB, onAbortB, onPurgeB, onBusyB, onDoneB, onWrittenSetB, acceptB}
 use Rattle.server_actions.specs.Pass.{askB, askTo, serveReadB, callOneB, callTo, callB, callOnceB, grantPageB, grantObjectB, grantB, afterCallsB, proceedB, gatesB, visitB, orderB, passB, movedB, settleB, serverStepB}
 
@@ -179,20 +178,14 @@ locks-freed {s} k i (suc n) h =
     let r = locks-freed k i n (omega arith) in
     either (eqb (lockOf (freeTo i s n) n) (i + 1)) (low-set r (lockFrom + n) 0 (omega arith)) r
 
-versions-set : {s : List ℕ} → Flagged s → (i v n : ℕ) → n ≤ 32 → Flagged (versionsTo i v s n)
-unfolding versionsTo versionOneB
-versions-set k i v zero h = k
-versions-set {s} k i v (suc n) h =
-    let r = versions-set k i v n (omega arith) in
-    either (eqb (writtenSet (versionsTo i v s n) i n) 0) r (low-u32 r (versionFrom + n * numberWidth) v (omega arith))
-
-values-set : {s : List ℕ} → Flagged s → (i n : ℕ) → n ≤ 256 → Flagged (valuesTo i s n)
+values-set : {s : List ℕ} → Flagged s → (i v n : ℕ) → n ≤ 256 → Flagged (valuesTo i v s n)
 unfolding valuesTo valueOneB
-values-set k i zero h = k
-values-set {s} k i (suc n) h =
-    let r = values-set k i n (omega arith) in
-    let t = valuesTo i s n in
-    either (member t (writtenSetFrom i) n) (low-u64 r (valueFrom + n * valueWidth) (u64At t (writtenValuesFrom i + n * valueWidth)) (omega arith)) r
+values-set k i v zero h = k
+values-set {s} k i v (suc n) h =
+    let r = values-set k i v n (omega arith) in
+    let t = valuesTo i v s n in
+    either (member t (writtenSetFrom i) n)
+    (low-u32 (low-u64 r (valueFrom + n * valueWidth) (u64At t (writtenValuesFrom i + n * valueWidth)) (omega arith)) (versionFrom + n * numberWidth) v (omega arith)) r
 
 objects-locked : {s : List ℕ} → Flagged s → (i p x n : ℕ) → p < 32 → n ≤ 8 → Flagged (lockTo i p x s n)
 unfolding lockTo lockOneB
@@ -201,18 +194,15 @@ objects-locked k i p x (suc n) lp h =
     let r = objects-locked k i p x n lp (omega arith) in
     either (hasBit x n) (low-set r (lockFrom + (p * 8 + n)) (i + 1) (omega arith)) r
 
-versions-taken : {s : List ℕ} → Flagged s → (x : List ℕ) (i n : ℕ) → i < 8 → n ≤ 32 → Flagged (versionsIn x i s n)
-unfolding versionsIn
-versions-taken k x i zero l h = k
-versions-taken k x i (suc n) l h = low-u32 (versions-taken k x i n l (omega arith)) (sentVersionsFrom i + n * numberWidth) _ (omega arith)
-
-entries-taken : {s : List ℕ} → Flagged s → (x : List ℕ) → AllBytes x → (at from first n : ℕ) → at + setRow ≤ wantFrom → from + valueRow ≤ wantFrom
-    → Flagged (unpackTo x s at from first n)
+entries-taken : {s : List ℕ} → Flagged s → (x : List ℕ) → AllBytes x → (at from seen first n : ℕ) → at + setRow ≤ wantFrom → from + valueRow ≤ wantFrom → seen + versionRow ≤ wantFrom
+    → Flagged (unpackTo x s at from seen first n)
 unfolding unpackTo unpackOne
-entries-taken k x b at from first zero h g = k
-entries-taken k x b at from first (suc n) h g =
-    let l : getD x (addressesAt + (first + n)) 0 < 256 = b (addressesAt + (first + n)) in
-    low-u64 (added (entries-taken k x b at from first n h g) at _ h l) (from + getD x (addressesAt + (first + n)) 0 * valueWidth) _ (omega arith)
+entries-taken k x b at from seen first zero h g f = k
+entries-taken k x b at from seen first (suc n) h g f =
+    let l : getD x (addressesAt x + (first + n)) 0 < 256 = b (addressesAt x + (first + n)) in
+    low-u32
+    (low-u64 (added (entries-taken k x b at from seen first n h g f) at _ h l) (from + getD x (addressesAt x + (first + n)) 0 * valueWidth) _ (omega arith))
+    (seen + getD x (addressesAt x + (first + n)) 0 * numberWidth) _ (omega arith)
 
 -- THE CHANGES
 
@@ -248,7 +238,7 @@ module _ {s : List ℕ} (k : Flagged s) where
 
   written : (i : ℕ) → Flagged (writeB i s)
   unfolding writeB
-  written i = values-set (versions-set (low-u32 k lastFrom _ (omega arith)) i _ 32 (omega arith)) i 256 (omega arith)
+  written i = values-set (low-u32 k lastFrom _ (omega arith)) i _ 256 (omega arith)
 
   busied : (i r : ℕ) → r < 8 → Flagged (markBusyB i r s)
   unfolding markBusyB
@@ -281,9 +271,9 @@ module _ {s : List ℕ} (k : Flagged s) where
   unpacked : (i : ℕ) (x : List ℕ) → i < 8 → AllBytes x → Flagged (unpackB i x s)
   unfolding unpackB
   unpacked i x l b =
-      let versions = versions-taken (low-u32 k (workFrom + i * numberWidth) (transactionOf x) (omega arith)) x i 32 l (omega arith) in
-      let reads = entries-taken versions x b (readSetFrom i) (readValuesFrom i) 0 (u16At x (recordAt + readCountFrom)) (omega arith) (omega arith) in
-      entries-taken reads x b (writtenSetFrom i) (writtenValuesFrom i) (u16At x (recordAt + readCountFrom)) (u16At x (recordAt + writeCountFrom)) (omega arith) (omega arith)
+      let number = low-u32 k (workFrom + i * numberWidth) (transactionOf x) (omega arith) in
+      let reads = entries-taken number x b (readSetFrom i) (readValuesFrom i) (readVersionsFrom i) 0 (sentReads x) (omega arith) (omega arith) (omega arith) in
+      entries-taken reads x b (writtenSetFrom i) (writtenValuesFrom i) (writtenVersionsFrom i) (sentReads x) (sentWrites x) (omega arith) (omega arith) (omega arith)
 
 joined : {s : List ℕ} → Flagged s → (i w a : ℕ) → i < 8 → w ≤ 3 → a < 256 → Flagged (joinB i w a s)
 unfolding joinB
@@ -329,16 +319,14 @@ aborted : (i c : ℕ) (x : Serving) → i < 8 → Fine x → Fine (abortB i c x)
 unfolding abortB
 aborted i c x l h = fine _ _ _ (finished (left (h .flags) i l) i (keepsAgeB c) l (flag-le c))
 
-informed : (i d : ℕ) (x : Serving) → Fine x → (n : ℕ) → n ≤ 8 → Fine (informTo i d x n)
+informed : (i d : ℕ) (y : List ℕ) (x : Serving) → Fine x → (n : ℕ) → Fine (informTo i d y x n)
 unfolding informTo informB
-informed i d x h zero q = h
-informed i d x h (suc n) q =
-    let r = informed i d x h n (omega arith) in
-    one-of (informedB ((informTo i d x n) .state) i d n) (fine _ _ _ (unlisted (r .flags) n d q)) r
+informed i d y x h zero = h
+informed i d y x h (suc n) = let r = informed i d y x h n in one-of (informedB ((informTo i d y x n) .state) i d n) (fine _ _ _ (r .flags)) r
 
 installed : (i : ℕ) (x : Serving) → i < 8 → Fine x → Fine (installB i x)
 unfolding installB
-installed i x l h = informed i _ _ (fine _ _ _ (finished (left (written (h .flags) i) i l) i 0 l (omega arith))) 8 (omega arith)
+installed i x l h = informed i _ _ _ (fine _ _ _ (finished (left (written (h .flags) i) i l) i 0 l (omega arith))) 8
 
 next : (n k : ℕ) → n ≤ k → eqb k n ≡ false → suc n ≤ k
 next n k l e = omega (arith, eqb-no k n e)

@@ -145,7 +145,7 @@ run-kept kinds size ok (c ∷ cs) b w f h g =
 pub record Ready (w : WorldB) : Type 0 where
   -- 128 messages and 7,040 record bytes
   pub server : (o q : List ℕ) → serverRoom ≤ length o → recordsRoom ≤ length q → ServerCall.ready (w .server) o q ≡ true
-  -- 8 messages and 1,120 commit bytes
+  -- 8 messages and 1,408 commit bytes
   pub station : (i : ℕ) → i < 8 → (o c : List ℕ) → stationRoom ≤ length o → commitRoom ≤ length c → ready (w .station i) o c ≡ true
 
 module _ (kinds : List ℕ) (ok : kindsOk kinds ≡ true) (cs : List CallB) (f : AllFit cs) where

@@ -26,7 +26,7 @@ abbrev pub namesOf : List CallB → List Call
 namesOf [] = []
 namesOf (c ∷ cs) = nameOf c ∷ namesOf cs
 
--- number 1's output: 128 messages and 7,040 record bytes (server), 8 messages and 1,120 commit bytes (station)
+-- number 1's output: 128 messages and 7,040 record bytes (server), 8 messages and 1,408 commit bytes (station)
 abbrev pub Room : CallB → Type 0
 Room (OwnerB i op o c) = (stationRoom ≤ length o) × (commitRoom ≤ length c)
 Room (ServerTakesB i o q) = (serverRoom ≤ length o) × (recordsRoom ≤ length q)

@@ -14,7 +14,7 @@ use Rattle.line.specs.Rows.{each, seen}
 use Rattle.record.specs.Check.{headOk, headAt, riseAt, rises, addressesRise, checkOf}
 use Rattle.message.specs.Layout.{message}
 use Rattle.message.specs.Range.{zeroAt, zeros, commitOk, upFieldsOk}
-use Rattle.message.specs.Commit.{commitLengthOk, fewOk, versionOk, pagesTo, recordAgrees, commitNumber}
+use Rattle.message.specs.Commit.{countOf, recordAt, commitLengthOk, fewOk, versionOk, pagesTo, recordAgrees, commitNumber}
 use Rattle.message.specs.Number.{lengthOk, upRange, kindOk, upNumber}
 use Rattle.message.specs.Number as Number
 use Rattle.server_state.specs.Valid.{mostAt, most, kindsOk}
@@ -26,7 +26,7 @@ use Rattle.line_cases.specs.Seen.{Step, seenB}
 use Rattle.line_cases.specs.Shown.{inBytes, allRight, seen-is}
 use Rattle.line_cases.specs.Archived.{joined, archive-is}
 use Rattle.line_cases.specs.Rows.{kinds, OfLine, calls, Runs, Comes, PartHolds, Holds, AllHold}
-use Rattle.line_cases.specs.Table.{C1, C2, C3, C4, C5, C6, C7, C8, C9, C10, C11, commits12, readOf8By1, C12, longReads, longWrites, longCommits, table, C6Again, inUse, wroteNine, besideWhole}
+use Rattle.line_cases.specs.Table.{C1, C2, C3, C4, C5, C6, C7, C8, C9, C10, C11, commits12, readOf8By1, C12, longReads, longWrites, longCommits, neighboursCommit, arrivesOver, sameObject, usedAndUnused, table, C6Again, inUse, wroteNine, besideWhole}
 
 kinds-ok : kindsOk kinds ≡ true
 unfolding kindsOk most mostAt allTo
@@ -98,7 +98,7 @@ unfolding C9 seen message bytes bytesOf header
 C9-holds = (runs _ _ refl refl refl, tt)
 
 C10-holds : Holds C10
-unfolding C10 File.table upNumber Number.kindsOk kindOk lengthOk upRange commitLengthOk fewOk versionOk pagesTo recordAgrees commitNumber zeroAt zeros commitOk upFieldsOk allTo u16At u32At headOk headAt riseAt rises addressesRise checkOf
+unfolding C10 File.table upNumber Number.kindsOk kindOk lengthOk upRange countOf recordAt commitLengthOk fewOk versionOk pagesTo recordAgrees commitNumber zeroAt zeros commitOk upFieldsOk allTo u16At u32At headOk headAt riseAt rises addressesRise checkOf
 C10-holds = (comes _ _ 5 refl refl, (File.table-holds .0, (comes _ _ 5 refl refl, (File.table-holds .1 .0, tt))))
 
 C11-holds : Holds C11
@@ -126,13 +126,30 @@ unfolding longWrites seen message bytes bytesOf header
 longWrites-holds = (runs _ _ refl refl refl, tt)
 
 longCommits-holds : Holds longCommits
-unfolding longCommits upNumber Number.kindsOk kindOk lengthOk upRange commitLengthOk fewOk versionOk pagesTo recordAgrees commitNumber zeroAt zeros commitOk upFieldsOk allTo u16At u32At headOk headAt riseAt rises addressesRise checkOf
+unfolding longCommits upNumber Number.kindsOk kindOk lengthOk upRange countOf recordAt commitLengthOk fewOk versionOk pagesTo recordAgrees commitNumber zeroAt zeros commitOk upFieldsOk allTo u16At u32At headOk headAt riseAt rises addressesRise checkOf
 longCommits-holds = (comes _ _ 0 refl refl, (comes _ _ 5 refl refl, (comes _ _ 5 refl refl, tt)))
 
--- C1 to C12 and the limit, of the steps over bytes
+-- wish 6
+neighboursCommit-holds : Holds neighboursCommit
+unfolding neighboursCommit seen message bytes bytesOf header
+neighboursCommit-holds = (runs _ _ refl refl refl, tt)
+
+arrivesOver-holds : Holds arrivesOver
+unfolding arrivesOver seen message bytes bytesOf header
+arrivesOver-holds = (runs _ _ refl refl refl, tt)
+
+sameObject-holds : Holds sameObject
+unfolding sameObject seen message bytes bytesOf header
+sameObject-holds = (runs _ _ refl refl refl, tt)
+
+usedAndUnused-holds : Holds usedAndUnused
+unfolding usedAndUnused seen message bytes bytesOf header
+usedAndUnused-holds = (runs _ _ refl refl refl, tt)
+
+-- C1 to C12, the limit and the versions by object, of the steps over bytes
 pub table-of-bytes : AllHold table
 unfolding table
-table-of-bytes = (C1-holds, (C2-holds, (C3-holds, (C4-holds, (C5-holds, (C6-holds, (C7-holds, (C8-holds, (inUse-holds, (wroteNine-holds, (besideWhole-holds, (C9-holds, (C10-holds, (C11-holds, (C12-holds, (longReads-holds, (longWrites-holds, (longCommits-holds, tt))))))))))))))))))
+table-of-bytes = (C1-holds, (C2-holds, (C3-holds, (C4-holds, (C5-holds, (C6-holds, (C7-holds, (C8-holds, (inUse-holds, (wroteNine-holds, (besideWhole-holds, (C9-holds, (C10-holds, (C11-holds, (C12-holds, (longReads-holds, (longWrites-holds, (longCommits-holds, (neighboursCommit-holds, (arrivesOver-holds, (sameObject-holds, (usedAndUnused-holds, tt))))))))))))))))))))))
 
 -- wish 2
 pub C6-again-of-bytes : Holds C6Again

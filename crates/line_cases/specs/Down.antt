@@ -1,9 +1,11 @@
 -- A message that a station takes is, byte for byte, document 01's of what it is read as: kinds 16 to 23.
 use Prim.Native.Nat.{ℕ, zero, suc, _+_, _-_, _*_, _/_, _%_, _≤_}
 use mathlib.Core.Path.{_≡_, refl, sym, ap, _∙_}
+use mathlib.Core.Bool.{cond}
 use mathlib.Core.List.{List, [], _++_, append-nil}
 use native.Mathlib.Omega.{arith}
-use lib.ListN.{length, drop, getD, length-drop}
+use lib.ListN.{length, take, drop, getD, length-drop}
+use lib.Dec.{eqb}
 use lib.Seq.{getD-drop}
 use borrow.Author.Tests.{lt-ltb}
 use Rattle.lists.specs.Bytes.{Bytes, byte-at}
@@ -12,30 +14,31 @@ use Rattle.sets.specs.Laws.{byEq, eqb-yes, eqb-no, eqb-same}
 use Rattle.line.specs.Messages.{address, NoLock, ObjectLock, WholeLock, Down, Deescalate, Callback, Committed, Aborted, Invalidate, Sent, To}
 use Rattle.line.specs.Fields.{oneSet, objectSet, downFields}
 use Rattle.layout.specs.Record.{valueLength}
-use Rattle.message.specs.Layout.{pageFrom, objectFrom, transactionFrom, pagesFrom, versionFrom, setsFrom, setsLength, valuesFrom, valuesLength, messageLength, kindOf, stationOf, pageOf, requesterOf, objectOf, causeOf, transactionOf, pagesOf, versionOf, setOf, valueOf}
+use Rattle.message.specs.Layout.{pageFrom, objectFrom, transactionFrom, pagesFrom, versionFrom, setsFrom, setsLength, valuesFrom, valuesLength, pageVersionsFrom, versionWidth, behindLength, messageLength, kindOf, stationOf, pageOf, requesterOf, objectOf, causeOf, transactionOf, pagesOf, versionOf, setOf, valueOf, pageVersionOf}
 use Rattle.message.specs.Accepted.{PageFields, DeescalateFields, CallbackFields, CommittedFields, AbortedFields, InvalidateFields, DownAccepted, down-accepted}
-use Rattle.message_meaning.specs.Meant.{objectsOn, objectsIn, pagesIn, setsOf, valuesOn, pageAt, downOf}
+use Rattle.message_meaning.specs.Meant.{objectsOn, objectsIn, setsOf, valuesOn, versionsOn, pageAt, downOf}
 use Rattle.message_meaning.specs.Kinds.{down-16, down-17, down-18, down-19, down-20, down-21, down-22, down-23, sets-at}
-use Rattle.message_meaning.specs.Inverse.{values-written}
+use Rattle.message_meaning.specs.Numbers.{numbers}
+use Rattle.message_meaning.specs.Inverse.{values-written, page-versions-written}
 use Rattle.step_meaning.specs.Relation.{ReadAs}
 use Rattle.line_cases.specs.Wire.{words, wire}
-use Rattle.line_cases.specs.Parts.{made, inside, zero-at, zero-32, bits-back, table-same, table-back, words-table, set-of-page, pages-back, one-set, no-sets, no-values, none-from-pages}
+use Rattle.line_cases.specs.Parts.{part-rest, made, inside, zero-at, zero-32, bits-back, table-same, table-back, words-table, set-of-page, one-set, no-sets, none-behind, none-from-pages}
 
--- VALUES OF A PAGE
+-- VALUES AND VERSIONS OF A PAGE
 
--- "eight values"
-values-of-page : (p : ℕ) (m : List ℕ) (n j : ℕ) → j + n ≤ 8 → table n (p * 8 + j) (valuesOn p m) ≡ table n j (valueOf m)
-values-of-page p m zero j l = refl
-values-of-page p m (suc n) j l =
+-- eight numbers, of the objects of page p
+of-page : (p : ℕ) (f : ℕ → ℕ) (n j : ℕ) → j + n ≤ 8 → table n (p * 8 + j) (λ a. cond (eqb (a / 8) p) (f (a % 8)) 0) ≡ table n j f
+of-page p f zero j l = refl
+of-page p f (suc n) j l =
     let page : (p * 8 + j) / 8 ≡ p = omega arith in
     let object : (p * 8 + j) % 8 ≡ j = omega arith in
     let next : suc (p * 8 + j) ≡ p * 8 + suc j = omega arith in
-    rw (page, object, eqb-same p, next, values-of-page p m n (suc j) (omega arith))
+    rw (page, object, eqb-same p, next, of-page p f n (suc j) (omega arith))
 
 -- THE KINDS
 
 module _ (i : ℕ) (m : List ℕ) (hm : Bytes m) (hl : length m ≡ messageLength) (own : stationOf m ≡ i) where
-  -- "16 page (page, object, transaction, version, unavailable set, values)": its parts, where a is page and object
+  -- "16 page (page, object, transaction, version, unavailable set, values)", eight versions behind: its parts, where a is page and object
   module _ (f : PageFields m) where
     abbrev a : ℕ
     a = address (pageOf m) (objectOf m)
@@ -49,24 +52,37 @@ module _ (i : ℕ) (m : List ℕ) (hm : Bytes m) (hl : length m ≡ messageLengt
     set-is : setsOf m ≡ oneSet (objectSet (objectsOn (pageOf m) (setOf m 0)) (a / 8))
     set-is = one-set m (omega arith) (f .unnamed-other-sets) ∙ ap oneSet (sym (set-of-page (pageOf m) (setOf m 0) (byte-at m setsFrom hm)) ∙ ap (objectSet (objectsOn (pageOf m) (setOf m 0))) page-is)
 
-    values-are : drop valuesFrom m ≡ words valueLength (table 8 (address (a / 8) 0) (valuesOn (pageOf m) m)) ++ []
+    no-pages : pagesOf m ≡ 0
+    no-pages = zero-32 m pagesFrom (inside m pagesFrom (setsFrom - pagesFrom) pagesFrom 4 (f .unnamed-pages) (omega arith) (omega arith))
+
+    no-number : versionOf m ≡ 0
+    no-number = zero-32 m versionFrom (inside m pagesFrom (setsFrom - pagesFrom) versionFrom 4 (f .unnamed-pages) (omega arith) (omega arith))
+
+    -- eight numbers of w bytes, by address
+    eight : (w : ℕ) (f : ℕ → ℕ) → numbers w f 8 0 ≡ words w (table 8 (address (a / 8) 0) (λ b. cond (eqb (b / 8) (pageOf m)) (f (b % 8)) 0))
+    eight w f =
+        sym (words-table w 8 0 f)
+        ∙ ap (words w) (sym (of-page (pageOf m) f 8 0 (omega arith)) ∙ ap (λ (p : ℕ). table 8 (address p 0) (λ b. cond (eqb (b / 8) (pageOf m)) (f (b % 8)) 0)) page-is)
+
+    values-are : drop valuesFrom m ≡ words valueLength (table 8 (address (a / 8) 0) (valuesOn (pageOf m) m)) ++ (words versionWidth (table 8 (address (a / 8) 0) (versionsOn (pageOf m) m)) ++ [])
     values-are =
-        sym (values-written m hm hl)
-        ∙ sym (words-table valueLength 8 0 (valueOf m))
-        ∙ ap (words valueLength) (sym (values-of-page (pageOf m) m 8 0 (omega arith)) ∙ ap (λ (p : ℕ). table 8 (address p 0) (valuesOn (pageOf m) m)) page-is)
-        ∙ sym (append-nil (words valueLength (table 8 (address (a / 8) 0) (valuesOn (pageOf m) m))))
+        let x = words valueLength (table 8 (address (a / 8) 0) (valuesOn (pageOf m) m)) in
+        let y = words versionWidth (table 8 (address (a / 8) 0) (versionsOn (pageOf m) m)) in
+        sym (part-rest valuesLength valuesFrom pageVersionsFrom m refl)
+        ∙ ap (λ (l : List ℕ). l ++ drop pageVersionsFrom m) (sym (values-written m hm hl) ∙ eight valueLength (valueOf m))
+        ∙ ap (λ (l : List ℕ). x ++ l) (sym (page-versions-written m hm hl) ∙ eight versionWidth (pageVersionOf m) ∙ sym (append-nil y))
 
   bytes-16 : kindOf m ≡ 16 → PageFields m → m ≡ wire (downFields (To i (pageAt NoLock m)))
   unfolding pageAt
-  bytes-16 e f = made m hm (omega arith) e own (page-is f) (object-is f) refl (zero-32 m pagesFrom (f .unnamed-pages)) refl (set-is f) (values-are f)
+  bytes-16 e f = made m hm (omega arith) e own (page-is f) (object-is f) refl (no-pages f) (no-number f) (set-is f) (values-are f)
 
   bytes-17 : kindOf m ≡ 17 → PageFields m → m ≡ wire (downFields (To i (pageAt ObjectLock m)))
   unfolding pageAt
-  bytes-17 e f = made m hm (omega arith) e own (page-is f) (object-is f) refl (zero-32 m pagesFrom (f .unnamed-pages)) refl (set-is f) (values-are f)
+  bytes-17 e f = made m hm (omega arith) e own (page-is f) (object-is f) refl (no-pages f) (no-number f) (set-is f) (values-are f)
 
   bytes-18 : kindOf m ≡ 18 → PageFields m → m ≡ wire (downFields (To i (pageAt WholeLock m)))
   unfolding pageAt
-  bytes-18 e f = made m hm (omega arith) e own (page-is f) (object-is f) refl (zero-32 m pagesFrom (f .unnamed-pages)) refl (set-is f) (values-are f)
+  bytes-18 e f = made m hm (omega arith) e own (page-is f) (object-is f) refl (no-pages f) (no-number f) (set-is f) (values-are f)
 
   bytes-19 : kindOf m ≡ 19 → DeescalateFields m → m ≡ wire (downFields (To i (Deescalate (pageOf m) (transactionOf m))))
   bytes-19 e f =
@@ -89,24 +105,24 @@ module _ (i : ℕ) (m : List ℕ) (hm : Bytes m) (hl : length m ≡ messageLengt
   bytes-20 : kindOf m ≡ 20 → CallbackFields i m → m ≡ wire (downFields (To i (Callback (requesterOf m) (transactionOf m) (objectsIn (setsOf m)))))
   bytes-20 e f =
       made m hm (omega arith) e own refl (zero-at m objectFrom 1 (f .unnamed-object) (omega arith)) refl (zero-32 m pagesFrom (inside m pagesFrom (setsFrom - pagesFrom) pagesFrom 4 (f .unnamed-pages) (omega arith) (omega arith)))
-      (zero-32 m versionFrom (inside m pagesFrom (setsFrom - pagesFrom) versionFrom 4 (f .unnamed-pages) (omega arith) (omega arith))) (sym sets-back) (no-values m hl (f .unnamed-values))
+      (zero-32 m versionFrom (inside m pagesFrom (setsFrom - pagesFrom) versionFrom 4 (f .unnamed-pages) (omega arith) (omega arith))) (sym sets-back) (none-behind m hl (f .unnamed-values))
 
   bytes-21 : kindOf m ≡ 21 → CommittedFields m → m ≡ wire (downFields (To i (Committed (transactionOf m) (versionOf m))))
   bytes-21 e f =
       made m hm (omega arith) e own (zero-at m pageFrom (transactionFrom - pageFrom) (f .unnamed-page) (omega arith)) (zero-at m objectFrom 1 (inside m pageFrom (transactionFrom - pageFrom) objectFrom 1 (f .unnamed-page) (omega arith) (omega arith)) (omega arith)) refl
-      (zero-32 m pagesFrom (f .unnamed-pages)) refl (no-sets m (omega arith) (inside m setsFrom (messageLength - setsFrom) setsFrom setsLength (f .unnamed-sets) (omega arith) (omega arith))) (no-values m hl (inside m setsFrom (messageLength - setsFrom) valuesFrom valuesLength (f .unnamed-sets) (omega arith) (omega arith)))
+      (zero-32 m pagesFrom (f .unnamed-pages)) refl (no-sets m (omega arith) (inside m setsFrom (messageLength - setsFrom) setsFrom setsLength (f .unnamed-sets) (omega arith) (omega arith))) (none-behind m hl (inside m setsFrom (messageLength - setsFrom) valuesFrom behindLength (f .unnamed-sets) (omega arith) (omega arith)))
 
   bytes-22 : kindOf m ≡ 22 → AbortedFields m → m ≡ wire (downFields (To i (Aborted (transactionOf m) (causeOf m))))
   bytes-22 e f =
       let r = none-from-pages m hl (f .unnamed-pages) in
       made m hm (omega arith) e own (zero-at m pageFrom 1 (f .unnamed-page) (omega arith)) refl refl (r .0) (r .1) (r .2) (r .3)
 
-  bytes-23 : kindOf m ≡ 23 → InvalidateFields m → m ≡ wire (downFields (To i (Invalidate (pagesIn (pagesOf m)))))
+  bytes-23 : kindOf m ≡ 23 → InvalidateFields m → m ≡ wire (downFields (To i (Invalidate (objectsIn (setsOf m)))))
   bytes-23 e f =
-      let z = f .unnamed-version in
-      made m hm (omega arith) e own (zero-at m pageFrom (pagesFrom - pageFrom) (f .unnamed-page) (omega arith)) (zero-at m objectFrom 1 (inside m pageFrom (pagesFrom - pageFrom) objectFrom 1 (f .unnamed-page) (omega arith) (omega arith)) (omega arith))
-      (zero-32 m transactionFrom (inside m pageFrom (pagesFrom - pageFrom) transactionFrom 4 (f .unnamed-page) (omega arith) (omega arith))) (sym (pages-back m hm)) (zero-32 m versionFrom (inside m versionFrom (messageLength - versionFrom) versionFrom 4 z (omega arith) (omega arith)))
-      (no-sets m (omega arith) (inside m versionFrom (messageLength - versionFrom) setsFrom setsLength z (omega arith) (omega arith))) (no-values m hl (inside m versionFrom (messageLength - versionFrom) valuesFrom valuesLength z (omega arith) (omega arith)))
+      let z = f .unnamed-page in
+      made m hm (omega arith) e own (zero-at m pageFrom (setsFrom - pageFrom) z (omega arith)) (zero-at m objectFrom 1 (inside m pageFrom (setsFrom - pageFrom) objectFrom 1 z (omega arith) (omega arith)) (omega arith))
+      (zero-32 m transactionFrom (inside m pageFrom (setsFrom - pageFrom) transactionFrom 4 z (omega arith) (omega arith))) (zero-32 m pagesFrom (inside m pageFrom (setsFrom - pageFrom) pagesFrom 4 z (omega arith) (omega arith)))
+      (zero-32 m versionFrom (inside m pageFrom (setsFrom - pageFrom) versionFrom 4 z (omega arith) (omega arith))) (sym sets-back) (none-behind m hl (f .unnamed-values))
 
   -- every kind that a station takes
   written : DownAccepted i m → m ≡ wire (downFields (To i (downOf m)))

@@ -2,7 +2,7 @@
 use Prim.Native.Nat.{ℕ, zero, suc, _+_, _-_, _*_, _/_, _%_, _^_, _≤_, _<_}
 use mathlib.Core.Path.{_≡_, refl, sym, ap, subst, _∙_}
 use mathlib.Core.Bool.{Bool}
-use mathlib.Core.List.{List, [], _++_}
+use mathlib.Core.List.{List, [], _++_, append-assoc, append-nil}
 use native.Mathlib.Nat.{zero-add, add-zero, pow-suc}
 use native.Mathlib.Omega.{arith}
 use lib.Dec.{eqb}
@@ -17,8 +17,8 @@ use Rattle.le.specs.Laws.{u32At-is}
 use Rattle.layout.specs.Record.{valueLength}
 use Rattle.cells.specs.Bits.{tb}
 use Rattle.line.specs.Messages.{address}
-use Rattle.line.specs.Fields.{oneSet, noSets, noValues, bitsFrom, objectSet, pageSet}
-use Rattle.message.specs.Layout.{kindFrom, stationFrom, pageFrom, objectFrom, transactionFrom, pagesFrom, versionFrom, setsFrom, setsLength, secondSet, valuesFrom, valuesLength, messageLength, kindOf, stationOf, pageOf, objectOf, transactionOf, pagesOf, versionOf, setOf, message}
+use Rattle.line.specs.Fields.{oneSet, noSets, noValues, noVersions, bitsFrom, objectSet, pageSet}
+use Rattle.message.specs.Layout.{kindFrom, stationFrom, pageFrom, objectFrom, transactionFrom, pagesFrom, versionFrom, setsFrom, setsLength, secondSet, valuesFrom, versionWidth, behindLength, messageLength, kindOf, stationOf, pageOf, objectOf, transactionOf, pagesOf, versionOf, setOf, message}
 use Rattle.message.specs.Accepted.{Zero, fields-fit}
 use Rattle.message_meaning.specs.Meant.{objectsOn, pagesIn, setsOf}
 use Rattle.message_meaning.specs.Numbers.{numbers}
@@ -29,6 +29,9 @@ use Rattle.line_cases.specs.Wire.{words}
 -- a part, and what stands behind it
 pub part-rest : (k a b : ℕ) (s : List ℕ) → b ≡ a + k → take k (drop a s) ++ drop b s ≡ drop a s
 part-rest k a b s e = rw (e, ← drop-drop k a s) (take-append-drop k (drop a s))
+
+pub two-join : (x y z : List ℕ) → (x ++ (y ++ [])) ++ z ≡ x ++ (y ++ z)
+two-join x y z = append-assoc x (y ++ []) z ∙ ap (λ (l : List ℕ). x ++ (l ++ z)) (append-nil y)
 
 module _ (m : List ℕ) (hm : Bytes m) (hl : valuesFrom ≤ length m) where
   -- the message of the fields that are read is the one that they were read from, whatever follows
@@ -113,6 +116,13 @@ pub table-same : {A : Type 0} (n j : ℕ) (f g : ℕ → A) → ((p : ℕ) → j
 table-same zero j f g h = refl
 table-same (suc n) j f g h = rw (h j (omega arith) (omega arith), table-same n (suc j) f g (λ p a b. h p (omega arith) (omega arith)))
 
+pub table-join : (n k e : ℕ) (f : ℕ → ℕ) → table (n + k) e f ≡ table n e f ++ table k (e + n) f
+table-join zero k e f = rw (zero-add, add-zero e)
+table-join (suc n) k e f =
+    let more : suc n + k ≡ suc (n + k) = omega arith in
+    let place : e + suc n ≡ suc e + n = omega arith in
+    rw (more, place, table-join n k (suc e) f)
+
 pub table-back : (n j : ℕ) (s : List ℕ) → j + n ≤ length s → table n j (λ p. getD s p 0) ≡ take n (drop j s)
 table-back zero j s l = refl
 table-back (suc n) j s l = rw (drop-cons s j 0 (omega arith), table-back n (suc j) s (omega arith))
@@ -124,9 +134,13 @@ words-table w (suc n) j f = rw (words-table w n (suc j) f)
 
 -- WHAT STANDS BEHIND THE FIRST SET
 
-pub zero-values : replicate valuesLength 0 ≡ words valueLength noValues ++ []
+-- no values and no versions of a page
+abbrev pub noneBehind : List ℕ
+noneBehind = words valueLength noValues ++ (words versionWidth noVersions ++ [])
+
+pub zero-behind : replicate behindLength 0 ≡ noneBehind
 unfolding bytes
-zero-values = refl
+zero-behind = refl
 
 module _ (m : List ℕ) (hl : valuesFrom ≤ length m) where
   -- "one set of a single page: byte 16"
@@ -137,14 +151,14 @@ module _ (m : List ℕ) (hl : valuesFrom ≤ length m) where
   no-sets z = zero-part m setsFrom setsLength z (omega arith)
 
 module _ (m : List ℕ) (hl : length m ≡ messageLength) where
-  pub no-values : Zero m valuesFrom valuesLength → drop valuesFrom m ≡ words valueLength noValues ++ []
-  no-values z = sym (take-all valuesLength (drop valuesFrom m) (rw length-drop (omega arith))) ∙ zero-part m valuesFrom valuesLength z (omega arith) ∙ zero-values
+  pub none-behind : Zero m valuesFrom behindLength → drop valuesFrom m ≡ noneBehind
+  none-behind z = sym (take-all behindLength (drop valuesFrom m) (rw length-drop (omega arith))) ∙ zero-part m valuesFrom behindLength z (omega arith) ∙ zero-behind
 
   -- from the page set on there is nothing
-  pub none-from-pages : Zero m pagesFrom (messageLength - pagesFrom) → (pagesOf m ≡ 0) × (versionOf m ≡ 0) × (setsOf m ≡ noSets) × (drop valuesFrom m ≡ words valueLength noValues ++ [])
+  pub none-from-pages : Zero m pagesFrom (messageLength - pagesFrom) → (pagesOf m ≡ 0) × (versionOf m ≡ 0) × (setsOf m ≡ noSets) × (drop valuesFrom m ≡ noneBehind)
   none-from-pages z = (
     zero-32 m pagesFrom (inside m pagesFrom (messageLength - pagesFrom) pagesFrom 4 z (omega arith) (omega arith)),
     zero-32 m versionFrom (inside m pagesFrom (messageLength - pagesFrom) versionFrom 4 z (omega arith) (omega arith)),
     no-sets m (omega arith) (inside m pagesFrom (messageLength - pagesFrom) setsFrom setsLength z (omega arith) (omega arith)),
-    no-values (inside m pagesFrom (messageLength - pagesFrom) valuesFrom valuesLength z (omega arith) (omega arith)),
+    none-behind (inside m pagesFrom (messageLength - pagesFrom) valuesFrom behindLength z (omega arith) (omega arith)),
   )

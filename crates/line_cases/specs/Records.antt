@@ -4,8 +4,9 @@ use mathlib.Core.Path.{_≡_, refl, sym, ap, _∙_}
 use mathlib.Core.List.{List, [], _∷_}
 use mathlib.Core.Logic.{_≢_}
 use native.Mathlib.Omega.{arith}
+use lib.ListN.{length}
 use borrow.Author.Tests.{ne-eqb}
-use Rattle.sets.specs.Base.{Val, none, some}
+use Rattle.sets.specs.Base.{Val, none, some, table}
 use Rattle.sets.specs.Laws.{byEq, eqb-yes, eqb-no}
 use Rattle.layout.specs.Record.{Entry, Record, WellFormed, Rising, AllFit, bytesOf, archiveOf}
 use Rattle.entries.specs.Entries.{entry, entryIf, entriesFrom, entriesOf, valueIn}
@@ -14,6 +15,7 @@ use Rattle.line.specs.Messages.{Rec}
 use Rattle.line.specs.Fields.{recordFields}
 use Rattle.line.specs.Fields as Fields
 use Rattle.line.specs.Rows.{each}
+use Rattle.message_meaning.specs.Meant.{versionIn}
 use Rattle.line_cases.specs.Wire.{entriesIn, wireRecord, wireRecords}
 
 -- THE MODEL'S ENTRIES ARE DOCUMENT 01'S
@@ -92,6 +94,31 @@ entries-from (suc n) a (e ∷ es) f z h g =
 entries-back : (es : List Entry) → Rising es → AllFit es → entriesOf (valueIn es) ≡ es
 unfolding entriesOf
 entries-back es h f = entries-from 256 0 es (valueIn es) refl (from-start es h f) (λ b l. refl)
+
+-- and so are the versions: one for each entry
+versions-from : (n a : ℕ) (es : List Entry) (f : ℕ → Val) (v g : ℕ → ℕ) (c : ℕ) → a + n ≡ 256 → From a es → ((b : ℕ) → a ≤ b → f b ≡ valueIn es b)
+    → ((b : ℕ) → a ≤ b → g b ≡ versionIn v es c b) → Fields.versionsFrom n a f g ≡ table (length es) c v
+versions-from zero a [] f v g c z h k w = refl
+versions-from zero a (e ∷ es) f v g c z h k w = absurd (omega (arith, h .0, h .1))
+versions-from (suc n) a [] f v g c z h k w = rw (k a (omega arith)) (versions-from n (suc a) [] f v g c (omega arith) tt (λ b l. k b (omega arith)) (λ b l. w b (omega arith)))
+versions-from (suc n) a (e ∷ es) f v g c z h k w =
+    byEq a (e .address)
+    (λ q.
+    let here : a ≡ e .address = eqb-yes a (e .address) q in
+    let value : f a ≡ some (e .value) = k a (omega arith) ∙ rw q in
+    let version : g a ≡ v c = w a (omega arith) ∙ rw q in
+    let rest : Fields.versionsFrom n (suc a) f g ≡ table (length es) (suc c) v =
+    versions-from n (suc a) es f v g (suc c) (omega arith) (rw here (h .2))
+    (λ b l. k b (omega arith) ∙ rw (ne-eqb b (e .address) (λ r. omega (arith, r, here))))
+    (λ b l. w b (omega arith) ∙ rw (ne-eqb b (e .address) (λ r. omega (arith, r, here)))) in
+    rw (value, version, rest))
+    (λ q.
+    let later : a ≢ e .address = eqb-no a (e .address) q in
+    let none-here : f a ≡ none = k a (omega arith) ∙ rw q (none-below a (suc (e .address)) es (h .2) (omega (arith, h .0))) in
+    rw none-here (versions-from n (suc a) (e ∷ es) f v g c (omega arith) (omega (arith, h .0, later), h .1, h .2) (λ b l. k b (omega arith)) (λ b l. w b (omega arith))))
+
+pub versions-back : (es : List Entry) → Rising es → AllFit es → (v : ℕ → ℕ) (c : ℕ) → Fields.versionsFrom 256 0 (valueIn es) (versionIn v es c) ≡ table (length es) c v
+versions-back es h f v c = versions-from 256 0 es (valueIn es) v (versionIn v es c) c refl (from-start es h f) (λ b l. refl) (λ b l. refl)
 
 -- a record's bytes from what its entries say by address
 pub record-back : (r : Record) → WellFormed r → (n t i k : ℕ) → r .commit ≡ n → r .transaction ≡ t → r .station ≡ i → r .kind ≡ k

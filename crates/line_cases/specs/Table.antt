@@ -1,11 +1,11 @@
--- Document 01's cases C1 to C12, C8 as document 02's wish 11 has it, and its wish 1, as one table: of each call its answer, the bytes of the messages that it sends and the bytes that it
--- archives. 8 is page 1, object 0; 9 is page 1, object 1.
+-- Document 01's cases C1 to C12, C8 as document 02's wish 11 has it, and its wishes 1 and 6, as one table: of each call its answer, the bytes
+-- of the messages that it sends and the bytes that it archives. 8 is page 1, object 0; 9 is page 1, object 1.
 use Prim.Native.Nat.{ℕ, zero, suc, _+_, _*_, _-_}
 use mathlib.Core.List.{List, [], _∷_, _++_}
 use lib.ListN.{replicate}
 use Rattle.layout.specs.Record.{valueLength, recordLength}
-use Rattle.message.specs.Layout.{versionFrom, setsFrom, setsLength, messageLength}
-use Rattle.message.specs.Commit.{versionWidth, recordAt}
+use Rattle.message.specs.Layout.{versionFrom, setsFrom, setsLength, valuesLength, versionWidth, messageLength}
+use Rattle.message.specs.Commit.{versionsAt}
 use Rattle.line.specs.Messages.{Answer, Nothing, Begun, Value, Waits, Written, CommittedAs, AbortedFor, Purged, Refused, Empty}
 use Rattle.line.specs.Line.{Call, Owner, ServerTakes, StationTakes, Begin, Read, Write, Commits, Aborts, Purges}
 use Rattle.cases.specs.Archive.{filled, c12, readOf8}
@@ -20,8 +20,8 @@ padded zero l = []
 padded (suc n) [] = 0 ∷ padded n []
 padded (suc n) (x ∷ l) = x ∷ padded n l
 
--- 112 bytes: "Byte 0 kind, 1 station on the line, 2 page or requester, 3 object or cause, 4–7 transaction, 8–11 page set, 12–15 version or
--- commit number", and from the sets on "object sets by page (one set of a single page: byte 16), 48–111 eight values"
+-- one message: "Byte 0 kind, 1 station on the line, 2 page or requester, 3 object or cause, 4–7 transaction, 8–11 page set, 12–15 .. commit
+-- number", and from the sets on "object sets by page (one set of a single page: byte 16), 48–111 eight values", then eight versions
 abbrev message : ℕ → ℕ → ℕ → ℕ → ℕ → ℕ → ℕ → List ℕ → List ℕ
 message k i p o t d n fromSets = k ∷ i ∷ p ∷ o ∷ t ∷ 0 ∷ 0 ∷ 0 ∷ d ∷ 0 ∷ 0 ∷ 0 ∷ n ∷ 0 ∷ 0 ∷ 0 ∷ padded (messageLength - setsFrom) fromSets
 
@@ -35,9 +35,18 @@ values (v ∷ l) = padded valueLength (v ∷ []) ++ values l
 abbrev recorded : ℕ → ℕ → ℕ → ℕ → ℕ → ℕ → List ℕ → List ℕ → List ℕ
 recorded n m number t i k a v = n ∷ 0 ∷ m ∷ 0 ∷ number ∷ 0 ∷ 0 ∷ 0 ∷ t ∷ 0 ∷ 0 ∷ 0 ∷ i ∷ k ∷ 0 ∷ 0 ∷ (a ++ values v)
 
--- "A commit is followed by 32 versions of 4 bytes .. and a record": station, transaction, set of pages used, versions, record
+-- "of 4 bytes"
+abbrev versions : List ℕ → List ℕ
+versions [] = []
+versions (v ∷ l) = padded versionWidth (v ∷ []) ++ versions l
+
+-- a commit "carries one version for each entry of its record", then the record: station, transaction, set of pages used, versions, record
 abbrev commit : ℕ → ℕ → ℕ → List ℕ → List ℕ → List ℕ
-commit i t d v r = message 3 i 0 0 t d 0 [] ++ (padded (32 * versionWidth) v ++ r)
+commit i t d v r = message 3 i 0 0 t d 0 [] ++ (versions v ++ r)
+
+-- 16, 17 or 18 of page 1 with these values and versions: kind, station, object, transaction
+abbrev pageOne : ℕ → ℕ → ℕ → ℕ → List ℕ → List ℕ → List ℕ
+pageOne k i o t x v = message k i 1 o t 0 0 (padded setsLength [] ++ (padded valuesLength (values x) ++ versions v))
 
 -- PARTS OF ROWS
 
@@ -88,7 +97,7 @@ C3 =
     (OfLine
     (reads 0 0
     ++ reads 2 0
-    ++ (sends (Owner 2 Commits) Waits (commit 2 1 2 [] (recorded 1 0 0 1 2 0 (8 ∷ []) (0 ∷ [])) ∷ [])
+    ++ (sends (Owner 2 Commits) Waits (commit 2 1 2 (0 ∷ []) (recorded 1 0 0 1 2 0 (8 ∷ []) (0 ∷ [])) ∷ [])
     ∷ step (ServerTakes 2) Nothing (message 21 2 0 0 1 0 1 [] ∷ []) (recorded 1 0 1 1 2 0 (8 ∷ []) (0 ∷ []))
     ∷ answers (StationTakes 2) (CommittedAs 1)
     ∷ asks 5
@@ -161,8 +170,8 @@ C7 =
     (reads 1 0
     ++ (answers (Owner 0 Begin) (Begun 1)
     ∷ getsWhole 5)
-    ++ (sends (Owner 0 Commits) Waits (commit 0 1 2 [] (recorded 0 1 0 1 0 0 (8 ∷ []) (5 ∷ [])) ∷ [])
-    ∷ step (ServerTakes 0) Nothing (message 21 0 0 0 1 0 1 [] ∷ message 23 1 0 0 0 2 0 [] ∷ []) (recorded 0 1 1 1 0 0 (8 ∷ []) (5 ∷ []))
+    ++ (sends (Owner 0 Commits) Waits (commit 0 1 2 (0 ∷ []) (recorded 0 1 0 1 0 0 (8 ∷ []) (5 ∷ [])) ∷ [])
+    ∷ step (ServerTakes 0) Nothing (message 21 0 0 0 1 0 1 [] ∷ message 23 1 0 0 0 0 0 (0 ∷ 1 ∷ []) ∷ []) (recorded 0 1 1 1 0 0 (8 ∷ []) (5 ∷ []))
     ∷ answers (StationTakes 1) (AbortedFor 2)
     ∷ answers (StationTakes 0) (CommittedAs 1)
     ∷ []))
@@ -176,7 +185,7 @@ asksForPage =
     ∷ sends (Owner 1 (Write 9 7)) Waits (message 1 1 1 1 1 0 0 [] ∷ [])
     ∷ serves 1 (message 16 1 1 1 1 0 0 [] ∷ [])
     ∷ answers (StationTakes 1) Written
-    ∷ sends (Owner 1 Commits) Waits (commit 1 1 2 [] (recorded 0 1 0 1 1 1 (9 ∷ []) (7 ∷ [])) ∷ [])
+    ∷ sends (Owner 1 Commits) Waits (commit 1 1 2 (0 ∷ []) (recorded 0 1 0 1 1 1 (9 ∷ []) (7 ∷ [])) ∷ [])
     ∷ serves 1 (message 19 0 1 0 1 0 0 [] ∷ [])
     ∷ []
 
@@ -187,18 +196,15 @@ calledForNine =
     ∷ serves 0 (message 20 0 1 0 1 0 0 (0 ∷ 2 ∷ []) ∷ [])
     ∷ []
 
--- 1's commit is installed
-abbrev installsNine : List Step
-installsNine =
-    step (ServerTakes 0) Nothing (message 21 1 0 0 1 0 1 [] ∷ []) (recorded 0 1 1 1 1 1 (9 ∷ []) (7 ∷ []))
-    ∷ answers (StationTakes 1) (CommittedAs 1)
-    ∷ []
+-- 1's commit is installed as number n
+abbrev installsNine : ℕ → Step
+installsNine n = step (ServerTakes 0) Nothing (message 21 1 0 0 1 0 n [] ∷ []) (recorded 0 1 n 1 1 1 (9 ∷ []) (7 ∷ []))
 
 unfoldable pub C8 : Row
 C8 =
     row "C8 0 holds page 1 whole and wrote 8 alone, 1 commits a write to 9: 19, 8 with set 1, 20, 7, committed."
     (OfLine
-    (reads 0 0 ++ getsWhole 5 ++ asksForPage ++ calledForNine ++ (sends (StationTakes 0) Nothing (message 7 0 1 0 1 0 0 [] ∷ []) ∷ installsNine))
+    (reads 0 0 ++ getsWhole 5 ++ asksForPage ++ calledForNine ++ (sends (StationTakes 0) Nothing (message 7 0 1 0 1 0 0 [] ∷ []) ∷ installsNine 1 ∷ answers (StationTakes 1) (CommittedAs 1) ∷ []))
     (recorded 0 1 1 1 1 1 (9 ∷ []) (7 ∷ []))
     ∷ [])
 
@@ -214,19 +220,25 @@ holdsNine =
 
 unfoldable pub inUse : Row
 inUse =
-    row "C8 with 9 in use: 6, and 1's commit waits; 0 aborts: committed; 0 commits: cause 2, versions being those of pages."
+    row "C8 with 9 in use: 6, and 1's commit waits; 0 aborts: committed; 0 commits 8: committed, versions being those of objects."
     (OfLine
     (holdsNine
     ++ (sends (Owner 0 Aborts) (AbortedFor 0) (message 4 0 0 0 1 0 0 [] ∷ message 7 0 1 0 1 2 0 [] ∷ [])
     ∷ serves 0 []
-    ∷ installsNine))
+    ∷ installsNine 1
+    ∷ answers (StationTakes 1) (CommittedAs 1)
+    ∷ []))
     (recorded 0 1 1 1 1 1 (9 ∷ []) (7 ∷ []))
     ∷ OfLine
     (holdsNine
-    ++ (sends (Owner 0 Commits) Waits (commit 0 1 2 [] (recorded 2 1 0 1 0 0 (8 ∷ 9 ∷ 8 ∷ []) (0 ∷ 0 ∷ 5 ∷ [])) ∷ [])
-    ∷ step (ServerTakes 0) Nothing (message 21 0 0 0 1 0 1 [] ∷ message 23 1 0 0 0 2 0 [] ∷ message 22 1 0 2 1 0 0 [] ∷ []) (recorded 2 1 1 1 0 0 (8 ∷ 9 ∷ 8 ∷ []) (0 ∷ 0 ∷ 5 ∷ []))
+    ++ (sends (Owner 0 Commits) Waits (commit 0 1 2 (0 ∷ 0 ∷ 0 ∷ []) (recorded 2 1 0 1 0 0 (8 ∷ 9 ∷ 8 ∷ []) (0 ∷ 0 ∷ 5 ∷ [])) ∷ [])
+    ∷ step (ServerTakes 0) Nothing (message 21 0 0 0 1 0 1 [] ∷ message 23 1 0 0 0 0 0 (0 ∷ 1 ∷ []) ∷ []) (recorded 2 1 1 1 0 0 (8 ∷ 9 ∷ 8 ∷ []) (0 ∷ 0 ∷ 5 ∷ []))
+    ∷ sends (StationTakes 0) (CommittedAs 1) (message 7 0 1 0 1 2 0 [] ∷ [])
+    ∷ installsNine 2
+    ∷ answers (StationTakes 1) Nothing
+    ∷ answers (StationTakes 1) (CommittedAs 2)
     ∷ []))
-    (recorded 2 1 1 1 0 0 (8 ∷ 9 ∷ 8 ∷ []) (0 ∷ 0 ∷ 5 ∷ []))
+    (recorded 2 1 1 1 0 0 (8 ∷ 9 ∷ 8 ∷ []) (0 ∷ 0 ∷ 5 ∷ []) ++ recorded 0 1 2 1 1 1 (9 ∷ []) (7 ∷ []))
     ∷ [])
 
 unfoldable pub wroteNine : Row
@@ -267,7 +279,7 @@ besideWhole =
     ∷ sends (Owner 1 (Write 8 7)) Waits (message 1 1 1 0 1 0 0 [] ∷ [])
     ∷ serves 1 (message 16 1 1 0 1 0 0 [] ∷ [])
     ∷ answers (StationTakes 1) Written
-    ∷ sends (Owner 1 Commits) Waits (commit 1 1 2 [] (recorded 0 1 0 1 1 1 (8 ∷ []) (7 ∷ [])) ∷ [])
+    ∷ sends (Owner 1 Commits) Waits (commit 1 1 2 (0 ∷ []) (recorded 0 1 0 1 1 1 (8 ∷ []) (7 ∷ [])) ∷ [])
     ∷ serves 1 (message 22 1 0 3 1 0 0 [] ∷ [])
     ∷ answers (StationTakes 1) (AbortedFor 3)
     ∷ []))
@@ -295,28 +307,32 @@ abbrev upFrom : ℕ → ℕ → List ℕ
 upFrom a zero = []
 upFrom a (suc n) = a ∷ upFrom (suc a) n
 
--- transaction 1 of station 0 has used all pages; its record by the two bytes of n, those of m, and what stands behind the header
-abbrev commitsAll : ℕ → ℕ → ℕ → ℕ → List ℕ → List ℕ
-commitsAll n n′ m m′ rest =
+-- transaction 1 of station 0 has used all pages, by c entries; its record by the two bytes of n, those of m, and what stands behind the header
+abbrev commitsAll : ℕ → ℕ → ℕ → ℕ → ℕ → List ℕ → List ℕ
+commitsAll c n n′ m m′ rest =
     3 ∷ 0 ∷ 0 ∷ 0 ∷ 1 ∷ 0 ∷ 0 ∷ 0 ∷ 255 ∷ 255 ∷ 255 ∷ 255
     ∷ (replicate (messageLength - versionFrom) 0
-    ++ (padded (32 * versionWidth) []
+    ++ (replicate (c * versionWidth) 0
     ++ (n ∷ n′ ∷ m ∷ m′ ∷ 0 ∷ 0 ∷ 0 ∷ 0 ∷ 1 ∷ 0 ∷ 0 ∷ 0 ∷ 0 ∷ 0 ∷ 0 ∷ 0 ∷ rest)))
+
+-- "A commit is then 144 + 4 × (n + m) bytes and the record"
+abbrev sentLength : ℕ → ℕ → ℕ
+sentLength n m = versionsAt + versionWidth * (n + m) + recordLength n m
 
 unfoldable pub C10 : Row
 C10 =
     row "C10 n = m = 256: 4,624 bytes; n = 257: number 5."
-    -- on the way up, 240 bytes and the record's, it is beyond document 02's limit
-    (OfCommit (commitsAll 0 1 0 1 (upFrom 0 256 ++ (upFrom 0 256 ++ replicate (valueLength * (256 + 256)) 0))) (recordAt + recordLength 256 256) 5
+    -- on the way up, message, versions and record, it is beyond document 02's limit
+    (OfCommit (commitsAll 512 0 1 0 1 (upFrom 0 256 ++ (upFrom 0 256 ++ replicate (valueLength * (256 + 256)) 0))) (sentLength 256 256) 5
     ∷ OfFile (filled 256 256) 4624 0 "commit station transaction reads writes\n1 0 1 256 256\nend 1\n"
     -- a byte has no 257th address
-    ∷ OfCommit (commitsAll 1 1 0 0 (upFrom 0 256 ++ (255 ∷ replicate (valueLength * 257) 0))) (recordAt + recordLength 257 0) 5
+    ∷ OfCommit (commitsAll 257 1 1 0 0 (upFrom 0 256 ++ (255 ∷ replicate (valueLength * 257) 0))) (sentLength 257 0) 5
     ∷ OfFile (filled 257 0) (recordLength 257 0) 5 "commit station transaction reads writes\nrefused 5 after 0\n"
     ∷ [])
 
 -- a commit of transaction 1 of station 0 that has used the pages 0 to 5, or to 6: n reads and m writes, each of the first addresses
 abbrev commitsFirst : ℕ → ℕ → ℕ → List ℕ
-commitsFirst pages n m = commit 0 1 pages [] (recorded n m 0 1 0 0 (upFrom 0 n ++ upFrom 0 m) (replicate (n + m) 0))
+commitsFirst pages n m = commit 0 1 pages (replicate (n + m) 0) (recorded n m 0 1 0 0 (upFrom 0 n ++ upFrom 0 m) (replicate (n + m) 0))
 
 -- station i reads n objects more of page p, from object o on, which is cached and all zeros
 abbrev readsOn : ℕ → ℕ → ℕ → ℕ → List Step
@@ -383,10 +399,10 @@ longWrites =
 
 unfoldable pub longCommits : Row
 longCommits =
-    row "The server gives number 5 to n or m above 48. Records are then at most 880 bytes, a commit 1,120."
-    (OfCommit (commitsFirst 63 48 48) 1120 0
-    ∷ OfCommit (commitsFirst 127 49 0) (recordAt + recordLength 49 0) 5
-    ∷ OfCommit (commitsFirst 127 0 49) (recordAt + recordLength 0 49) 5
+    row "The server gives number 5 to n or m above 48. Records are then at most 880 bytes, a commit at most 1,408."
+    (OfCommit (commitsFirst 63 48 48) 1408 0
+    ∷ OfCommit (commitsFirst 127 49 0) (sentLength 49 0) 5
+    ∷ OfCommit (commitsFirst 127 0 49) (sentLength 0 49) 5
     ∷ [])
 
 -- no calls archive nothing; record check of no bytes is short
@@ -402,19 +418,19 @@ abbrev pub commits12 : List Step
 commits12 =
     reads 0 0
     ++ getsWhole 1
-    ++ (sends (Owner 0 Commits) Waits (commit 0 1 2 [] (recorded 1 1 0 1 0 0 (8 ∷ 8 ∷ []) (0 ∷ 1 ∷ [])) ∷ [])
+    ++ (sends (Owner 0 Commits) Waits (commit 0 1 2 (0 ∷ 0 ∷ []) (recorded 1 1 0 1 0 0 (8 ∷ 8 ∷ []) (0 ∷ 1 ∷ [])) ∷ [])
     ∷ step (ServerTakes 0) Nothing (message 21 0 0 0 1 0 1 [] ∷ []) c12
     ∷ answers (StationTakes 0) (CommittedAs 1)
     ∷ [])
 
--- "a read of 8 (value 1) in transaction 1 of station 1": page 1 comes with version 1 and goes up with it
+-- "a read of 8 (value 1) in transaction 1 of station 1": 8 comes with version 1 and goes up with it
 abbrev pub readOf8By1 : List Step
 readOf8By1 =
     answers (Owner 1 Begin) (Begun 1)
     ∷ sends (Owner 1 (Read 8)) Waits (message 1 1 1 0 1 0 0 [] ∷ [])
-    ∷ serves 1 (message 16 1 1 0 1 0 1 (replicate setsLength 0 ++ (1 ∷ [])) ∷ [])
+    ∷ serves 1 (pageOne 16 1 0 1 (1 ∷ []) (1 ∷ []) ∷ [])
     ∷ answers (StationTakes 1) (Value 1)
-    ∷ sends (Owner 1 Commits) Waits (commit 1 1 2 (0 ∷ 0 ∷ 0 ∷ 0 ∷ 1 ∷ []) (recorded 1 0 0 1 1 1 (8 ∷ []) (1 ∷ [])) ∷ [])
+    ∷ sends (Owner 1 Commits) Waits (commit 1 1 2 (1 ∷ []) (recorded 1 0 0 1 1 1 (8 ∷ []) (1 ∷ [])) ∷ [])
     ∷ step (ServerTakes 1) Nothing (message 21 1 0 0 1 0 2 [] ∷ []) readOf8
     ∷ answers (StationTakes 1) (CommittedAs 2)
     ∷ []
@@ -429,19 +445,104 @@ C12 =
     ∷ OfFile (c12 ++ readOf8) (recordLength 1 1 + recordLength 1 0) 0 "commit station transaction reads writes\n1 0 1 1 1\n2 1 1 1 0\nend 2\n"
     ∷ [])
 
+-- WISH 6: two validating heads, 1 and 3, count on objects of page 1
+
+-- station i has read object o as 0, and counts 1 there
+abbrev counts : ℕ → ℕ → List Step
+counts i o = reads i o ++ (answers (Owner i (Write (8 + o) 1)) Written ∷ [])
+
+-- the record of that, as commit number n
+abbrev counted : ℕ → ℕ → ℕ → List ℕ
+counted i a n = recorded 1 1 n 1 i 1 (a ∷ a ∷ []) (0 ∷ 1 ∷ [])
+
+-- station i's commit of it goes up
+abbrev commitsCount : ℕ → ℕ → Step
+commitsCount i a = sends (Owner i Commits) Waits (commit i 1 2 (0 ∷ 0 ∷ []) (counted i a 0) ∷ [])
+
+-- .. and is commit n, of which the other head j hears by the set u
+abbrev countedAs : ℕ → ℕ → ℕ → ℕ → ℕ → Step
+countedAs i a n j u = step (ServerTakes i) Nothing (message 21 i 0 0 1 0 n [] ∷ message 23 j 0 0 0 0 0 (0 ∷ u ∷ []) ∷ []) (counted i a n)
+
+-- 1 counts on 8 and 3 on 9
+abbrev neighbours : List Step
+neighbours =
+    counts 1 0
+    ++ counts 3 1
+    ++ (commitsCount 1 8
+    ∷ countedAs 1 8 1 3 1
+    ∷ answers (StationTakes 3) Nothing
+    ∷ commitsCount 3 9
+    ∷ countedAs 3 9 2 1 2
+    ∷ answers (StationTakes 1) (CommittedAs 1)
+    ∷ answers (StationTakes 3) (CommittedAs 2)
+    ∷ answers (StationTakes 1) Nothing
+    ∷ [])
+
+unfoldable pub neighboursCommit : Row
+neighboursCommit =
+    row "Neighbours on one page stop aborting each other: 1 counts on 8, 3 on 9, and both commit."
+    (OfLine neighbours (counted 1 8 1 ++ counted 3 9 2) ∷ [])
+
+-- 1 has read 8 from its copy when the page comes anew for 9: the read stays, and each entry carries the version of its own object
+unfoldable pub arrivesOver : Row
+arrivesOver =
+    row "A page that arrives over objects already read."
+    (OfLine
+    (neighbours
+    ++ (answers (Owner 1 Begin) (Begun 2)
+    ∷ answers (Owner 1 (Read 8)) (Value 1)
+    ∷ sends (Owner 1 (Read 9)) Waits (message 1 1 1 1 2 0 0 [] ∷ [])
+    ∷ serves 1 (pageOne 16 1 1 2 (1 ∷ 1 ∷ []) (1 ∷ 2 ∷ []) ∷ [])
+    ∷ answers (StationTakes 1) (Value 1)
+    ∷ sends (Owner 1 Commits) Waits (commit 1 2 2 (1 ∷ 2 ∷ []) (recorded 2 0 0 2 1 1 (8 ∷ 9 ∷ []) (1 ∷ 1 ∷ [])) ∷ [])
+    ∷ []))
+    (counted 1 8 1 ++ counted 3 9 2)
+    ∷ [])
+
+unfoldable pub sameObject : Row
+sameObject =
+    row "Cause 2 is given for a used object with another version: 1 and 3 count on 8."
+    (OfLine
+    (counts 1 0
+    ++ counts 3 0
+    ++ (commitsCount 1 8
+    ∷ commitsCount 3 8
+    ∷ countedAs 1 8 1 3 1
+    ∷ serves 3 (message 22 3 0 2 1 0 0 [] ∷ [])
+    ∷ answers (StationTakes 3) Nothing
+    ∷ answers (StationTakes 3) (AbortedFor 2)
+    ∷ []))
+    (counted 1 8 1)
+    ∷ [])
+
+-- 1 writes 8 and 9; 3 has read 9, and 8 not
+unfoldable pub usedAndUnused : Row
+usedAndUnused =
+    row "A 23 that names a used and an unused object: the transaction ends, cause 2."
+    (OfLine
+    (counts 1 0
+    ++ (answers (Owner 1 (Write 9 1)) Written ∷ [])
+    ++ reads 3 1
+    ++ (sends (Owner 1 Commits) Waits (commit 1 1 2 (0 ∷ 0 ∷ 0 ∷ []) (recorded 1 2 0 1 1 1 (8 ∷ 8 ∷ 9 ∷ []) (0 ∷ 1 ∷ 1 ∷ [])) ∷ [])
+    ∷ step (ServerTakes 1) Nothing (message 21 1 0 0 1 0 1 [] ∷ message 23 3 0 0 0 0 0 (0 ∷ 3 ∷ []) ∷ []) (recorded 1 2 1 1 1 1 (8 ∷ 8 ∷ 9 ∷ []) (0 ∷ 1 ∷ 1 ∷ []))
+    ∷ answers (StationTakes 3) (AbortedFor 2)
+    ∷ []))
+    (recorded 1 2 1 1 1 1 (8 ∷ 8 ∷ 9 ∷ []) (0 ∷ 1 ∷ 1 ∷ []))
+    ∷ [])
+
 unfoldable pub table : List Row
-table = C1 ∷ C2 ∷ C3 ∷ C4 ∷ C5 ∷ C6 ∷ C7 ∷ C8 ∷ inUse ∷ wroteNine ∷ besideWhole ∷ C9 ∷ C10 ∷ C11 ∷ C12 ∷ longReads ∷ longWrites ∷ longCommits ∷ []
+table = C1 ∷ C2 ∷ C3 ∷ C4 ∷ C5 ∷ C6 ∷ C7 ∷ C8 ∷ inUse ∷ wroteNine ∷ besideWhole ∷ C9 ∷ C10 ∷ C11 ∷ C12 ∷ longReads ∷ longWrites ∷ longCommits ∷ neighboursCommit ∷ arrivesOver ∷ sameObject ∷ usedAndUnused ∷ []
 
 -- WISH 2: "A beaten transaction keeps its age."
 
--- page 1 with 5 at its object 0 and version 1, for a transaction 2 of station 2
+-- page 1 with 5 at its object 0, which commit 1 wrote, for a transaction 2 of station 2
 abbrev fives : ℕ → List ℕ
-fives k = message k 2 1 0 2 0 1 (replicate setsLength 0 ++ (5 ∷ []))
+fives k = pageOne k 2 0 2 (5 ∷ []) (1 ∷ [])
 
 -- 0 commits; its next transaction comes first, by a read of 16, then that of 2; both have read 8, and both write it
 abbrev repeats : List Step
 repeats =
-    sends (Owner 0 Commits) Waits (commit 0 1 2 [] (recorded 1 1 0 1 0 0 (8 ∷ 8 ∷ []) (0 ∷ 5 ∷ [])) ∷ [])
+    sends (Owner 0 Commits) Waits (commit 0 1 2 (0 ∷ 0 ∷ []) (recorded 1 1 0 1 0 0 (8 ∷ 8 ∷ []) (0 ∷ 5 ∷ [])) ∷ [])
     ∷ step (ServerTakes 0) Nothing (message 21 0 0 0 1 0 1 [] ∷ []) (recorded 1 1 1 1 0 0 (8 ∷ 8 ∷ []) (0 ∷ 5 ∷ []))
     ∷ answers (StationTakes 0) (CommittedAs 1)
     ∷ answers (Owner 0 Begin) (Begun 2)

@@ -7,7 +7,6 @@ use native.Mathlib.Nat.{zero-add}
 use native.Mathlib.Omega.{arith}
 use lib.ListN.{length, take, drop, getD, length-drop}
 use lib.Seq.{take-all}
-use borrow.Author.Tests.{lt-ltb}
 use Rattle.lists.specs.Bytes.{Bytes, byte-at, bytes-drop}
 use Rattle.sets.specs.Base.{table}
 use Rattle.sets.specs.Laws.{byEq, eqb-yes, eqb-no}
@@ -18,21 +17,21 @@ use Rattle.record_meaning.specs.Parse.{recordOf}
 use Rattle.record_meaning.specs.Meaning.{read-written}
 use Rattle.line.specs.Messages.{address, Up, ReadRequest, WriteRequest, Commit, Abort, Purge, Busy, Done, WrittenSet}
 use Rattle.line.specs.Server.{usedPage}
-use Rattle.line.specs.Fields.{noValues, oneSet, pageSet, workFields, upFields}
+use Rattle.line.specs.Fields.{noValues, noVersions, oneSet, pageSet, workFields, entryVersions, upFields}
 use Rattle.layout.specs.Record.{valueLength}
-use Rattle.message.specs.Layout.{pageFrom, objectFrom, transactionFrom, pagesFrom, versionFrom, setsFrom, setsLength, secondSet, valuesFrom, valuesLength, messageLength, kindOf, stationOf, pageOf, requesterOf, objectOf, transactionOf, pagesOf, setOf}
+use Rattle.message.specs.Layout.{pageFrom, objectFrom, transactionFrom, pagesFrom, versionFrom, setsFrom, setsLength, secondSet, valuesFrom, versionWidth, behindLength, messageLength, kindOf, stationOf, pageOf, requesterOf, objectOf, transactionOf, pagesOf, setOf}
 use Rattle.message.specs.Accepted.{fields-fit}
-use Rattle.message.specs.Commit.{versionsAt, versionWidth, recordAt}
-use Rattle.message_meaning.specs.Meant.{objectsOn, pagesIn, versionAt, workAt, upOf}
+use Rattle.message.specs.Commit.{versionsAt, recordAt, entriesOf as entriesIn, entryVersion}
+use Rattle.message_meaning.specs.Meant.{objectsOn, pagesIn, workAt, upOf}
 use Rattle.message_meaning.specs.Kinds.{up-1, up-2, up-3, up-4, up-5, up-6, up-7, up-8}
 use Rattle.message_meaning.specs.Numbers.{numbers-written}
 use Rattle.message_meaning.specs.Sent.{Reads}
-use Rattle.message_meaning.specs.UpAccepted.{RequestFields, AbortFields, PurgeFields, BusyFields, DoneFields, WrittenSetFields, CommitFields, UpAccepted, up-accepted, commit-record}
+use Rattle.message_meaning.specs.UpAccepted.{RequestFields, AbortFields, PurgeFields, BusyFields, DoneFields, WrittenSetFields, CommitFields, UpAccepted, up-accepted, commit-record, entries-are}
 use Rattle.line_cases.specs.Wire.{words, wireRecord, wire}
-use Rattle.line_cases.specs.Parts.{part-rest, made, inside, zero-at, zero-32, zero-part, bits-back, table-same, words-table, set-of-page, pages-back, zero-values, one-set, no-sets, no-values, none-from-pages}
-use Rattle.line_cases.specs.Records.{record-back}
+use Rattle.line_cases.specs.Parts.{part-rest, two-join, made, inside, zero-at, zero-32, zero-part, bits-back, table-same, table-join, words-table, set-of-page, pages-back, noneBehind, zero-behind, one-set, no-sets, none-behind, none-from-pages}
+use Rattle.line_cases.specs.Records.{versions-back, record-back}
 
--- KINDS OF 112 BYTES
+-- KINDS OF ONE MESSAGE
 
 module _ (i k : ℕ) (m : List ℕ) (hm : Bytes m) (hl : length m ≡ messageLength) (own : stationOf m ≡ i) where
   -- page and object are one address
@@ -73,56 +72,79 @@ module _ (i k : ℕ) (m : List ℕ) (hm : Bytes m) (hl : length m ≡ messageLen
   bytes-7 e f =
       let z = f .unnamed-version in
       made m hm (omega arith) e own refl (zero-at m objectFrom 1 (f .unnamed-object) (omega arith)) refl (sym (pages-back m hm)) (zero-32 m versionFrom (inside m versionFrom (messageLength - versionFrom) versionFrom 4 z (omega arith) (omega arith)))
-      (no-sets m (omega arith) (inside m versionFrom (messageLength - versionFrom) setsFrom setsLength z (omega arith) (omega arith))) (no-values m hl (inside m versionFrom (messageLength - versionFrom) valuesFrom valuesLength z (omega arith) (omega arith)))
+      (no-sets m (omega arith) (inside m versionFrom (messageLength - versionFrom) setsFrom setsLength z (omega arith) (omega arith))) (none-behind m hl (inside m versionFrom (messageLength - versionFrom) valuesFrom behindLength z (omega arith) (omega arith)))
 
   bytes-8 : kindOf m ≡ 8 → WrittenSetFields m → m ≡ wire (upFields i k (WrittenSet (pageOf m) (transactionOf m) (objectsOn (pageOf m) (setOf m 0))))
   bytes-8 e f =
       let z = f .unnamed-other-sets in
       let set-is = one-set m (omega arith) (inside m secondSet (messageLength - secondSet) secondSet (valuesFrom - secondSet) z (omega arith) (omega arith)) ∙ ap oneSet (sym (set-of-page (pageOf m) (setOf m 0) (byte-at m setsFrom hm))) in
       made m hm (omega arith) e own refl (zero-at m objectFrom 1 (f .unnamed-object) (omega arith)) refl (zero-32 m pagesFrom (inside m pagesFrom (setsFrom - pagesFrom) pagesFrom 4 (f .unnamed-pages) (omega arith) (omega arith)))
-      (zero-32 m versionFrom (inside m pagesFrom (setsFrom - pagesFrom) versionFrom 4 (f .unnamed-pages) (omega arith) (omega arith))) set-is (no-values m hl (inside m secondSet (messageLength - secondSet) valuesFrom valuesLength z (omega arith) (omega arith)))
+      (zero-32 m versionFrom (inside m pagesFrom (setsFrom - pagesFrom) versionFrom 4 (f .unnamed-pages) (omega arith) (omega arith))) set-is (none-behind m hl (inside m secondSet (messageLength - secondSet) valuesFrom behindLength z (omega arith) (omega arith)))
 
--- THE COMMIT: "followed by 32 versions of 4 bytes .. and a record"
+-- THE COMMIT: "one version for each entry of its record, in record order", then the record
 
 module _ (i k : ℕ) (m : List ℕ) (hm : Bytes m) (own : stationOf m ≡ i) (f : CommitFields k m) where
   abbrev s : List ℕ
-  s = drop recordAt m
+  s = drop (recordAt m) m
 
-  long : recordAt ≤ length m
+  long : recordAt m ≤ length m
   long = omega (arith, f .length-is)
+
+  whole : messageLength ≤ length m
+  whole = omega (arith, long, f .parts-are .versions)
 
   pages-are : pagesOf m ≡ pageSet (usedPage (workAt m))
   pages-are = sym (bits-back 32 0 (pagesOf m) (usedPage (workAt m)) ((fields-fit m hm) .pages-fit) (λ p l. ap (usedPage (workAt m)) (zero-add p) ∙ sym (f .pages-are p)))
 
-  versions-are : take (32 * versionWidth) (drop versionsAt m) ≡ words versionWidth (table 32 0 (versionAt m))
-  unfolding versionAt
+  -- those of the reads, then those of the writes
+  listed : table (entriesIn m) 0 (entryVersion m) ≡ entryVersions (workAt m)
+  unfolding workAt
+  listed =
+      let r = recordOf s in
+      let w = commit-record k m hm f in
+      rw (
+        entries-are k m hm f,
+        table-join (length (r .reads)) (length (r .writes)) 0 (entryVersion m),
+        zero-add (length (r .reads)),
+        versions-back (r .reads) (w .reads-rise) (w .reads-fit) (entryVersion m) 0,
+        versions-back (r .writes) (w .writes-rise) (w .writes-fit) (entryVersion m) (length (r .reads)),
+      )
+
+  versions-are : take (entriesIn m * versionWidth) (drop versionsAt m) ≡ words versionWidth (entryVersions (workAt m))
   versions-are =
-      sym (numbers-written versionWidth versionsAt m 32 0 hm (omega (arith, long)))
-      ∙ sym (words-table versionWidth 32 0 (λ p. numAt versionWidth m (versionsAt + p * versionWidth)))
-      ∙ ap (words versionWidth) (table-same 32 0 (λ p. numAt versionWidth m (versionsAt + p * versionWidth)) (versionAt m) (λ p l q. rw (lt-ltb p 32 q) (sym (u32At-is m (versionsAt + p * versionWidth)))))
+      let n = entriesIn m in
+      sym (numbers-written versionWidth versionsAt m n 0 hm (omega (arith, long, f .parts-are .versions)))
+      ∙ sym (words-table versionWidth n 0 (λ e. numAt versionWidth m (versionsAt + e * versionWidth)))
+      ∙ ap (words versionWidth) (table-same n 0 (λ e. numAt versionWidth m (versionsAt + e * versionWidth)) (entryVersion m) (λ e l q. sym (u32At-is m (versionsAt + e * versionWidth))) ∙ listed)
 
   record-is : s ≡ wireRecord (workFields i k (workAt m)) ++ []
   unfolding workAt
   record-is =
       let w = commit-record k m hm f in
-      let size : lengthOf s ≡ length s = omega (arith, f .length-is, length-drop recordAt m) in
-      let back = read-written s (bytes-drop recordAt m hm) (f .record-accepted) .bytes-are in
+      let size : lengthOf s ≡ length s = omega (arith, f .length-is, length-drop (recordAt m) m) in
+      let back = read-written s (bytes-drop (recordAt m) m hm) (f .record-accepted) .bytes-are in
       sym (take-all (lengthOf s) s (omega (arith, size)))
       ∙ sym back
       ∙ sym (record-back (recordOf s) w 0 (transactionOf m) i k (f .commit-0) (f .transaction-is) (f .station-is ∙ own) (f .kind-is))
       ∙ sym (append-nil (wireRecord (workFields i k (workAt m))))
 
-  behind-sets : drop valuesFrom m ≡ words valueLength noValues ++ (words versionWidth (table 32 0 (versionAt m)) ++ (wireRecord (workFields i k (workAt m)) ++ []))
+  behind-message : drop versionsAt m ≡ words versionWidth (entryVersions (workAt m)) ++ (wireRecord (workFields i k (workAt m)) ++ [])
+  behind-message = sym (part-rest (entriesIn m * versionWidth) versionsAt (recordAt m) m (f .parts-are .versions)) ∙ rw (versions-are, ← record-is)
+
+  behind-sets : drop valuesFrom m ≡ words valueLength noValues ++ (words versionWidth noVersions ++ (words versionWidth (entryVersions (workAt m)) ++ (wireRecord (workFields i k (workAt m)) ++ [])))
   behind-sets =
-      let zeros = inside m versionFrom (messageLength - versionFrom) valuesFrom valuesLength (f .unnamed-version) (omega arith) (omega arith) in
-      let values : take valuesLength (drop valuesFrom m) ≡ words valueLength noValues = zero-part m valuesFrom valuesLength zeros (omega (arith, long)) ∙ zero-values ∙ append-nil (words valueLength noValues) in
-      sym (part-rest valuesLength valuesFrom versionsAt m refl) ∙ rw values (ap (λ (x : List ℕ). words valueLength noValues ++ x) (sym (part-rest (32 * versionWidth) versionsAt recordAt m refl) ∙ rw (versions-are, ← record-is)))
+      let zeros = inside m versionFrom (messageLength - versionFrom) valuesFrom behindLength (f .unnamed-version) (omega arith) (omega arith) in
+      let none : take behindLength (drop valuesFrom m) ≡ noneBehind = zero-part m valuesFrom behindLength zeros (omega (arith, whole)) ∙ zero-behind in
+      sym (part-rest behindLength valuesFrom versionsAt m refl)
+      ∙ ap (λ (l : List ℕ). l ++ drop versionsAt m) none
+      ∙ two-join (words valueLength noValues) (words versionWidth noVersions) (drop versionsAt m)
+      ∙ ap (λ (l : List ℕ). words valueLength noValues ++ (words versionWidth noVersions ++ l)) behind-message
 
   bytes-3 : kindOf m ≡ 3 → m ≡ wire (upFields i k (Commit (workAt m)))
   unfolding workAt
   bytes-3 e =
-      made m hm (omega (arith, long)) e own (zero-at m pageFrom (transactionFrom - pageFrom) (f .unnamed-page) (omega arith)) (zero-at m objectFrom 1 (inside m pageFrom (transactionFrom - pageFrom) objectFrom 1 (f .unnamed-page) (omega arith) (omega arith)) (omega arith)) refl
-      pages-are (zero-32 m versionFrom (inside m versionFrom (messageLength - versionFrom) versionFrom 4 (f .unnamed-version) (omega arith) (omega arith))) (no-sets m (omega (arith, long)) (inside m versionFrom (messageLength - versionFrom) setsFrom setsLength (f .unnamed-version) (omega arith) (omega arith)))
+      made m hm (omega (arith, whole)) e own (zero-at m pageFrom (transactionFrom - pageFrom) (f .unnamed-page) (omega arith)) (zero-at m objectFrom 1 (inside m pageFrom (transactionFrom - pageFrom) objectFrom 1 (f .unnamed-page) (omega arith) (omega arith)) (omega arith)) refl
+      pages-are (zero-32 m versionFrom (inside m versionFrom (messageLength - versionFrom) versionFrom 4 (f .unnamed-version) (omega arith) (omega arith))) (no-sets m (omega (arith, whole)) (inside m versionFrom (messageLength - versionFrom) setsFrom setsLength (f .unnamed-version) (omega arith) (omega arith)))
       behind-sets
 
 -- EVERY KIND THAT THE SERVER TAKES

@@ -5,8 +5,7 @@ use Rattle.le.specs.Width.{bytes}
 use Rattle.layout.specs.Record.{valueLength, Entry, bytesOf}
 use Rattle.entries.specs.Entries.{entry}
 use Rattle.line.specs.Fields.{Fields, RecordFields}
-use Rattle.message.specs.Layout.{message}
-use Rattle.message.specs.Commit.{versionWidth}
+use Rattle.message.specs.Layout.{versionWidth, message}
 
 -- numbers of w bytes, one behind the other
 abbrev pub words : ℕ → List ℕ → List ℕ
@@ -26,8 +25,9 @@ abbrev pub wireRecords : List RecordFields → List ℕ
 wireRecords [] = []
 wireRecords (r ∷ l) = wireRecord r ++ wireRecords l
 
--- "48–111 eight values"; "A commit is followed by 32 versions of 4 bytes .. and a record."
+-- "48–111 eight values", by document 02 eight versions "after the values", and behind a commit's message "one version for each entry of its
+-- record, in record order", then the record
 abbrev pub wire : Fields → List ℕ
 wire f =
-    message (f .kind) (f .station) (f .pageOrRequester) (f .objectOrCause) (f .transaction) (f .pages) (f .versionOrNumber) (f .sets)
-    (words valueLength (f .values) ++ (words versionWidth (f .versions) ++ wireRecords (f .behind)))
+    message (f .kind) (f .station) (f .pageOrRequester) (f .objectOrCause) (f .transaction) (f .pages) (f .commitNumber) (f .sets)
+    (words valueLength (f .values) ++ (words versionWidth (f .pageVersions) ++ (words versionWidth (f .versions) ++ wireRecords (f .behind))))

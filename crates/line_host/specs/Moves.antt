@@ -115,7 +115,7 @@ station-takes s =
       dones = λ r t set f u. stays refl refl (λ e. e);
       commits = λ t n f p. let e = close-ends (s .num) (CommittedAs n) _ refl refl in over e (ap isRefused (e .says), no-commit);
       aborts = λ t c f p. let e = close-ends (s .num) (AbortedFor c) _ (undo-num s) refl in over e (ap isRefused (e .says), no-commit);
-      invalid-ends = λ d f u c. let e = close-ends (s .num) (AbortedFor 2) _ (undo-num (dropPages d s)) refl in over e (ap isRefused (e .says), λ k. e .says);
+      invalid-ends = λ d f u c. let e = close-ends (s .num) (AbortedFor 2) _ (undo-num (mark d s)) refl in over e (ap isRefused (e .says), λ k. e .says);
       invalid = λ d f u. stays refl refl (λ e. e);
     }
 

@@ -7,9 +7,9 @@ use lib.Dec.{eqb}
 use lib.ListN.{length}
 use Rattle.sets.specs.Laws.{byEq}
 use Rattle.line.specs.Line.{Op, Begin, Read, Write, Commits, Aborts, Purges}
-use Rattle.message.specs.Layout.{setsFrom, kindOf, transactionOf, pagesOf}
+use Rattle.message.specs.Layout.{setsFrom, kindOf, transactionOf}
 use Rattle.station_state.specs.Layout.{wait, readSetFrom, writtenSetFrom, member}
-use Rattle.station_pages.specs.Pages.{inUseB, touchedB}
+use Rattle.station_pages.specs.Pages.{inUseB}
 use Rattle.station_callbacks.specs.Callbacks.{setsAt}
 use Rattle.station_answer.specs.declared.Answer.{Answer}
 use Rattle.station_answer.specs.declared.Answer.the-variants.{Refused, Begun, Value, Waits, Written, Committed, Aborted, Purged, Nothing}
@@ -79,7 +79,7 @@ module _ (s : List ℕ) where
       (both SureDid (eqb k 20) (both SureDid (inUseB (setsAt x setsFrom) s) tt tt)
       (both SureDid (eqb k 21) tt
       (both SureDid (eqb k 22) tt
-      (both SureDid (eqb k 23) (both SureDid (touchedB (pagesOf x) s && not (eqb (wait s) 3)) tt tt) (page-sure x)))))
+      (both SureDid (eqb k 23) (both SureDid (inUseB (setsAt x setsFrom) s && not (eqb (wait s) 3)) tt tt) (page-sure x)))))
 
   step-sure : (x : List ℕ) → SureDid (stationStepB x s)
   unfolding stationStepB

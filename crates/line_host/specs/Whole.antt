@@ -22,7 +22,7 @@ use Rattle.line_host.specs.Same.{plainOf, plainsOf, plains-fit, run-same
 use Rattle.line_host.specs.Events.{eventsM, historyM}
 use Rattle.line_host.specs.History.{history-same}
 
--- 8 messages and 1,120 commit bytes (station), 128 messages and 7,040 record bytes (server); four numbers told, two served
+-- 8 messages and 1,408 commit bytes (station), 128 messages and 7,040 record bytes (server); four numbers told, two served
 abbrev pub RoomH : CallH → Type 0
 RoomH (OwnerH i op o c t) = (stationRoom ≤ length o) × (commitRoom ≤ length c) × (4 ≤ length t)
 RoomH (StationH i o c t) = (stationRoom ≤ length o) × (commitRoom ≤ length c) × (4 ≤ length t)

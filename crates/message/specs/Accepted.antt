@@ -14,7 +14,7 @@ use Rattle.le.specs.Width.{numAt-lt}
 use Rattle.le.specs.Laws.{u32At-is, u64At-is}
 use Rattle.sets.specs.Laws.{byEq, eqb-no}
 use Rattle.layout.specs.Record.{valueLength}
-use Rattle.message.specs.Layout.{pageFrom, objectFrom, transactionFrom, pagesFrom, versionFrom, setsFrom, secondSet, valuesFrom, messageLength, kindOf, stationOf, pageOf, requesterOf, objectOf, causeOf, transactionOf, pagesOf, versionOf, setOf, valueOf}
+use Rattle.message.specs.Layout.{pageFrom, objectFrom, transactionFrom, pagesFrom, versionFrom, setsFrom, secondSet, valuesFrom, messageLength, kindOf, stationOf, pageOf, requesterOf, objectOf, causeOf, transactionOf, pagesOf, versionOf, setOf, valueOf, pageVersionOf, pageVersionsFrom, versionWidth}
 use Rattle.message.specs.Range.{zeroAt, zeros, stationOk, pageOk, objectOk, requesterOk, transactionOk, pageMessageOk, deescalateOk, callbackOk, committedOk, abortedOk, invalidateOk, downFieldsOk}
 use Rattle.message.specs.Number.{lengthOk, downRange, downNumber}
 
@@ -35,6 +35,7 @@ pub record Fits (m : List ℕ) : Type 0 where
   pub version-fits : versionOf m < 2 ^ 32
   pub set-fits : (p : ℕ) → setOf m p < 256
   pub value-fits : (o : ℕ) → valueOf m o < 2 ^ 64
+  pub page-version-fits : (o : ℕ) → pageVersionOf m o < 2 ^ 32
 
 pub fields-fit : (m : List ℕ) → Bytes m → Fits m
 fields-fit m h =
@@ -46,6 +47,7 @@ fields-fit m h =
       version-fits = rw u32At-is (numAt-lt 4 m versionFrom h);
       set-fits = λ p. byte-at m (setsFrom + p) h;
       value-fits = λ o. rw u64At-is (numAt-lt valueLength m (valuesFrom + o * valueLength) h);
+      page-version-fits = λ o. rw u32At-is (numAt-lt versionWidth m (pageVersionsFrom + o * versionWidth) h);
     }
 
 -- what each test of a field tells
@@ -72,12 +74,12 @@ passed false x n e = absurd (omega arith)
 
 -- WHAT EACH KIND'S FIELDS ARE
 
--- "16 page (page, object, transaction, version, unavailable set, values)", 17 and 18 the same
+-- "16 page (page, object, transaction, version, unavailable set, values)", the versions behind the values; 17 and 18 the same
 pub record PageFields (m : List ℕ) : Type 0 where
   pub page-is : pageOf m < 32
   pub object-is : objectOf m < 8
   pub transaction-not-0 : transactionOf m ≢ 0
-  pub unnamed-pages : Zero m pagesFrom (versionFrom - pagesFrom)
+  pub unnamed-pages : Zero m pagesFrom (setsFrom - pagesFrom)
   pub unnamed-other-sets : Zero m secondSet (valuesFrom - secondSet)
 
 page-fields : (m : List ℕ) → pageMessageOk m ≡ true → PageFields m
@@ -87,7 +89,7 @@ page-fields m h =
       page-is = page-lt m (search (and-l, and-r));
       object-is = object-lt m (search (and-l, and-r));
       transaction-not-0 = transaction-named m (search (and-l, and-r));
-      unnamed-pages = zeros-are m pagesFrom (versionFrom - pagesFrom) (search (and-l, and-r));
+      unnamed-pages = zeros-are m pagesFrom (setsFrom - pagesFrom) (search (and-l, and-r));
       unnamed-other-sets = zeros-are m secondSet (valuesFrom - secondSet) (search (and-l, and-r));
     }
 
@@ -168,15 +170,17 @@ aborted-fields m h =
       unnamed-pages = zeros-are m pagesFrom (messageLength - pagesFrom) (search (and-l, and-r));
     }
 
--- "23 invalidate (page set)"
+-- "Kind 23 carries object sets by page and no page set"
 pub record InvalidateFields (m : List ℕ) : Type 0 where
-  pub unnamed-page : Zero m pageFrom (pagesFrom - pageFrom)
-  pub unnamed-version : Zero m versionFrom (messageLength - versionFrom)
+  pub unnamed-page : Zero m pageFrom (setsFrom - pageFrom)
+  pub unnamed-values : Zero m valuesFrom (messageLength - valuesFrom)
 
 invalidate-fields : (m : List ℕ) → invalidateOk m ≡ true → InvalidateFields m
 unfolding invalidateOk
 invalidate-fields m h =
-    record { unnamed-page = zeros-are m pageFrom (pagesFrom - pageFrom) (and-l (zeros m pageFrom (pagesFrom - pageFrom)) (zeros m versionFrom (messageLength - versionFrom)) h); unnamed-version = zeros-are m versionFrom (messageLength - versionFrom) (and-r (zeros m pageFrom (pagesFrom - pageFrom)) (zeros m versionFrom (messageLength - versionFrom)) h) }
+    let front = zeros m pageFrom (setsFrom - pageFrom) in
+    let rest = zeros m valuesFrom (messageLength - valuesFrom) in
+    record { unnamed-page = zeros-are m pageFrom (setsFrom - pageFrom) (and-l front rest h); unnamed-values = zeros-are m valuesFrom (messageLength - valuesFrom) (and-r front rest h) }
 
 -- WHAT A STATION TAKES
 

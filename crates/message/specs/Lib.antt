@@ -1,4 +1,4 @@
--- Document 01, "Messages, 112 bytes": the layout, and the numbers 2 to 5 for both ends.
+-- Document 01's messages, by document 02 "144 bytes": the layout, and the numbers 2 to 5 for both ends.
 pub mod Layout
 pub mod Range
 pub mod Commit

@@ -9,7 +9,7 @@ use Rattle.message.specs.Layout.{messageLength, kindOf, stationOf}
 use Rattle.message.specs.Range.{stationOk, upFieldsOk, downFieldsOk}
 use Rattle.message.specs.Commit.{commitLengthOk, commitNumber}
 
--- number 2: "a message isn't 112 bytes, or a commit isn't 240 and its record's length"; kind 3 makes a commit, at either end
+-- number 2: "every message is 144 bytes", "A commit is then 144 + 4 × (n + m) bytes and the record"; kind 3 makes a commit, at either end
 unfoldable pub lengthOk : List ℕ → Bool
 lengthOk m = cond (eqb (kindOf m) 3) (commitLengthOk m) (eqb (length m) messageLength)
 

@@ -62,9 +62,9 @@ writtenSetOk m = pageOk m && zeros m objectFrom 1 && transactionOk m && zeros m 
 
 -- down
 
--- 16, 17 and 18: page, object, transaction, version, unavailable set, values
+-- 16, 17 and 18: page, object, transaction, unavailable set, values, versions
 unfoldable pub pageMessageOk : List ℕ → Bool
-pageMessageOk m = pageOk m && objectOk m && transactionOk m && zeros m pagesFrom (versionFrom - pagesFrom) && zeros m secondSet (valuesFrom - secondSet)
+pageMessageOk m = pageOk m && objectOk m && transactionOk m && zeros m pagesFrom (setsFrom - pagesFrom) && zeros m secondSet (valuesFrom - secondSet)
 
 -- 19: page, transaction
 unfoldable pub deescalateOk : List ℕ → Bool
@@ -82,9 +82,9 @@ committedOk m = zeros m pageFrom (transactionFrom - pageFrom) && transactionOk m
 unfoldable pub abortedOk : List ℕ → Bool
 abortedOk m = zeros m pageFrom 1 && leb 1 (causeOf m) && leb (causeOf m) 4 && transactionOk m && zeros m pagesFrom (messageLength - pagesFrom)
 
--- 23: page set
+-- 23: object sets by page
 unfoldable pub invalidateOk : List ℕ → Bool
-invalidateOk m = zeros m pageFrom (pagesFrom - pageFrom) && zeros m versionFrom (messageLength - versionFrom)
+invalidateOk m = zeros m pageFrom (setsFrom - pageFrom) && zeros m valuesFrom (messageLength - valuesFrom)
 
 -- "Kinds 1 to 8 go to the server": an arm for each
 unfoldable pub upFieldsOk : List ℕ → Bool

@@ -10,7 +10,7 @@ use Rattle.lists.specs.Stores.{sets-join}
 use Rattle.le.specs.Le.{setU32}
 use Rattle.le.specs.Width.{bytes, length-bytes}
 use Rattle.le.specs.Laws.{setU32-is}
-use Rattle.message.specs.Layout.{stationFrom, pageFrom, objectFrom, transactionFrom, pagesFrom, versionFrom, setsFrom, setsLength, secondSet, valuesLength, messageLength, message, single, upMessage}
+use Rattle.message.specs.Layout.{stationFrom, pageFrom, objectFrom, transactionFrom, pagesFrom, versionFrom, setsFrom, setsLength, secondSet, behindLength, messageLength, message, single, upMessage}
 
 -- s with 0 in the n places from a
 unfoldable pub cleared : List ℕ → ℕ → ℕ → List ℕ
@@ -55,7 +55,7 @@ front-stores kind station page object transaction pages version s at {s4 = s4} e
 cleared-behind : (x s : List ℕ) (at b n : ℕ) {s1 s2 : List ℕ} → s1 ≡ sets s at x → s2 ≡ cleared s1 b n → b ≡ at + length x → s2 ≡ sets s at (x ++ replicate n 0)
 cleared-behind x s at b n e1 e2 h = rw (e2, e1, cleared-is) (sets-join x (replicate n 0) s at b h)
 
--- sets and values stand behind the fields in front
+-- sets, values and versions stand behind the fields in front
 front-rest : (kind station page object transaction pages version : ℕ) (x y : List ℕ)
     → front kind station page object transaction pages version ++ (x ++ y) ≡ message kind station page object transaction pages version x y
 unfolding front message
@@ -67,17 +67,17 @@ length-message kind station page object transaction pages version x y =
     rw (← front-rest kind station page object transaction pages version x y, length-append, length-append, length-front)
 
 pub length-up : (kind station page object transaction pages x : ℕ) → length (upMessage kind station page object transaction pages x) ≡ messageLength
-length-up kind station page object transaction pages x = length-message kind station page object transaction pages 0 (single x) (replicate valuesLength 0)
+length-up kind station page object transaction pages x = length-message kind station page object transaction pages 0 (single x) (replicate behindLength 0)
 
 module _ (kind station page object transaction pages : ℕ) (s : List ℕ) (at : ℕ) where
   -- zeros behind the fields in front
   pub message-stores : (version : ℕ) {s1 s2 : List ℕ} → s1 ≡ sets s at (front kind station page object transaction pages version) → s2 ≡ cleared s1 (at + setsFrom) (messageLength - setsFrom)
-      → s2 ≡ sets s at (message kind station page object transaction pages version (replicate setsLength 0) (replicate valuesLength 0))
+      → s2 ≡ sets s at (message kind station page object transaction pages version (replicate setsLength 0) (replicate behindLength 0))
   message-stores version e1 e2 =
       let f = front kind station page object transaction pages version in
       cleared-behind f s at (at + setsFrom) (messageLength - setsFrom) e1 e2 (rw length-front)
-      ∙ ap (λ (x : List ℕ). sets s at (f ++ x)) (sym (replicate-append-replicate setsLength valuesLength 0))
-      ∙ ap (sets s at) (front-rest kind station page object transaction pages version (replicate setsLength 0) (replicate valuesLength 0))
+      ∙ ap (λ (x : List ℕ). sets s at (f ++ x)) (sym (replicate-append-replicate setsLength behindLength 0))
+      ∙ ap (sets s at) (front-rest kind station page object transaction pages version (replicate setsLength 0) (replicate behindLength 0))
 
   -- one set, then zeros
   pub up-stores : (x : ℕ) {s1 s2 s3 : List ℕ} → s1 ≡ sets s at (front kind station page object transaction pages 0) → s2 ≡ set s1 (at + setsFrom) x → s3 ≡ cleared s2 (at + secondSet) (messageLength - secondSet)
@@ -88,5 +88,5 @@ module _ (kind station page object transaction pages : ℕ) (s : List ℕ) (at :
       let e : s2 ≡ sets s at (f ++ one) = rw (e2, e1) (sets-join f one s at (at + setsFrom) (rw length-front)) in
       cleared-behind (f ++ one) s at (at + secondSet) (messageLength - secondSet) e e3 (rw (length-append, length-front) (omega arith))
       ∙ ap (sets s at) (append-assoc f one (replicate (messageLength - secondSet) 0))
-      ∙ ap (λ (y : List ℕ). sets s at (f ++ (x ∷ y))) (sym (replicate-append-replicate (setsLength - 1) valuesLength 0))
-      ∙ ap (sets s at) (front-rest kind station page object transaction pages 0 (single x) (replicate valuesLength 0))
+      ∙ ap (λ (y : List ℕ). sets s at (f ++ (x ∷ y))) (sym (replicate-append-replicate (setsLength - 1) behindLength 0))
+      ∙ ap (sets s at) (front-rest kind station page object transaction pages 0 (single x) (replicate behindLength 0))

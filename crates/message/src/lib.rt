@@ -1,17 +1,18 @@
 // Messages of document 01: writing one, and the numbers 2 to 5 that its bytes alone give at either end.
 ghost use mathlib.Core.Path.{_≡_};
-ghost use Prim.Native.Nat.{_+_, _^_, _≤_, _<_};
+ghost use Prim.Native.Nat.{_+_, _*_, _^_, _≤_, _<_};
 ghost use lib.ListN.{length, replicate};
 ghost use lib.Seq.{sets};
 ghost use mathlib.Core.Bool.{cond};
-ghost use Rattle.message.specs.Layout.{setsFrom, setsLength, valuesLength, messageLength, kindOf, message as Layout·message, upMessage};
+ghost use Rattle.message.specs.Layout.{setsFrom, setsLength, behindLength, messageLength, versionWidth, kindOf, message as Layout·message, upMessage};
 ghost use Rattle.message.specs.Range.{zeroAt, zeros as Range·zeros, requestOk, commitOk, abortOk, purgeOk, busyOk, doneOk, writtenSetOk, pageMessageOk, deescalateOk, callbackOk, committedOk, abortedOk, invalidateOk, upFieldsOk, downFieldsOk};
-ghost use Rattle.message.specs.Commit.{recordAt, addressesAt, entriesOf, commitLengthOk, fewOk, versionOk, pagesTo, recordAgrees, commitNumber};
+ghost use Rattle.layout.specs.Record.{headerLength, entryLength};
+ghost use Rattle.message.specs.Commit.{versionsAt, shortestCommit, countOf, recordAt as Commit·recordAt, addressesAt, sentReads, sentWrites, entriesOf, commitLengthOk, fewOk, versionOk, pagesTo, recordAgrees, commitNumber};
 ghost use Rattle.message.specs.Number.{lengthOk, upRange, downRange, downNumber, kindOk, kindsOk, upNumber};
 ghost use Rattle.lists.specs.Tests.{allTo};
 ghost use Rattle.message.specs.Stores.{cleared, front};
 
-// Document 01, "Messages, 112 bytes": where each field stands. A message starts with its kind; PAGE is also the requester's place and
+// Document 01, "Messages", with wish 6 of document 02, "every message is 144 bytes": where each field stands. A message starts with its kind; PAGE is also the requester's place and
 // OBJECT the cause's.
 pub const KIND: usize = 0;
 
@@ -33,47 +34,37 @@ pub const SETS_LENGTH: usize = 32;
 
 pub const VALUES: usize = SETS + SETS_LENGTH;
 
-pub const LENGTH: usize = VALUES + 8 * record::VALUE;
-
-// "A commit is followed by 32 versions of 4 bytes .. and a record": where these stand, the record's fields and its addresses.
-pub const VERSIONS: usize = LENGTH;
+pub const PAGE_VERSIONS: usize = VALUES + 8 * record::VALUE;
 
 pub const VERSION_WIDTH: usize = 4;
 
-pub const RECORD: usize = VERSIONS + 32 * VERSION_WIDTH;
+pub const LENGTH: usize = PAGE_VERSIONS + 8 * VERSION_WIDTH;
 
-pub const RECORD_READS: usize = RECORD + record::READS;
+// "A commit carries one version for each entry of its record, in record order", and the record stands behind them.
+pub const VERSIONS: usize = LENGTH;
 
-pub const RECORD_WRITES: usize = RECORD + record::WRITES;
-
-pub const RECORD_COMMIT: usize = RECORD + record::COMMIT;
-
-pub const RECORD_TRANSACTION: usize = RECORD + record::TRANSACTION;
-
-pub const RECORD_STATION: usize = RECORD + record::STATION;
-
-pub const RECORD_KIND: usize = RECORD + record::KIND;
-
-pub const ADDRESSES: usize = RECORD + record::HEADER;
+pub const SHORTEST_COMMIT: usize = VERSIONS + record::HEADER;
 
 // Document 02, wish 1: "Records are then at most 880 bytes", on the way up and as the server leaves them.
 pub const LONGEST_SENT: usize = record::HEADER + record::ENTRY * (2 * limits::LIMIT as usize);
 
-// What number 1 asks of outputs: 8 messages and "a commit and the station's buffer for it 1,120", 128 messages and "the server's record
+// What number 1 asks of outputs: 8 messages and a commit of "at most 1,408, the station's buffer too", 128 messages and "the server's record
 // buffer 7,040".
 pub const STATION_ROOM: usize = 8 * LENGTH;
 
-pub const COMMIT_ROOM: usize = RECORD + LONGEST_SENT;
+pub const COMMIT_ROOM: usize = VERSIONS
+    + (2 * limits::LIMIT as usize) * VERSION_WIDTH
+    + LONGEST_SENT;
 
 pub const SERVER_ROOM: usize = 128 * LENGTH;
 
 pub const RECORDS_ROOM: usize = 8 * LONGEST_SENT;
 
-// Runs of fields that a kind may leave unnamed: page and object, page to transaction, the page set with or without the version, all
-// sets but the first, and what stands from a field to the end.
+// Runs of fields that a kind may leave unnamed: page and object, all fields from the page to the sets, the page set with or without the
+// commit number, all sets but the first, and what stands from a field to the end.
 const PAGE_OBJECT: usize = TRANSACTION - PAGE;
 
-const PAGE_TRANSACTION: usize = PAGES - PAGE;
+const PAGE_VERSION: usize = SETS - PAGE;
 
 const PAGES_ALONE: usize = VERSION - PAGES;
 
@@ -144,7 +135,7 @@ pub fn put_message(
     version: u32,
 )
     requires { ⌜ at + messageLength ≤ length (now o) ⌝ }
-    ensures { λ _. ⌜ now (o .exit) ≡ sets (now (o .entry)) at (Layout·message kind station page object transaction pages version (replicate setsLength 0) (replicate valuesLength 0)) ⌝ }
+    ensures { λ _. ⌜ now (o .exit) ≡ sets (now (o .entry)) at (Layout·message kind station page object transaction pages version (replicate setsLength 0) (replicate behindLength 0)) ⌝ }
 {
     put_front(
         o,
@@ -273,7 +264,7 @@ fn page_message_ok(m: &[u8]) -> bool
     (m[PAGE] <= 31)
         & (m[OBJECT] <= 7)
         & (le::get_u32(m, TRANSACTION) != 0)
-        & zeros(m, PAGES, PAGES_ALONE)
+        & zeros(m, PAGES, PAGES_VERSION)
         & zeros(m, SECOND_SET, OTHER_SETS)
 }
 
@@ -325,7 +316,7 @@ fn invalidate_ok(m: &[u8]) -> bool
     requires { ⌜ messageLength ≤ length (now m) ⌝ }
     ensures { λ r. ⌜ r ≡ invalidateOk (now (m .entry)) ⌝ }
 {
-    zeros(m, PAGE, PAGE_TRANSACTION) & zeros(m, VERSION, FROM_VERSION)
+    zeros(m, PAGE, PAGE_VERSION) & zeros(m, VALUES, FROM_VALUES)
 }
 
 // The fields of a message to the server: an arm for each kind.
@@ -403,18 +394,46 @@ fn kind_of(m: &[u8]) -> u8
     if m.len() == 0 { 0 } else { m[KIND] }
 }
 
+// How many entries a commit of this length has.
+fn count_of(m: &[u8]) -> usize
+    requires { ⌜ shortestCommit ≤ length (now m) ⌝ }
+    ensures { λ r. ⌜ (r ≡ countOf (now (m .entry))) × (shortestCommit + r * (versionWidth + entryLength) ≤ length (now (m .entry))) ⌝ }
+{
+    (m.len() - SHORTEST_COMMIT) / (VERSION_WIDTH + record::ENTRY)
+}
+
+// Where a commit's record stands.
+pub fn record_at(m: &[u8]) -> usize
+    requires { ⌜ shortestCommit ≤ length (now m) ⌝ }
+    ensures { λ r. ⌜ (r ≡ Commit·recordAt (now (m .entry))) × (r + headerLength ≤ length (now (m .entry))) ⌝ }
+{
+    VERSIONS + count_of(m) * VERSION_WIDTH
+}
+
+// How many entries of a commit are read, by its record.
+pub fn sent_reads(m: &[u8]) -> usize
+    requires { ⌜ shortestCommit ≤ length (now m) ⌝ }
+    ensures { λ r. ⌜ (r ≡ sentReads (now (m .entry))) × (r < 65536) ⌝ }
+{
+    le::index(le::get_u16(m, record_at(m) + record::READS))
+}
+
+pub fn sent_writes(m: &[u8]) -> usize
+    requires { ⌜ shortestCommit ≤ length (now m) ⌝ }
+    ensures { λ r. ⌜ (r ≡ sentWrites (now (m .entry))) × (r < 65536) ⌝ }
+{
+    le::index(le::get_u16(m, record_at(m) + record::WRITES))
+}
+
 fn commit_length_ok(m: &[u8]) -> bool
     ensures { λ r. ⌜ r ≡ commitLengthOk (now (m .entry)) ⌝ }
 {
-    if m.len() < ADDRESSES {
+    if m.len() < SHORTEST_COMMIT {
         return false;
     }
-    m.len()
-        == RECORD
-            + (record::HEADER
-                + record::ENTRY
-                    * (le::index(le::get_u16(m, RECORD_READS))
-                        + le::index(le::get_u16(m, RECORD_WRITES))))
+    let k = count_of(m);
+    (m.len() == SHORTEST_COMMIT + k * (VERSION_WIDTH + record::ENTRY))
+        & (sent_reads(m) + sent_writes(m) == k)
 }
 
 // Number 2.
@@ -447,44 +466,43 @@ fn page_bit(p: u32) -> u32
 
 // Whether a commit has no more reads and no more writes than one transaction may have.
 fn few_ok(m: &[u8]) -> bool
-    requires { ⌜ addressesAt ≤ length (now m) ⌝ }
+    requires { ⌜ shortestCommit ≤ length (now m) ⌝ }
     ensures { λ r. ⌜ r ≡ fewOk (now (m .entry)) ⌝ }
 {
-    (le::get_u16(m, RECORD_READS) <= limits::LIMIT)
-        & (le::get_u16(m, RECORD_WRITES) <= limits::LIMIT)
+    (sent_reads(m) <= limits::LIMIT as usize) & (sent_writes(m) <= limits::LIMIT as usize)
 }
 
-// A version other than 0 is that of a used page, from a validating station.
-fn version_ok(kind: u8, m: &[u8], p: u32) -> bool
-    requires { ⌜ (recordAt ≤ length (now m)) × (p < 32) ⌝ }
-    ensures { λ r. ⌜ r ≡ versionOk kind (now (m .entry)) p ⌝ }
+// A version other than 0 is from a validating station.
+fn version_ok(kind: u8, m: &[u8], e: usize) -> bool
+    requires { ⌜ versionsAt + e * versionWidth + versionWidth ≤ length (now m) ⌝ }
+    ensures { λ r. ⌜ r ≡ versionOk kind (now (m .entry)) e ⌝ }
 {
-    (le::get_u32(m, VERSIONS + le::index(p) * VERSION_WIDTH) == 0)
-        | ((kind == 1) & ((le::get_u32(m, PAGES) & page_bit(p)) != 0))
+    (le::get_u32(m, VERSIONS + e * VERSION_WIDTH) == 0) | (kind == 1)
 }
 
-fn versions_ok(kind: u8, m: &[u8]) -> bool
-    requires { ⌜ recordAt ≤ length (now m) ⌝ }
-    ensures { λ r. ⌜ r ≡ allTo (versionOk kind (now (m .entry))) 32 ⌝ }
+// The first n versions.
+fn versions_ok(kind: u8, m: &[u8], n: usize) -> bool
+    requires { ⌜ versionsAt + n * versionWidth ≤ length (now m) ⌝ }
+    ensures { λ r. ⌜ r ≡ allTo (versionOk kind (now (m .entry))) n ⌝ }
 {
     let mut ok = true;
-    let mut p: u32 = 0;
-    while p < 32 {
-        ok &= version_ok(kind, m, p);
-        p += 1;
+    let mut e = 0;
+    while e < n {
+        ok &= version_ok(kind, m, e);
+        e += 1;
     }
     ok
 }
 
-// The pages of the first n addresses of a commit's record.
-fn pages_of(m: &[u8], n: usize) -> u32
-    requires { ⌜ addressesAt + n ≤ length (now m) ⌝ }
-    ensures { λ r. ⌜ r ≡ pagesTo (now (m .entry)) n ⌝ }
+// The pages of n addresses from `at`.
+fn pages_of(m: &[u8], at: usize, n: usize) -> u32
+    requires { ⌜ at + n ≤ length (now m) ⌝ }
+    ensures { λ r. ⌜ r ≡ pagesTo (now (m .entry)) at n ⌝ }
 {
     let mut pages: u32 = 0;
     let mut i = 0;
     while i < n {
-        pages |= page_bit(le::wide(m[ADDRESSES + i]) / 8);
+        pages |= page_bit(le::wide(m[at + i]) / 8);
         i += 1;
     }
     pages
@@ -492,28 +510,29 @@ fn pages_of(m: &[u8], n: usize) -> u32
 
 // Whether a commit's record agrees with the message and with the station's kind at the server.
 fn record_agrees(kind: u8, m: &[u8]) -> bool
-    requires { ⌜ addressesAt + entriesOf (now m) ≤ length (now m) ⌝ }
+    requires { ⌜ (shortestCommit ≤ length (now m)) × (versionsAt + entriesOf (now m) * versionWidth ≤ length (now m)) × (addressesAt (now m) + entriesOf (now m) ≤ length (now m)) ⌝ }
     ensures { λ r. ⌜ r ≡ recordAgrees kind (now (m .entry)) ⌝ }
 {
-    let entries = le::index(le::get_u16(m, RECORD_READS))
-        + le::index(le::get_u16(m, RECORD_WRITES));
-    (le::get_u32(m, RECORD_COMMIT) == 0)
-        & (le::get_u32(m, RECORD_TRANSACTION) == le::get_u32(m, TRANSACTION))
-        & (m[RECORD_STATION] == m[STATION])
-        & (m[RECORD_KIND] == kind)
-        & versions_ok(kind, m)
-        & (pages_of(m, entries) == le::get_u32(m, PAGES))
+    let at = record_at(m);
+    let entries = sent_reads(m) + sent_writes(m);
+    (le::get_u32(m, at + record::COMMIT) == 0)
+        & (le::get_u32(m, at + record::TRANSACTION) == le::get_u32(m, TRANSACTION))
+        & (m[at + record::STATION] == m[STATION])
+        & (m[at + record::KIND] == kind)
+        & versions_ok(kind, m, entries)
+        & (pages_of(m, at + record::HEADER, entries) == le::get_u32(m, PAGES))
 }
 
 // Number 5 of a commit.
 fn commit_number(kind: u8, m: &[u8]) -> u32
-    requires { ⌜ addressesAt + entriesOf (now m) ≤ length (now m) ⌝ }
+    requires { ⌜ (shortestCommit ≤ length (now m)) × (versionsAt + entriesOf (now m) * versionWidth ≤ length (now m)) × (addressesAt (now m) + entriesOf (now m) ≤ length (now m)) ⌝ }
     ensures { λ r. ⌜ r ≡ commitNumber kind (now (m .entry)) ⌝ }
 {
     if !few_ok(m) {
         return 5;
     }
-    if record::wax_record_check(&m[RECORD..]) != 0 {
+    let at = record_at(m);
+    if record::wax_record_check(&m[at..]) != 0 {
         return 5;
     }
     if record_agrees(kind, m) {

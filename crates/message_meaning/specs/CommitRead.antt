@@ -39,19 +39,19 @@ counts-are : (s : List ℕ) → readCount s + writeCount s ≡ length (entries (
 counts-are s = sym (length-entriesAt s _ 0 _) ∙ ap length (sym (entries-of s))
 
 module _ (m : List ℕ) where
-  count-is : entriesOf m ≡ length (entries (recordOf (drop recordAt m)))
-  count-is = rw (u16-behind recordAt m readCountFrom, u16-behind recordAt m writeCountFrom) (counts-are (drop recordAt m))
+  count-is : entriesOf m ≡ length (entries (recordOf (drop (recordAt m) m)))
+  count-is = rw (u16-behind (recordAt m) m readCountFrom, u16-behind (recordAt m) m writeCountFrom) (counts-are (drop (recordAt m) m))
 
-  address-is : lengthOf (drop recordAt m) ≤ length (drop recordAt m) → (i : ℕ) → i < length (entries (recordOf (drop recordAt m)))
-      → getD m (addressesAt + i) 0 ≡ getD (addresses (entries (recordOf (drop recordAt m)))) i 0
+  address-is : lengthOf (drop (recordAt m) m) ≤ length (drop (recordAt m) m) → (i : ℕ) → i < length (entries (recordOf (drop (recordAt m) m)))
+      → getD m (addressesAt m + i) 0 ≡ getD (addresses (entries (recordOf (drop (recordAt m) m)))) i 0
   address-is there i l =
-      let s = drop recordAt m in
-      let place : addressesAt + i ≡ recordAt + (headerLength + i) = omega arith in
-      rw (place, ← getD-drop recordAt m (headerLength + i) 0, ← getD-drop headerLength s i 0, addresses-of s there)
+      let s = drop (recordAt m) m in
+      let place : addressesAt m + i ≡ recordAt m + (headerLength + i) = omega arith in
+      rw (place, ← getD-drop (recordAt m) m (headerLength + i) 0, ← getD-drop headerLength s i 0, addresses-of s there)
       (sym (getD-take (readCount s + writeCount s) (drop headerLength s) i 0 (omega (arith, counts-are s))))
 
-  pub pages-used : lengthOf (drop recordAt m) ≤ length (drop recordAt m) → (p : ℕ) → tb (pagesTo m (entriesOf m)) p ≡ usedPage (workAt m) p
+  pub pages-used : lengthOf (drop (recordAt m) m) ≤ length (drop (recordAt m) m) → (p : ℕ) → tb (pagesTo m (addressesAt m) (entriesOf m)) p ≡ usedPage (workAt m) p
   unfolding workAt
   pages-used there p =
-      let r = recordOf (drop recordAt m) in
-      rw count-is (mask-on m (entries r) (address-is there) p ∙ sym (on-used (r .reads) (r .writes) p))
+      let r = recordOf (drop (recordAt m) m) in
+      rw count-is (mask-on m (addressesAt m) (entries r) (address-is there) p ∙ sym (on-used (r .reads) (r .writes) p))

@@ -9,17 +9,17 @@ use lib.Seq.{drop-cons, getD-drop, drop-drop, take-at, take-all}
 use Rattle.lists.specs.Bytes.{Bytes, bytes-append}
 use Rattle.lists.specs.Parts.{drop-behind}
 use Rattle.le.specs.Le.{u32At, u64At}
-use Rattle.le.specs.Width.{bytes, bytes-are, bytes-numAt}
+use Rattle.le.specs.Width.{bytes, bytes-are, bytes-numAt, numAt-behind}
 use Rattle.le.specs.Laws.{u32At-is, u64At-is}
 use Rattle.le.specs.Parts.{numAt-drop}
-use Rattle.message.specs.Layout.{kindFrom, stationFrom, pageFrom, objectFrom, transactionFrom, pagesFrom, versionFrom, setsFrom, setsLength, valuesFrom, valuesLength, messageLength, kindOf, stationOf, pageOf, objectOf, transactionOf, pagesOf, versionOf, setOf, valueOf, message}
+use Rattle.message.specs.Layout.{kindFrom, stationFrom, pageFrom, objectFrom, transactionFrom, pagesFrom, versionFrom, setsFrom, setsLength, valuesFrom, valuesLength, pageVersionsFrom, versionWidth, messageLength, kindOf, stationOf, pageOf, objectOf, transactionOf, pagesOf, versionOf, setOf, valueOf, pageVersionOf, message}
 use Rattle.message_meaning.specs.Meant.{setsOf}
-use Rattle.message_meaning.specs.Numbers.{numbers, numbers-read, numbers-written}
+use Rattle.message_meaning.specs.Numbers.{numbers, length-numbers, numbers-read, numbers-written}
 use Rattle.layout.specs.Record.{valueLength}
 
 -- WRITTEN, THEN READ
 
--- m says these fields: `values` are all that stands behind the sets
+-- m says these fields: `values` are all that stands behind the sets, versions with them
 pub record ReadBack (kind station page object transaction pages version : ℕ) (sets values m : List ℕ) : Type 0 where
   pub kind-is : kindOf m ≡ kind
   pub station-is : stationOf m ≡ station
@@ -32,6 +32,7 @@ pub record ReadBack (kind station page object transaction pages version : ℕ) (
   pub set-is : (p : ℕ) → p < 32 → setOf m p ≡ getD sets p 0
   pub values-are : drop valuesFrom m ≡ values
   pub value-is : (o : ℕ) → valueOf m o ≡ u64At values (o * valueLength)
+  pub page-version-is : (o : ℕ) → pageVersionOf m o ≡ u32At values (valuesLength + o * versionWidth)
   pub length-is : length m ≡ valuesFrom + length values
 
 -- what stands behind the single fields
@@ -47,6 +48,12 @@ module _ (sets values m : List ℕ) (e : drop setsFrom m ≡ sets ++ values) (hs
 
   value-back : (o : ℕ) → valueOf m o ≡ u64At values (o * valueLength)
   value-back o = rw (u64At-is m (valuesFrom + o * valueLength), u64At-is values (o * valueLength), ← values-back) (sym (numAt-drop valueLength valuesFrom m (o * valueLength)))
+
+  page-version-back : (o : ℕ) → pageVersionOf m o ≡ u32At values (valuesLength + o * versionWidth)
+  page-version-back o =
+      let place : pageVersionsFrom + o * versionWidth ≡ valuesFrom + (valuesLength + o * versionWidth) = omega arith in
+      rw (place, u32At-is m (valuesFrom + (valuesLength + o * versionWidth)), u32At-is values (valuesLength + o * versionWidth), ← values-back)
+      (sym (numAt-drop versionWidth valuesFrom m (valuesLength + o * versionWidth)))
 
 module _ (kind station page object transaction pages version : ℕ) (sets values : List ℕ) where
   behind-front : drop setsFrom (message kind station page object transaction pages version sets values) ≡ sets ++ values
@@ -70,6 +77,7 @@ module _ (kind station page object transaction pages version : ℕ) (sets values
         set-is = set-back sets values m behind-front hs;
         values-are = values-back sets values m behind-front hs;
         value-is = value-back sets values m behind-front hs;
+        page-version-is = page-version-back sets values m behind-front hs;
         length-is = omega (arith, length-append sets values);
       }
 
@@ -88,8 +96,17 @@ module _ (kind station page object transaction pages version : ℕ) (sets values
   message-more rest = rw (append-assoc sets values rest)
 
 -- "eight values", written one behind the other
-pub value-read : (f : ℕ → ℕ) (o : ℕ) → o < 8 → f o < 2 ^ 64 → u64At (numbers valueLength f 8 0) (o * valueLength) ≡ f o
-value-read f o l h = rw (u64At-is, ← append-nil (numbers valueLength f 8 0)) (rw zero-add at (numbers-read valueLength f 8 0 [] o l (rw zero-add h)))
+pub value-read : (f : ℕ → ℕ) (rest : List ℕ) (o : ℕ) → o < 8 → f o < 2 ^ 64 → u64At (numbers valueLength f 8 0 ++ rest) (o * valueLength) ≡ f o
+value-read f rest o l h = rw u64At-is (rw zero-add at (numbers-read valueLength f 8 0 rest o l (rw zero-add h)))
+
+-- and the "eight of 4 bytes after the values"
+pub page-version-read : (f g : ℕ → ℕ) (o : ℕ) → o < 8 → g o < 2 ^ 32 → u32At (numbers valueLength f 8 0 ++ numbers versionWidth g 8 0) (valuesLength + o * versionWidth) ≡ g o
+page-version-read f g o l h =
+    let b = numbers valueLength f 8 0 in
+    let n : valuesLength + o * versionWidth ≡ length b + o * versionWidth = rw length-numbers in
+    rw (u32At-is, n)
+    (numAt-behind versionWidth b (numbers versionWidth g 8 0) (o * versionWidth)
+    ∙ rw (← append-nil (numbers versionWidth g 8 0)) (rw zero-add at (numbers-read versionWidth g 8 0 [] o l (rw zero-add h))))
 
 -- READ, THEN WRITTEN
 
@@ -119,8 +136,13 @@ module _ (m : List ℕ) (hm : Bytes m) (hl : length m ≡ messageLength) where
         ← drop-cons m kindFrom 0 (omega arith),
       )
 
-  pub values-written : numbers valueLength (valueOf m) 8 0 ≡ drop valuesFrom m
+  pub values-written : numbers valueLength (valueOf m) 8 0 ≡ take valuesLength (drop valuesFrom m)
   values-written =
       ap (λ f. numbers valueLength f 8 0) (fun-ext (λ o. u64At-is m (valuesFrom + o * valueLength)))
       ∙ numbers-written valueLength valuesFrom m 8 0 hm (omega arith)
-      ∙ take-all valuesLength (drop valuesFrom m) (rw length-drop (omega arith))
+
+  pub page-versions-written : numbers versionWidth (pageVersionOf m) 8 0 ≡ drop pageVersionsFrom m
+  page-versions-written =
+      ap (λ f. numbers versionWidth f 8 0) (fun-ext (λ o. u32At-is m (pageVersionsFrom + o * versionWidth)))
+      ∙ numbers-written versionWidth pageVersionsFrom m 8 0 hm (omega arith)
+      ∙ take-all (8 * versionWidth) (drop pageVersionsFrom m) (rw length-drop (omega arith))

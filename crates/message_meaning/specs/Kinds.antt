@@ -74,7 +74,7 @@ module _ (m : List ℕ) where
   unfolding downOf
   down-22 e = rw e
 
-  pub down-23 : kindOf m ≡ 23 → downOf m ≡ Invalidate (pagesIn (pagesOf m))
+  pub down-23 : kindOf m ≡ 23 → downOf m ≡ Invalidate (objectsIn (setsOf m))
   unfolding downOf
   down-23 e = rw e
 

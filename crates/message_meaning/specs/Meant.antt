@@ -1,19 +1,19 @@
--- What the bytes of a message say, as a message of the line. Document 01, "Messages, 112 bytes": each kind takes the fields that it
--- names, in that order. "Byte 0 kind, 1 station on the line, 2 page or requester, 3 object or cause, 4–7 transaction, 8–11 page set,
--- 12–15 version or commit number, 16–47 object sets by page (one set of a single page: byte 16), 48–111 eight values."
+-- What the bytes of a message say, as a message of the line. Documents 01 and 02, "every message is 144 bytes": each kind takes the
+-- fields that it names, in that order. "Byte 0 kind, 1 station on the line, 2 page or requester, 3 object or cause, 4–7 transaction, 8–11
+-- page set, 12–15 .. commit number, 16–47 object sets by page (one set of a single page: byte 16), 48–111 eight values", and eight versions.
 -- Of bytes that are refused (numbers 2 to 5) nothing is said.
-use Prim.Native.Nat.{ℕ, _+_, _*_, _/_, _%_}
+use Prim.Native.Nat.{ℕ, suc, _/_, _%_}
 use mathlib.Core.Bool.{Bool, _&&_, cond}
-use mathlib.Core.List.{List}
-use lib.ListN.{getD, take, drop}
-use lib.Dec.{eqb, ltb}
-use Rattle.le.specs.Le.{u32At}
+use mathlib.Core.List.{List, [], _∷_}
+use lib.ListN.{length, getD, take, drop}
+use lib.Dec.{eqb}
 use Rattle.cells.specs.Bits.{tb}
 use Rattle.line.specs.Messages.{address, Work, Up, ReadRequest, WriteRequest, Commit, Abort, Purge, Busy, Done, WrittenSet, Lock, NoLock, ObjectLock, WholeLock, Down, Page, Deescalate, Callback, Committed, Aborted, Invalidate}
+use Rattle.layout.specs.Record.{Entry}
 use Rattle.entries.specs.Entries.{valueIn}
 use Rattle.record_meaning.specs.Parse.{recordOf}
-use Rattle.message.specs.Layout.{setsFrom, setsLength, kindOf, pageOf, requesterOf, objectOf, causeOf, transactionOf, pagesOf, versionOf, setOf, valueOf}
-use Rattle.message.specs.Commit.{versionsAt, versionWidth, recordAt}
+use Rattle.message.specs.Layout.{setsFrom, setsLength, kindOf, pageOf, requesterOf, objectOf, causeOf, transactionOf, pagesOf, versionOf, setOf, valueOf, pageVersionOf}
+use Rattle.message.specs.Commit.{recordAt, entryVersion}
 
 -- SETS AND VALUES
 
@@ -37,19 +37,26 @@ setsOf m = take setsLength (drop setsFrom m)
 abbrev pub valuesOn : ℕ → List ℕ → ℕ → ℕ
 valuesOn page m a = cond (eqb (a / 8) page) (valueOf m (a % 8)) 0
 
+-- and the versions of its objects: "kinds 16 to 18 carry eight of 4 bytes after the values"
+abbrev pub versionsOn : ℕ → List ℕ → ℕ → ℕ
+versionsOn page m a = cond (eqb (a / 8) page) (pageVersionOf m (a % 8)) 0
+
 -- UP
 
--- "A commit is followed by 32 versions of 4 bytes .. and a record."
-unfoldable pub versionAt : List ℕ → ℕ → ℕ
-versionAt m p = cond (ltb p 32) (u32At m (versionsAt + p * versionWidth)) 0
+-- a commit "carries one version for each entry of its record, in record order": by address, of entries that are number e and on
+abbrev pub versionIn : (ℕ → ℕ) → List Entry → ℕ → ℕ → ℕ
+versionIn v [] e a = 0
+versionIn v (x ∷ es) e a = cond (eqb a (x .address)) (v e) (versionIn v es (suc e) a)
 
 unfoldable pub workAt : List ℕ → Work
 workAt m =
+    let r = recordOf (drop (recordAt m) m) in
     record {
       transaction = transactionOf m;
-      reads = valueIn ((recordOf (drop recordAt m)) .reads);
-      writes = valueIn ((recordOf (drop recordAt m)) .writes);
-      versions = versionAt m;
+      reads = valueIn (r .reads);
+      writes = valueIn (r .writes);
+      readVersions = versionIn (entryVersion m) (r .reads) 0;
+      writtenVersions = versionIn (entryVersion m) (r .writes) (length (r .reads));
     }
 
 -- "Up: 1 read request (page, object, transaction); 2 write request (same); 3 commit (transaction, set of pages used); 4 abort
@@ -69,14 +76,14 @@ upOf m =
 
 -- DOWN
 
--- "16 page (page, object, transaction, version, unavailable set, values); 17 the same with a lock on the object; 18 with a lock on the
+-- "16 page (page, object, transaction, versions, unavailable set, values); 17 the same with a lock on the object; 18 with a lock on the
 -- whole page"
 unfoldable pub pageAt : Lock → List ℕ → Down
 pageAt lock m =
-    Page lock (address (pageOf m) (objectOf m)) (transactionOf m) (versionOf m) (objectsOn (pageOf m) (setOf m 0)) (valuesOn (pageOf m) m)
+    Page lock (address (pageOf m) (objectOf m)) (transactionOf m) (versionsOn (pageOf m) m) (objectsOn (pageOf m) (setOf m 0)) (valuesOn (pageOf m) m)
 
 -- "19 de-escalate (page, transaction); 20 callback (requester, its transaction, object sets by page); 21 committed (transaction, commit
--- number); 22 aborted (transaction, cause); 23 invalidate (page set)"
+-- number); 22 aborted (transaction, cause)"; by document 02 "23 .. names objects: object sets by page"
 unfoldable pub downOf : List ℕ → Down
 downOf m =
     let k = kindOf m in
@@ -87,4 +94,4 @@ downOf m =
     (cond (eqb k 20) (Callback (requesterOf m) (transactionOf m) (objectsIn (setsOf m)))
     (cond (eqb k 21) (Committed (transactionOf m) (versionOf m))
     (cond (eqb k 22) (Aborted (transactionOf m) (causeOf m))
-    (Invalidate (pagesIn (pagesOf m)))))))))
+    (Invalidate (objectsIn (setsOf m)))))))))

@@ -1,4 +1,4 @@
--- Numbers of one width, one behind the other: the "eight values" of a page, the "32 versions of 4 bytes" of a commit.
+-- Numbers of one width, one behind the other: the "eight values" of a page, the versions of a commit's entries.
 use Prim.Native.Nat.{ℕ, zero, suc, _+_, _*_, _^_, _≤_, _<_}
 use mathlib.Core.Path.{_≡_, refl, _∙_}
 use mathlib.Core.List.{List, [], _++_, append-assoc}

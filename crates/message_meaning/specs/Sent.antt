@@ -13,7 +13,7 @@ use Rattle.lists.specs.Bytes.{Bytes}
 use Rattle.le.specs.Width.{bytes}
 use Rattle.line.specs.Messages.{address, Up, ReadRequest, WriteRequest, Abort, Purge, Busy, Done, WrittenSet}
 use Rattle.message.specs.Stores.{length-up}
-use Rattle.message.specs.Layout.{pageFrom, objectFrom, transactionFrom, pagesFrom, versionFrom, setsFrom, setsLength, secondSet, valuesLength, messageLength, kindOf, stationOf, transactionOf, message, single, upMessage}
+use Rattle.message.specs.Layout.{pageFrom, objectFrom, transactionFrom, pagesFrom, versionFrom, setsFrom, setsLength, secondSet, behindLength, messageLength, kindOf, stationOf, transactionOf, message, single, upMessage}
 use Rattle.message.specs.Range.{zeroAt, zeros, transactionOk, requestOk, abortOk, purgeOk, busyOk, doneOk, writtenSetOk, upFieldsOk}
 use Rattle.message.specs.Number.{lengthOk, upRange, kindsOk, upNumber}
 use Rattle.message_meaning.specs.Meant.{objectsOn, pagesIn, upOf}
@@ -71,7 +71,7 @@ module _ (k st p o t pages set : ℕ) where
 
 pub up-are : (k st p o t pages set : ℕ) → k < 256 → st < 256 → p < 256 → o < 256 → set < 256 → Bytes (upMessage k st p o t pages set)
 up-are k st p o t pages set hk hs hp ho hx =
-    message-are k st p o t pages 0 (single set) (replicate valuesLength 0) hk hs hp ho (hx, zeros-bytes (setsLength - 1)) (zeros-bytes valuesLength)
+    message-are k st p o t pages 0 (single set) (replicate behindLength 0) hk hs hp ho (hx, zeros-bytes (setsLength - 1)) (zeros-bytes behindLength)
   where
     zeros-bytes : (n : ℕ) → Bytes (replicate n 0)
     zeros-bytes zero = tt
@@ -79,8 +79,8 @@ up-are k st p o t pages set hk hs hp ho hx =
 
 -- what is read of a message that was sent
 pub up-read : (k st p o t pages set : ℕ) → t < 2 ^ 32 → pages < 2 ^ 32
-    → ReadBack k st p o t pages 0 (single set) (replicate valuesLength 0) (upMessage k st p o t pages set)
-up-read k st p o t pages set ht hp = written-read k st p o t pages 0 (single set) (replicate valuesLength 0) ht hp (omega arith) refl
+    → ReadBack k st p o t pages 0 (single set) (replicate behindLength 0) (upMessage k st p o t pages set)
+up-read k st p o t pages set ht hp = written-read k st p o t pages 0 (single set) (replicate behindLength 0) ht hp (omega arith) refl
 
 -- a transaction that is named
 named : (m : List ℕ) (t : ℕ) → transactionOf m ≡ t → t ≢ 0 → transactionOk m ≡ true
@@ -88,7 +88,7 @@ named m t e h = rw (e, ne-eqb t 0 h)
 
 module _ (kinds : List ℕ) (ok : kindsOk kinds ≡ true) (st : ℕ) (hst : st < 8) where
   -- what all have in common
-  sent : (k p o t pages set : ℕ) {u : Up} → ReadBack k st p o t pages 0 (single set) (replicate valuesLength 0) (upMessage k st p o t pages set)
+  sent : (k p o t pages set : ℕ) {u : Up} → ReadBack k st p o t pages 0 (single set) (replicate behindLength 0) (upMessage k st p o t pages set)
       → k < 256 → eqb k 3 ≡ false → (leb 1 k && leb k 8) ≡ true → p < 32 → o < 8 → set < 256
       → upFieldsOk (upMessage k st p o t pages set) ≡ true → upOf (upMessage k st p o t pages set) ≡ u
       → Reads kinds st messageLength (upMessage k st p o t pages set) u

@@ -1,35 +1,36 @@
 -- What a message that the server takes tells of its bytes: numbers 2 to 5 are not due.
-use Prim.Native.Nat.{ℕ, _+_, _-_, _*_, _^_, _≤_, _<_}
+use Prim.Native.Nat.{ℕ, suc, _+_, _-_, _*_, _^_, _≤_, _<_}
 use mathlib.Core.Path.{_≡_, refl, sym, _∙_}
-use mathlib.Core.Bool.{Bool, true, false, _&&_, _||_, cond, or-false}
+use mathlib.Core.Bool.{Bool, true, false, _&&_, cond, or-false, false≢true}
 use mathlib.Core.List.{List, [], _∷_}
 use mathlib.Core.Logic.{_≢_}
 use native.Mathlib.Omega.{arith}
 use lib.ListN.{length, getD, drop, length-drop}
 use lib.Seq.{getD-drop}
-use lib.Dec.{eqb, leb, ltb}
-use borrow.Author.Tests.{eqb-true, eqb-false, ne-eqb, lt-ltb, le-ltb, leb-true}
+use lib.Dec.{eqb, leb}
+use borrow.Author.Tests.{eqb-true, eqb-false, ne-eqb, leb-true}
 use Rattle.lists.specs.Tests.{allTo, and-l, and-r, allTo-at}
 use Rattle.lists.specs.Bytes.{Bytes, bytes-drop}
 use Rattle.le.specs.Le.{u16At, u32At}
 use Rattle.le.specs.Width.{numAt-lt}
 use Rattle.le.specs.Laws.{u32At-is}
-use Rattle.sets.specs.Base.{some}
+use Rattle.sets.specs.Base.{some, has}
 use Rattle.sets.specs.Laws.{byB, byEq, eqb-no}
-use Rattle.cells.specs.Bits.{tb, tb-test}
+use Rattle.cells.specs.Bits.{tb}
 use Rattle.limits.specs.Limit.{limit}
-use Rattle.layout.specs.Record.{Entry, WellFormed, AllFit, recordLength}
+use Rattle.layout.specs.Record.{Entry, WellFormed, AllFit}
 use Rattle.record.specs.Check.{readCountFrom, writeCountFrom, commitNumberFrom, transactionNumberFrom, stationNumberFrom, stationKindFrom, lengthOf, checkOf}
 use Rattle.record_meaning.specs.Parse.{recordOf}
 use Rattle.record_meaning.specs.Meaning.{read-written}
 use Rattle.line.specs.Server.{usedPage}
 use Rattle.line.specs.Fit.{LimitedWork}
 use Rattle.entries.specs.Entries.{valueIn, FitVal, Within, says-few}
-use Rattle.message.specs.Layout.{pageFrom, objectFrom, transactionFrom, pagesFrom, versionFrom, setsFrom, secondSet, messageLength, kindOf, stationOf, pageOf, requesterOf, objectOf, transactionOf, pagesOf}
+use Rattle.message.specs.Layout.{pageFrom, objectFrom, transactionFrom, pagesFrom, versionFrom, setsFrom, secondSet, versionWidth, messageLength, kindOf, stationOf, pageOf, requesterOf, objectOf, transactionOf, pagesOf}
 use Rattle.message.specs.Range.{zeros, stationOk, pageOk, requestOk, commitOk, abortOk, purgeOk, busyOk, doneOk, writtenSetOk, upFieldsOk}
-use Rattle.message.specs.Commit.{versionsAt, versionWidth, recordAt, addressesAt, entriesOf as entriesIn, commitLengthOk, fewOk, versionOk, pagesTo, recordAgrees, commitNumber}
+use Rattle.message.specs.Commit.{versionsAt, recordAt, addressesAt, entriesOf as entriesIn, entryVersion, commitLengthOk, fewOk, versionOk, pagesTo, recordAgrees, commitNumber}
 use Rattle.message.specs.Number.{lengthOk, upRange, kindsOk, recordNumber, upNumber}
-use Rattle.message_meaning.specs.Meant.{versionAt, workAt}
+use Rattle.message_meaning.specs.Meant.{versionIn, workAt}
+use Rattle.message.specs.Facts.{Commit, commit-length as commit-parts}
 use Rattle.message.specs.Accepted.{Zero, zeros-are, page-lt, object-lt, requester-lt, station-lt, transaction-named, passed}
 use Rattle.message_meaning.specs.CommitRead.{u16-behind, u32-behind, reads-are, writes-are, pages-used}
 use Rattle.message_meaning.specs.WorkSent.{WorkFits}
@@ -130,57 +131,55 @@ written-set-fields m h =
       unnamed-other-sets = zeros-are m secondSet (messageLength - secondSet) (search (and-l, and-r));
     }
 
--- "3 commit (transaction, set of pages used)", "followed by 32 versions of 4 bytes (0 for an unused page; all 0 from a locking station) and
--- a record": what number 5 looks at; kind is that of the station at the server
+-- "3 commit (transaction, set of pages used)", by document 02 with "one version for each entry of its record, in record order .. from a locking
+-- station all are 0": what number 5 looks at; kind is that of the station at the server
 pub record CommitFields (kind : ℕ) (m : List ℕ) : Type 0 where
   pub transaction-not-0 : transactionOf m ≢ 0
   pub unnamed-page : Zero m pageFrom (transactionFrom - pageFrom)
   pub unnamed-version : Zero m versionFrom (messageLength - versionFrom)
-  pub length-is : length m ≡ recordAt + lengthOf (drop recordAt m)
+  pub length-is : length m ≡ recordAt m + lengthOf (drop (recordAt m) m)
   -- document 02, wish 1: "The server gives number 5 to n or m above 48."
-  pub reads-few : length ((recordOf (drop recordAt m)) .reads) ≤ limit
-  pub writes-few : length ((recordOf (drop recordAt m)) .writes) ≤ limit
-  pub record-accepted : checkOf (drop recordAt m) ≡ 0
-  pub commit-0 : (recordOf (drop recordAt m)) .commit ≡ 0
-  pub transaction-is : (recordOf (drop recordAt m)) .transaction ≡ transactionOf m
-  pub station-is : (recordOf (drop recordAt m)) .station ≡ stationOf m
-  pub kind-is : (recordOf (drop recordAt m)) .kind ≡ kind
-  pub versions-0 : (p : ℕ) → p < 32 → (eqb kind 1 && tb (pagesOf m) p) ≡ false → versionAt m p ≡ 0
+  pub reads-few : length ((recordOf (drop (recordAt m) m)) .reads) ≤ limit
+  pub writes-few : length ((recordOf (drop (recordAt m) m)) .writes) ≤ limit
+  pub record-accepted : checkOf (drop (recordAt m) m) ≡ 0
+  pub commit-0 : (recordOf (drop (recordAt m) m)) .commit ≡ 0
+  pub transaction-is : (recordOf (drop (recordAt m) m)) .transaction ≡ transactionOf m
+  pub station-is : (recordOf (drop (recordAt m) m)) .station ≡ stationOf m
+  pub kind-is : (recordOf (drop (recordAt m) m)) .kind ≡ kind
+  pub parts-are : Commit m
+  pub versions-0 : (e : ℕ) → e < entriesIn m → eqb kind 1 ≡ false → entryVersion m e ≡ 0
   pub pages-are : (p : ℕ) → tb (pagesOf m) p ≡ usedPage (workAt m) p
 
-commit-length : (m : List ℕ) → commitLengthOk m ≡ true → length m ≡ recordAt + lengthOf (drop recordAt m)
-unfolding commitLengthOk
+commit-length : (m : List ℕ) → commitLengthOk m ≡ true → length m ≡ recordAt m + lengthOf (drop (recordAt m) m)
 commit-length m h =
-    eqb-true (length m) (recordAt + recordLength (u16At m (recordAt + readCountFrom)) (u16At m (recordAt + writeCountFrom))) (and-r (leb addressesAt (length m)) _ h)
-    ∙ rw (u16-behind recordAt m readCountFrom, u16-behind recordAt m writeCountFrom)
+    let c = commit-parts m h in
+    rw (← u16-behind (recordAt m) m readCountFrom, ← u16-behind (recordAt m) m writeCountFrom) (omega (arith, c .whole))
 
 -- the record is there whole
-record-there : (m : List ℕ) → length m ≡ recordAt + lengthOf (drop recordAt m) → lengthOf (drop recordAt m) ≤ length (drop recordAt m)
-record-there m h = rw (length-drop recordAt m) (omega arith)
+record-there : (m : List ℕ) → length m ≡ recordAt m + lengthOf (drop (recordAt m) m) → lengthOf (drop (recordAt m) m) ≤ length (drop (recordAt m) m)
+record-there m h = rw (length-drop (recordAt m) m) (omega arith)
 
-version-0 : (kind : ℕ) (m : List ℕ) (p : ℕ) → versionOk kind m p ≡ true → p < 32 → (eqb kind 1 && tb (pagesOf m) p) ≡ false → versionAt m p ≡ 0
-unfolding versionOk versionAt
-version-0 kind m p h l e =
-    let is-0 : (eqb (u32At m (versionsAt + p * versionWidth)) 0 || (eqb kind 1 && tb (pagesOf m) p)) ≡ true = rw (tb-test p (pagesOf m)) at h in
-    rw (lt-ltb p 32 l) (eqb-true (u32At m (versionsAt + p * versionWidth)) 0 (rw (e, or-false) at is-0))
+version-0 : (kind : ℕ) (m : List ℕ) (e : ℕ) → versionOk kind m e ≡ true → eqb kind 1 ≡ false → entryVersion m e ≡ 0
+unfolding versionOk
+version-0 kind m e h k = eqb-true (entryVersion m e) 0 (rw (k, or-false) at h)
 
-few-fields : (m : List ℕ) → fewOk m ≡ true → (length ((recordOf (drop recordAt m)) .reads) ≤ limit) × (length ((recordOf (drop recordAt m)) .writes) ≤ limit)
+few-fields : (m : List ℕ) → fewOk m ≡ true → (length ((recordOf (drop (recordAt m) m)) .reads) ≤ limit) × (length ((recordOf (drop (recordAt m) m)) .writes) ≤ limit)
 unfolding fewOk
 few-fields m h =
-    let s = drop recordAt m in
-    let n : u16At m (recordAt + readCountFrom) ≤ limit = leb-true _ limit (and-l (leb (u16At m (recordAt + readCountFrom)) limit) _ h) in
-    let k : u16At m (recordAt + writeCountFrom) ≤ limit = leb-true _ limit (and-r (leb (u16At m (recordAt + readCountFrom)) limit) _ h) in
-    (rw (reads-are s, ← u16-behind recordAt m readCountFrom) n, rw (writes-are s, ← u16-behind recordAt m writeCountFrom) k)
+    let s = drop (recordAt m) m in
+    let n : u16At m (recordAt m + readCountFrom) ≤ limit = leb-true _ limit (and-l (leb (u16At m (recordAt m + readCountFrom)) limit) _ h) in
+    let k : u16At m (recordAt m + writeCountFrom) ≤ limit = leb-true _ limit (and-r (leb (u16At m (recordAt m + readCountFrom)) limit) _ h) in
+    (rw (reads-are s, ← u16-behind (recordAt m) m readCountFrom) n, rw (writes-are s, ← u16-behind (recordAt m) m writeCountFrom) k)
 
 commit-fields : (kind : ℕ) (m : List ℕ) → commitOk m ≡ true → commitLengthOk m ≡ true → commitNumber kind m ≡ 0 → CommitFields kind m
 unfolding commitOk commitNumber recordAgrees recordOf
 commit-fields kind m h len n =
-    let short = passed (fewOk m) (cond (eqb (checkOf (drop recordAt m)) 0) (cond (recordAgrees kind m) 0 5) 5) 4 n in
-    let checked = passed (eqb (checkOf (drop recordAt m)) 0) (cond (recordAgrees kind m) 0 5) 4 (short .1) in
+    let short = passed (fewOk m) (cond (eqb (checkOf (drop (recordAt m) m)) 0) (cond (recordAgrees kind m) 0 5) 5) 4 n in
+    let checked = passed (eqb (checkOf (drop (recordAt m) m)) 0) (cond (recordAgrees kind m) 0 5) 4 (short .1) in
     let same = (passed (recordAgrees kind m) 0 4 (checked .1)) .0 in
     let size = commit-length m len in
-    let versions : allTo (versionOk kind m) 32 ≡ true = search (and-l, and-r) depth 7 in
-    let pages : pagesTo m (entriesIn m) ≡ pagesOf m = eqb-true (pagesTo m (entriesIn m)) (pagesOf m) (search (and-l, and-r) depth 7) in
+    let versions : allTo (versionOk kind m) (entriesIn m) ≡ true = search (and-l, and-r) depth 7 in
+    let pages : pagesTo m (addressesAt m) (entriesIn m) ≡ pagesOf m = eqb-true (pagesTo m (addressesAt m) (entriesIn m)) (pagesOf m) (search (and-l, and-r) depth 7) in
     record {
       transaction-not-0 = transaction-named m (search (and-l, and-r));
       unnamed-page = zeros-are m pageFrom (transactionFrom - pageFrom) (search (and-l, and-r));
@@ -188,12 +187,13 @@ commit-fields kind m h len n =
       length-is = size;
       reads-few = few-fields m (short .0) .0;
       writes-few = few-fields m (short .0) .1;
-      record-accepted = eqb-true (checkOf (drop recordAt m)) 0 (checked .0);
-      commit-0 = sym (u32-behind recordAt m commitNumberFrom) ∙ eqb-true (u32At m (recordAt + commitNumberFrom)) 0 (search (and-l, and-r) depth 7);
-      transaction-is = sym (u32-behind recordAt m transactionNumberFrom) ∙ eqb-true (u32At m (recordAt + transactionNumberFrom)) (transactionOf m) (search (and-l, and-r) depth 7);
-      station-is = getD-drop recordAt m stationNumberFrom 0 ∙ eqb-true (getD m (recordAt + stationNumberFrom) 0) (stationOf m) (search (and-l, and-r) depth 7);
-      kind-is = getD-drop recordAt m stationKindFrom 0 ∙ eqb-true (getD m (recordAt + stationKindFrom) 0) kind (search (and-l, and-r) depth 7);
-      versions-0 = λ p l. version-0 kind m p (allTo-at (versionOk kind m) 32 versions p l) l;
+      record-accepted = eqb-true (checkOf (drop (recordAt m) m)) 0 (checked .0);
+      commit-0 = sym (u32-behind (recordAt m) m commitNumberFrom) ∙ eqb-true (u32At m (recordAt m + commitNumberFrom)) 0 (search (and-l, and-r) depth 7);
+      transaction-is = sym (u32-behind (recordAt m) m transactionNumberFrom) ∙ eqb-true (u32At m (recordAt m + transactionNumberFrom)) (transactionOf m) (search (and-l, and-r) depth 7);
+      station-is = getD-drop (recordAt m) m stationNumberFrom 0 ∙ eqb-true (getD m (recordAt m + stationNumberFrom) 0) (stationOf m) (search (and-l, and-r) depth 7);
+      kind-is = getD-drop (recordAt m) m stationKindFrom 0 ∙ eqb-true (getD m (recordAt m + stationKindFrom) 0) kind (search (and-l, and-r) depth 7);
+      parts-are = commit-parts m len;
+      versions-0 = λ e l. version-0 kind m e (allTo-at (versionOk kind m) (entriesIn m) versions e l);
       pages-are = λ p. rw (← pages) (pages-used m (record-there m size) p);
     }
 
@@ -269,13 +269,22 @@ up-accepted kinds m h =
 
 -- WHAT AN ACCEPTED COMMIT BRINGS
 
-version-fits : (m : List ℕ) → Bytes m → (p : ℕ) → versionAt m p < 2 ^ 32
-unfolding versionAt
-version-fits m hm p = byB (ltb p 32) (λ e. rw (e, u32At-is) (numAt-lt 4 m (versionsAt + p * versionWidth) hm)) (λ e. rw e (omega arith))
+version-fits : (v : ℕ → ℕ) → ((e : ℕ) → v e < 2 ^ 32) → (es : List Entry) (e a : ℕ) → versionIn v es e a < 2 ^ 32
+version-fits v h [] e a = omega arith
+version-fits v h (x ∷ es) e a = byB (eqb a (x .address)) (λ q. rw q (h e)) (λ q. rw q (version-fits v h es (suc e) a))
 
-version-within : (m : List ℕ) (p : ℕ) → 32 ≤ p → versionAt m p ≡ 0
-unfolding versionAt
-version-within m p l = rw (le-ltb p 32 l)
+version-within : (v : ℕ → ℕ) (es : List Entry) (e a : ℕ) → has (valueIn es a) ≡ false → versionIn v es e a ≡ 0
+version-within v [] e a h = refl
+version-within v (x ∷ es) e a h = one (eqb a (x .address)) h (version-within v es (suc e) a)
+  where
+    one : (b : Bool) → has (cond b (some (x .value)) (valueIn es a)) ≡ false → (has (valueIn es a) ≡ false → versionIn v es (suc e) a ≡ 0) → cond b (v e) (versionIn v es (suc e) a) ≡ 0
+    one true k rest = absurd (false≢true (sym k))
+    one false k rest = rest k
+
+version-none : (v : ℕ → ℕ) (es : List Entry) (e : ℕ) → ((i : ℕ) → e ≤ i → i < e + length es → v i ≡ 0) → (a : ℕ) → versionIn v es e a ≡ 0
+version-none v [] e h a = refl
+version-none v (x ∷ es) e h a =
+    byB (eqb a (x .address)) (λ q. rw q (h e (omega arith) (omega arith))) (λ q. rw q (version-none v es (suc e) (λ i l k. h i (omega arith) (omega arith)) a))
 
 value-fits : (es : List Entry) → AllFit es → (a : ℕ) → FitVal (valueIn es a)
 value-fits [] h a = tt
@@ -290,20 +299,37 @@ value-within [] h a l = refl
 value-within (e ∷ es) h a l = rw (ne-eqb a (e .address) (λ q. omega (arith, h .0 .address))) (value-within es (h .1) a l)
 
 module _ (kind : ℕ) (m : List ℕ) (hm : Bytes m) (c : CommitFields kind m) where
-  pub commit-record : WellFormed (recordOf (drop recordAt m))
-  commit-record = read-written (drop recordAt m) (bytes-drop recordAt m hm) (c .record-accepted) .well-formed
+  pub commit-record : WellFormed (recordOf (drop (recordAt m) m))
+  commit-record = read-written (drop (recordAt m) m) (bytes-drop (recordAt m) m hm) (c .record-accepted) .well-formed
 
   -- what it brings is within the limit
   pub commit-few : LimitedWork (workAt m)
   unfolding workAt
   commit-few =
-      let r = recordOf (drop recordAt m) in
+      let r = recordOf (drop (recordAt m) m) in
       record { reads-few = omega (arith, says-few (r .reads), c .reads-few); writes-few = omega (arith, says-few (r .writes), c .writes-few) }
+
+  entry-fits : (e : ℕ) → entryVersion m e < 2 ^ 32
+  entry-fits e = rw u32At-is (numAt-lt 4 m (versionsAt + e * versionWidth) hm)
+
+  pub entries-are : entriesIn m ≡ length ((recordOf (drop (recordAt m) m)) .reads) + length ((recordOf (drop (recordAt m) m)) .writes)
+  entries-are =
+      let s = drop (recordAt m) m in
+      rw (u16-behind (recordAt m) m readCountFrom, u16-behind (recordAt m) m writeCountFrom, reads-are s, writes-are s)
+
+  -- "from a locking station all are 0"
+  pub commit-none : eqb kind 1 ≡ false → (a : ℕ) → ((workAt m) .readVersions a ≡ 0) × ((workAt m) .writtenVersions a ≡ 0)
+  unfolding workAt
+  commit-none k a =
+      let r = recordOf (drop (recordAt m) m) in (
+        version-none (entryVersion m) (r .reads) 0 (λ i l q. c .versions-0 i (omega (arith, entries-are)) k) a,
+        version-none (entryVersion m) (r .writes) (length (r .reads)) (λ i l q. c .versions-0 i (omega (arith, entries-are)) k) a,
+      )
 
   pub commit-work : WorkFits (workAt m)
   unfolding workAt
   commit-work =
-      let r = recordOf (drop recordAt m) in
+      let r = recordOf (drop (recordAt m) m) in
       let w = commit-record in
       record {
         transaction-not-0 = c .transaction-not-0;
@@ -312,7 +338,9 @@ module _ (kind : ℕ) (m : List ℕ) (hm : Bytes m) (c : CommitFields kind m) wh
         writes-within = value-within (r .writes) (w .writes-fit);
         reads-fit = value-fits (r .reads) (w .reads-fit);
         writes-fit = value-fits (r .writes) (w .writes-fit);
-        versions-fit = version-fits m hm;
-        versions-within = version-within m;
+        read-versions-fit = version-fits (entryVersion m) entry-fits (r .reads) 0;
+        written-versions-fit = version-fits (entryVersion m) entry-fits (r .writes) (length (r .reads));
+        read-versions-within = version-within (entryVersion m) (r .reads) 0;
+        written-versions-within = version-within (entryVersion m) (r .writes) (length (r .reads));
         few = commit-few;
       }

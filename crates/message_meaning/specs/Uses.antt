@@ -17,7 +17,7 @@ use Rattle.cells.specs.Loops.{any-suc, any-same}
 use Rattle.layout.specs.Record.{Entry, addresses}
 use Rattle.line.specs.Messages.{address}
 use Rattle.entries.specs.Entries.{valueIn}
-use Rattle.message.specs.Commit.{addressesAt, pagesTo}
+use Rattle.message.specs.Commit.{pagesTo}
 
 -- one of two tests passes for a number, or for another
 any-or : (n : ℕ) (f g : ℕ → Bool) → any n (λ i. f i || g i) ≡ (any n f || any n g)
@@ -77,23 +77,23 @@ on-index [] p = refl
 on-index (e ∷ es) p = rw (on-index es p) (sym (any-front (length es) (λ i. eqb p (getD (addresses (e ∷ es)) i 0 / 8))))
 
 -- the mask of the first k addresses of a commit's record
-mask-index : (m : List ℕ) (k p : ℕ) → tb (pagesTo m k) p ≡ any k (λ i. eqb p (getD m (addressesAt + i) 0 / 8))
+mask-index : (m : List ℕ) (at k p : ℕ) → tb (pagesTo m at k) p ≡ any k (λ i. eqb p (getD m (at + i) 0 / 8))
 unfolding pagesTo
-mask-index m zero p = tb-zero p
-mask-index m (suc k) p =
-    let a = getD m (addressesAt + k) 0 / 8 in
-    rw (tb-or p (pagesTo m k) (2 ^ a), tb-pow a p, mask-index m k p) (sym (any-suc k (λ i. eqb p (getD m (addressesAt + i) 0 / 8))))
+mask-index m at zero p = tb-zero p
+mask-index m at (suc k) p =
+    let a = getD m (at + k) 0 / 8 in
+    rw (tb-or p (pagesTo m at k) (2 ^ a), tb-pow a p, mask-index m at k p) (sym (any-suc k (λ i. eqb p (getD m (at + i) 0 / 8))))
 
-pub mask-fits : (m : List ℕ) (k : ℕ) → Bytes m → pagesTo m k < 2 ^ 32
+pub mask-fits : (m : List ℕ) (at k : ℕ) → Bytes m → pagesTo m at k < 2 ^ 32
 unfolding pagesTo
-mask-fits m zero hm = omega arith
-mask-fits m (suc k) hm =
-    let page : getD m (addressesAt + k) 0 / 8 < 32 = omega (arith, byte-at m (addressesAt + k) hm) in
-    or-lt 32 (pagesTo m k) (2 ^ (getD m (addressesAt + k) 0 / 8)) (mask-fits m k hm) (pow-lt page)
+mask-fits m at zero hm = omega arith
+mask-fits m at (suc k) hm =
+    let page : getD m (at + k) 0 / 8 < 32 = omega (arith, byte-at m (at + k) hm) in
+    or-lt 32 (pagesTo m at k) (2 ^ (getD m (at + k) 0 / 8)) (mask-fits m at k hm) (pow-lt page)
 
 -- entries whose addresses stand behind the header of the record
-pub mask-on : (m : List ℕ) (es : List Entry) → ((i : ℕ) → i < length es → getD m (addressesAt + i) 0 ≡ getD (addresses es) i 0) → (p : ℕ) → tb (pagesTo m (length es)) p ≡ onPage es p
-mask-on m es h p =
-    mask-index m (length es) p
-    ∙ any-same (λ i. eqb p (getD m (addressesAt + i) 0 / 8)) (λ i. eqb p (getD (addresses es) i 0 / 8)) (length es) (λ i l. ap (λ (x : ℕ). eqb p (x / 8)) (h i l))
+pub mask-on : (m : List ℕ) (at : ℕ) (es : List Entry) → ((i : ℕ) → i < length es → getD m (at + i) 0 ≡ getD (addresses es) i 0) → (p : ℕ) → tb (pagesTo m at (length es)) p ≡ onPage es p
+mask-on m at es h p =
+    mask-index m at (length es) p
+    ∙ any-same (λ i. eqb p (getD m (at + i) 0 / 8)) (λ i. eqb p (getD (addresses es) i 0 / 8)) (length es) (λ i l. ap (λ (x : ℕ). eqb p (x / 8)) (h i l))
     ∙ sym (on-index es p)

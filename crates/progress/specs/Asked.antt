@@ -5,11 +5,11 @@ use mathlib.Core.List.{List, [], _∷_, _++_}
 use Prim.Native.Nat.{ℕ, suc, _+_, _≤_, _<_}
 use native.Mathlib.Omega.{arith}
 use lib.Dec.{eqb, ltb}
-use Rattle.sets.specs.Base.{upd, snoc}
+use Rattle.sets.specs.Base.{upd, snoc, has}
 use Rattle.sets.specs.Laws.{byB, byEq, eqb-same, eqb-yes, eqb-no, ltb-no, and-l, and-r}
 use Rattle.line.specs.Messages.{pageOf, lastNumber, locking, Work, Up, ReadRequest, WriteRequest, Commit, Abort, Purge, Busy, Done, WrittenSet, NoLock, ObjectLock, WholeLock, Down, Page, Deescalate, Callback, Committed, Aborted, Invalidate, Sent, To}
 use Rattle.line.specs.Station.{Station, Did, writtenOn, onDeescalate, stationStep}
-use Rattle.line.specs.Server.{End, ByCommit, ByMessage, Server, Serving, send, wrotePage, Waiter, waits, badNumber, unexpected, notice, finish, join, leave, sendPage, abort, write, archive, install, serveNow, joinRead, joinWrite, joinCommit, commitNow, unlist, markBusy, answered, openAsk, loosen as loosened, accept, ask, serveRead, callsFrom, call, grantPage, grantObject, installWaiter, start}
+use Rattle.line.specs.Server.{Server, Serving, send, Waiter, waits, badNumber, unexpected, notice, finish, join, leave, sendPage, abort, write, archive, install, serveNow, joinRead, joinWrite, joinCommit, commitNow, unlist, markBusy, answered, openAsk, loosen as loosened, accept, ask, serveRead, callsFrom, call, grantPage, grantObject, installWaiter, start, End, ByCommit, ByMessage}
 use Rattle.line.specs.Line.{World, Op, perform, carryUp, carryDown, sentTo, isRefused}
 use Rattle.line.specs.Apart.{Apart, Holder, left-lock, or-l, or-r, good-number}
 use Rattle.line.specs.Runs.{Of, tell-keeps}
@@ -96,7 +96,7 @@ module _ (u : ℕ → List Up) (d : ℕ → List Down) (p h : ℕ) where
   install-asked i k x g =
       let y : Serving = finish i ByCommit (archive i k (write k (leave i x))) in
       let m : Down = Committed (k .transaction) (y .server .last) in
-      installs AskedIn i k (λ j z e. further (z .server .wl p) (z .server .asked p) (z .server .latest h) (z .sent) (To j (Invalidate (wrotePage k)) ∷ [])) x
+      installs AskedIn i k (λ j z e. further (z .server .wl p) (z .server .asked p) (z .server .latest h) (z .sent) (To j (Invalidate (λ a. has (k .writes a))) ∷ [])) x
       (keeps x (send y i m) (To i m ∷ []) (ended i h (x .server .wl p) (x .server .asked p) (x .server .latest h)) refl g)
 
   commit-asked : (i : ℕ) (k : Work) (x : Serving) → AskedIn x → AskedIn (commitNow i k x)

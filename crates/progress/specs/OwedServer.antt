@@ -5,11 +5,11 @@ use mathlib.Core.List.{List, [], _∷_, _++_}
 use Prim.Native.Nat.{ℕ, _+_, _<_}
 use native.Mathlib.Omega.{arith}
 use lib.Dec.{eqb, ltb}
-use Rattle.sets.specs.Base.{upd, snoc}
+use Rattle.sets.specs.Base.{upd, snoc, has}
 use Rattle.sets.specs.Laws.{byB, byEq, eqb-same, eqb-yes, eqb-no, and-l, and-r, not-yes}
 use Rattle.line.specs.Messages.{lastNumber, locking, Work, Up, ReadRequest, WriteRequest, Commit, Abort, Purge, Busy, Done, WrittenSet, NoLock, ObjectLock, WholeLock, Down, Page, Deescalate, Committed, Aborted, Invalidate, Sent, To}
 use Rattle.line.specs.Station.{Station}
-use Rattle.line.specs.Server.{Server, Serving, wrotePage, Waiter, noWaiter, waiterPend, waiterBusy, waits, badNumber, notice, finish, join, leave, sendPage, abort, write, archive, install, serveNow, joinRead, joinWrite, joinCommit, commitNow, unlist, openCall, markBusy, answered, loosen, ask, serveRead, concerned, call, grantPage, grantObject, installWaiter, start}
+use Rattle.line.specs.Server.{Server, Serving, Waiter, noWaiter, waiterPend, waiterBusy, waits, badNumber, notice, finish, join, leave, sendPage, abort, write, archive, install, serveNow, joinRead, joinWrite, joinCommit, commitNow, unlist, openCall, markBusy, answered, loosen, ask, serveRead, concerned, call, grantPage, grantObject, installWaiter, start}
 use Rattle.line.specs.Line.{World, carryUp, carryDown, sentTo}
 use Rattle.line.specs.Apart.{good-number}
 use Rattle.line.specs.Runs.{Of, tell-keeps}
@@ -53,7 +53,7 @@ module _ (t : ℕ → Station) (u : ℕ → List Up) (d : ℕ → List Down) (r 
   unfolding finish archive write leave
   install-owed i w x h =
       let s : Server = x .server in
-      installs OwedIn i w (λ k z e. further (z .server .latest r) (z .server .queue r) (z .sent) k (Invalidate (wrotePage w)) (λ g. refl)) x
+      installs OwedIn i w (λ k z e. further (z .server .latest r) (z .server .queue r) (z .sent) k (Invalidate (λ a. has (w .writes a))) (λ g. refl)) x
       (further (s .latest r) (upd (s .queue) i noWaiter r) (x .sent) i (Committed (w .transaction) (s .last + 1)) (λ k. refl) (gone i (s .latest r) (s .queue) (x .sent) h))
 
   commit-owed : (i : ℕ) (w : Work) (x : Serving) → OwedIn x → OwedIn (commitNow i w x)

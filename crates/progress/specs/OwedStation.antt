@@ -78,7 +78,7 @@ module _ (r j t : ℕ) (q : Waiter) (U : List Up) (D : List Down) (b : r < 8) wh
       rw (close-gone d r b) (shut ((close d) .station .kind) ((close d) .station .opened) z)
 
   -- a page arrives
-  landed : (l : Lock) (a v : ℕ) (u : ℕ → Bool) (x : ℕ → ℕ) (s : Station) (L : List Up) (E : List Down) → Of s L E → Of (arrived l a v u x s) L E
+  landed : (l : Lock) (a : ℕ) (v : ℕ → ℕ) (u : ℕ → Bool) (x : ℕ → ℕ) (s : Station) (L : List Up) (E : List Down) → Of s L E → Of (arrived l a v u x s) L E
   unfolding arrive takeLock
   landed NoLock a v u x s L E h = h
   landed ObjectLock a v u x s L E h = h
@@ -128,7 +128,7 @@ module _ (r j t : ℕ) (q : Waiter) (U : List Up) (D : List Down) (b : r < 8) wh
           (λ z. rw z (past (Callback k u set) _ (byEq k r (λ y. absurd (eqb-no r k z (sym (eqb-yes k r y)))) (λ y. y)) h))
 
       takes-owed : Takes s Took
-      unfolding recordRead writeLocal onDeescalate loosen dropPages onCommitted onAborted
+      unfolding recordRead writeLocal onDeescalate loosen mark onCommitted onAborted
       takes-owed =
           record {
             refused = λ m e n c h. absurd (false≢true (sym n));
@@ -142,7 +142,7 @@ module _ (r j t : ℕ) (q : Waiter) (U : List Up) (D : List Down) (b : r < 8) wh
             dones = λ k u set e f. done-owed k u set;
             commits = λ u v e f n c h. close-owed (s .kind) _ (opens (past (Committed u v) [] refl h));
             aborts = λ u v e f n c h. close-owed (s .kind) _ (rw (undo-kept s) (opens (past (Aborted u v) [] refl h)));
-            invalid-ends = λ d e f g n c h. close-owed (s .kind) _ (rw (undo-kept (dropPages d s)) (opens (past (Invalidate d) [] refl h)));
+            invalid-ends = λ d e f g n c h. close-owed (s .kind) _ (rw (undo-kept (mark d s)) (opens (past (Invalidate d) [] refl h)));
             invalid = λ d e f n c h. past (Invalidate d) [] refl h;
           }
 

@@ -5,11 +5,11 @@ use mathlib.Core.List.{List, [], _∷_, _++_}
 use Prim.Native.Nat.{ℕ, _+_, _≤_, _<_}
 use native.Mathlib.Omega.{arith}
 use lib.Dec.{eqb}
-use Rattle.sets.specs.Base.{upd, upd2, snoc, nowhere}
+use Rattle.sets.specs.Base.{upd, upd2, snoc, nowhere, has}
 use Rattle.sets.specs.Laws.{byB, byEq, eqb-same, eqb-yes, and-l, and-r}
 use Rattle.line.specs.Messages.{pageOf, lastNumber, locking, Work, Up, ReadRequest, WriteRequest, Commit, Abort, Purge, Busy, Done, WrittenSet, Lock, NoLock, ObjectLock, WholeLock, Down, Page, Deescalate, Callback, Committed, Aborted, Invalidate, Sent, To}
 use Rattle.line.specs.Station.{Station, Did, waiting, live, ended, dropPages, mark, recordRead, writeLocal, doCallback, closed, close, readLocal, readAsk, writeAsk, workOf, onDeescalate, loosen, onCommitted, onAborted, stationStep}
-use Rattle.line.specs.Server.{ByCommit, ByMessage, Server, Serving, send, wrotePage, valuesOn, Waiter, Want, WantRead, isWant, badNumber, unexpected, notice, finish, join, leave, sendPage, abort, write, archive, install, serveNow, joinRead, joinWrite, joinCommit, commitNow, unlist, markBusy, answered, loosen as loosened, accept, ask, serveRead, callsFrom, call, grantPage, grantObject, installWaiter, start}
+use Rattle.line.specs.Server.{Server, Serving, send, valuesOn, Waiter, Want, WantRead, isWant, badNumber, unexpected, notice, finish, join, leave, sendPage, abort, write, archive, install, serveNow, joinRead, joinWrite, joinCommit, commitNow, unlist, markBusy, answered, loosen as loosened, accept, ask, serveRead, callsFrom, call, grantPage, grantObject, installWaiter, start, ByCommit, ByMessage}
 use Rattle.line.specs.Line.{World, Op, perform, carryUp, carryDown, sentTo, isRefused}
 use Rattle.line.specs.Runs.{Of, tell-keeps}
 use Rattle.line.specs.Truth.{count}
@@ -137,7 +137,7 @@ module _ (t : ℕ → Station) (u : ℕ → List Up) (d : ℕ → List Down) (j 
   install-waits i k x h =
       let y : Serving = finish i ByCommit (archive i k (write k (leave i x))) in
       let m : Down = Committed (k .transaction) (y .server .last) in
-      installs WaitsIn i k (λ g z e. further (z .server .queue j .want) (z .sent) (To g (Invalidate (wrotePage k)) ∷ [])) x (gives i m x (send y i m) (λ e. rw e refl) refl (λ e. refl) h)
+      installs WaitsIn i k (λ g z e. further (z .server .queue j .want) (z .sent) (To g (Invalidate (λ a. has (k .writes a))) ∷ [])) x (gives i m x (send y i m) (λ e. rw e refl) refl (λ e. refl) h)
 
   commit-waits : (i : ℕ) (k : Work) (x : Serving) → (eqb j i ≡ false → WaitsIn x) → WaitsIn (commitNow i k x)
   unfolding commitNow
@@ -204,7 +204,7 @@ module _ (i : ℕ) (l : List Up) (w : World) (h : Of P1Of w) where
   read-now a T q j b =
       let x : Serving = start (w .server) in
       let y : Serving = notice i T x in
-      let m : Down = Page NoLock a (y .server .latest i) (y .server .ver (pageOf a)) nowhere (valuesOn (pageOf a) (y .server .val)) in
+      let m : Down = Page NoLock a (y .server .latest i) (valuesOn (pageOf a) (y .server .ver)) nowhere (valuesOn (pageOf a) (y .server .val)) in
       byEq j i
       (λ e.
       let o : ℕ → Bool = stale (w .station i .kind) (w .station i .num) (w .station i .opened) in

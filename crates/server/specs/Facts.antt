@@ -5,7 +5,7 @@ use mathlib.Core.Logic.{_≢_}
 use mathlib.Core.Bool.{true, false, _&&_}
 use mathlib.Core.List.{List, [], _∷_}
 use native.Mathlib.Omega.{arith}
-use lib.ListN.{length, drop}
+use lib.ListN.{length}
 use lib.Dec.{leb}
 use borrow.Author.Tests.{leb-true, ne-eqb}
 use Rattle.sets.specs.Laws.{byEq, eqb-same, eqb-yes, eqb-no, and-l, and-r}
@@ -14,13 +14,11 @@ use Rattle.line.specs.Messages.{Sent}
 use Rattle.line.specs.Server.{noWaiter, start, accept, serverStep}
 use Rattle.line.specs.Bounds.{step-128, step-8}
 use Rattle.message.specs.Layout.{messageLength, kindOf, stationOf, pageOf, requesterOf, transactionOf}
-use Rattle.message.specs.Commit.{recordsRoom, serverRoom, recordAt, entriesOf}
+use Rattle.message.specs.Commit.{recordsRoom, serverRoom}
 use Rattle.message.specs.Number.{upNumber}
 use Rattle.message.specs.Accepted.{fields-fit}
-use Rattle.record.specs.Check.{writeCount, readCount, writeCountFrom, readCountFrom}
 use Rattle.server_state.specs.Layout.{serverLength}
 use Rattle.message_meaning.specs.Meant.{upOf}
-use Rattle.message_meaning.specs.CommitRead.{u16-behind}
 use Rattle.message_meaning.specs.UpAccepted.{CommitFields, UpAccepted, up-accepted}
 use Rattle.server_state.specs.Valid.{valid}
 use Rattle.server_state.specs.Facts.{valid-ranged}
@@ -74,11 +72,8 @@ pub record Readable (m : List ℕ) : Type 0 where
 
 packed : (kind : ℕ) (m : List ℕ) → CommitFields kind m → Packed m
 packed kind m c =
-    let n : entriesOf m ≡ entriesIn = rw (u16-behind recordAt m readCountFrom, u16-behind recordAt m writeCountFrom) in
-    record { front = omega (arith, c .length-is); entries = omega (arith, c .length-is, n) }
-  where
-    entriesIn : ℕ
-    entriesIn = readCount (drop recordAt m) + writeCount (drop recordAt m)
+    let p = c .parts-are in
+    record { front = omega (arith, p .whole, p .versions); versions = omega (arith, p .whole, p .versions); entries = omega (arith, p .whole) }
 
 module _ (kinds m : List ℕ) (e : upNumber kinds m ≡ 0) where
   fields : UpAccepted kinds m

@@ -11,8 +11,8 @@ use Rattle.le.specs.Le.{setU32, setU64}
 use Rattle.le.specs.Laws.{u64At-is, setU32-is}
 use Rattle.cells.specs.Num.{put-other, num-frame}
 use Rattle.cells.specs.Le.{setU64-is}
-use Rattle.message.specs.Layout.{messageLength, kindOf, stationOf, pageOf, requesterOf, transactionOf}
-use Rattle.message.specs.Commit.{addressesAt, entriesOf}
+use Rattle.message.specs.Layout.{versionWidth, messageLength, kindOf, stationOf, pageOf, requesterOf, transactionOf}
+use Rattle.message.specs.Commit.{versionsAt, shortestCommit, addressesAt, entriesOf}
 use Rattle.layout.specs.Record.{entryLength}
 use Rattle.station_state.specs.Layout.{numberWidth}
 use Rattle.server_state.specs.Layout.{ageWidth, counterLimit, ageFrom, nextAgeFrom, nextArrivalFrom, versionFrom, latestFrom, unfinishedFrom, agesOf, arrivalsOf, latestOf, ageKeptOf, lastOf}
@@ -22,8 +22,9 @@ use Rattle.server_actions.specs.Actions.{addressOf}
 
 -- the record of a commit is whole
 pub record Packed (m : List ℕ) : Type 0 where
-  pub front : addressesAt ≤ length m
-  pub entries : addressesAt + entryLength * entriesOf m ≤ length m
+  pub front : shortestCommit ≤ length m
+  pub versions : versionsAt + entriesOf m * versionWidth ≤ length m
+  pub entries : addressesAt m + entryLength * entriesOf m ≤ length m
 
 -- unpacking a commit leaves the last commit number
 abbrev pub LastKept : ℕ → List ℕ → List ℕ → Type 0

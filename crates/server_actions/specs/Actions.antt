@@ -7,11 +7,11 @@ use lib.ListN.{take, drop, replicate}
 use lib.Dec.{eqb}
 use Rattle.sets.specs.Base.{snoc}
 use Rattle.layout.specs.Record.{bytesOf}
-use Rattle.message.specs.Layout.{setsLength, valuesLength, message, single, stationOf, pageOf, requesterOf, objectOf, transactionOf, pagesOf, setOf}
+use Rattle.message.specs.Layout.{setsLength, behindLength, message, single, stationOf, pageOf, requesterOf, objectOf, transactionOf, pagesOf, setOf}
 use Rattle.message.specs.Layout as Message
 use Rattle.station_state.specs.Layout.{hasBit}
 use Rattle.set_record.specs.Record.{recordFrom}
-use Rattle.server_state.specs.Layout.{pageRow, setRow, pageValuesFrom, readValuesFrom, writtenValuesFrom, versionOf, workNumber, latestOf, lastOf, askedOf, wholeOf, readSetFrom, writtenSetFrom, kindOf, requestOf, lockingB}
+use Rattle.server_state.specs.Layout.{pageRow, pageVersionRow, setRow, pageValuesFrom, pageVersionsFrom, readValuesFrom, writtenValuesFrom, workNumber, latestOf, lastOf, askedOf, wholeOf, readSetFrom, writtenSetFrom, kindOf, requestOf, lockingB}
 use Rattle.server_tests.specs.Tests.{openCallB, openAskB, shutB, concernedSet, hinderedB, unavailableB, writtenPagesB, informedB}
 use Rattle.server_changes.specs.Changes.{noticeB, keepsAgeB, finishB, leaveB, joinReadB, joinWriteB, joinCommitB, unpackB, listB, unlistB, markBusyB, answeredB, loosenB, askedB, calledB, lockPageB, lockObjectB, writeB}
 
@@ -33,19 +33,23 @@ send x m = serving (x .state) (snoc (x .sent) m) (x .recs)
 -- messages
 
 abbrev pub plain : ℕ → ℕ → ℕ → ℕ → ℕ → ℕ → ℕ → List ℕ
-plain kind i page object transaction pages version = message kind i page object transaction pages version (replicate setsLength 0) (replicate valuesLength 0)
+plain kind i page object transaction pages version = message kind i page object transaction pages version (replicate setsLength 0) (replicate behindLength 0)
 
--- 16, 17, 18 for address a; the page's values stand in the state as they are sent
+-- 16, 17, 18 for address a; the page's values and its versions stand in the state as they are sent
 abbrev pub pageB : ℕ → ℕ → ℕ → ℕ → List ℕ → List ℕ
 pageB kind i a u s =
-    message kind i (a / 8) (a % 8) (latestOf s i) 0 (versionOf s (a / 8)) (single u) (take pageRow (drop (pageValuesFrom (a / 8)) s))
+    message kind i (a / 8) (a % 8) (latestOf s i) 0 0 (single u) (take pageRow (drop (pageValuesFrom (a / 8)) s) ++ take pageVersionRow (drop (pageVersionsFrom (a / 8)) s))
 
 abbrev pub deescalateB : ℕ → ℕ → List ℕ → List ℕ
 deescalateB h p s = plain 19 h p 0 (latestOf s h) 0 0
 
+-- object sets by page: what i's entry writes
+abbrev pub writtenSets : ℕ → List ℕ → List ℕ
+writtenSets i s = take setRow (drop (writtenSetFrom i) s)
+
 -- to station j, for requester i
 abbrev pub callbackB : ℕ → ℕ → List ℕ → List ℕ
-callbackB j i s = message 20 j i 0 (latestOf s i) 0 0 (take setRow (drop (writtenSetFrom i) s)) (replicate valuesLength 0)
+callbackB j i s = message 20 j i 0 (latestOf s i) 0 0 (writtenSets i s) (replicate behindLength 0)
 
 abbrev pub committedB : ℕ → ℕ → ℕ → List ℕ
 committedB i t n = plain 21 i 0 0 t 0 n
@@ -53,8 +57,9 @@ committedB i t n = plain 21 i 0 0 t 0 n
 abbrev pub abortedB : ℕ → ℕ → ℕ → List ℕ
 abortedB i t c = plain 22 i 0 c t 0 0
 
-abbrev pub invalidateB : ℕ → ℕ → List ℕ
-invalidateB j d = plain 23 j 0 0 0 d 0
+-- "Kind 23 carries object sets by page and no page set": y are the sets
+abbrev pub invalidateB : ℕ → List ℕ → List ℕ
+invalidateB j y = message 23 j 0 0 0 0 0 y (replicate behindLength 0)
 
 -- the record of station i's entry, with the last commit number
 abbrev pub recordB : ℕ → List ℕ → List ℕ
@@ -71,21 +76,21 @@ sendPageB kind i a u x = send (onState x (listB i (a / 8) (x .state))) (pageB ki
 unfoldable pub abortB : ℕ → ℕ → Serving → Serving
 abortB i c x = let s = finishB i (keepsAgeB c) (leaveB i (x .state)) in send (onState x s) (abortedB i (latestOf s i) c)
 
--- 23 with the pages d to station j, which is then no longer listed for them
-unfoldable pub informB : ℕ → ℕ → Serving → ℕ → Serving
-informB i d x j = cond (informedB (x .state) i d j) (send (onState x (unlistB j d (x .state))) (invalidateB j d)) x
+-- 23 with the sets y to station j, if it is listed for one of the pages d, which are theirs; "A listed copy remains listed after 23"
+unfoldable pub informB : ℕ → ℕ → List ℕ → Serving → ℕ → Serving
+informB i d y x j = cond (informedB (x .state) i d j) (send x (invalidateB j y)) x
 
 -- "stations rising"
-unfoldable pub informTo : ℕ → ℕ → Serving → ℕ → Serving
-informTo i d x zero = x
-informTo i d x (suc j) = informB i d (informTo i d x j) j
+unfoldable pub informTo : ℕ → ℕ → List ℕ → Serving → ℕ → Serving
+informTo i d y x zero = x
+informTo i d y x (suc j) = informB i d y (informTo i d y x j) j
 
 -- "Install: write values, archive the record, free locks, send 21, then .. 23"
 unfoldable pub installB : ℕ → Serving → Serving
 installB i x =
     let s = writeB i (x .state) in
     let t = finishB i 0 (leaveB i s) in
-    informTo i (writtenPagesB (x .state) i) (serving t (snoc (x .sent) (committedB i (workNumber (x .state) i) (lastOf t))) (snoc (x .recs) (recordB i s))) 8
+    informTo i (writtenPagesB (x .state) i) (writtenSets i (x .state)) (serving t (snoc (x .sent) (committedB i (workNumber (x .state) i) (lastOf t))) (snoc (x .recs) (recordB i s))) 8
 
 -- accept: the message's own effect
 

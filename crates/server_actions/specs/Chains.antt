@@ -1,24 +1,25 @@
 -- The calls of an action, one after the other, leave what its definition gives; and there is room for each.
 use Prim.Native.Nat.{ℕ, _+_, _*_, _/_, _≤_}
-use mathlib.Core.Path.{_≡_, sym, ap, _∙_}
+use mathlib.Core.Path.{_≡_, refl, sym, ap, _∙_}
 use mathlib.Core.Bool.{true, false}
 use mathlib.Core.List.{List, [], _∷_, append-nil}
 use native.Mathlib.Omega.{arith}
-use lib.ListN.{length}
+use lib.ListN.{length, take, drop}
 use lib.Seq.{sets}
 use Rattle.set_record.specs.Record.{recordFrom, Filled, filled, recordFilled}
-use Rattle.message.specs.Layout.{messageLength}
+use Rattle.message.specs.Layout.{messageLength, setsFrom}
 use Rattle.layout.specs.Record.{bytesOf}
-use Rattle.server_state.specs.Layout.{latestOf, lastOf, workNumber, kindOf, readSetFrom, readValuesFrom, writtenSetFrom, writtenValuesFrom}
+use Rattle.server_state.specs.Layout.{setRow, latestOf, lastOf, workNumber, kindOf, readSetFrom, readValuesFrom, writtenSetFrom, writtenValuesFrom}
 use Rattle.station_state.specs.Layout.{hasBit}
 use Rattle.server_tests.specs.Tests.{writtenPagesB}
 use Rattle.server_sets.specs.Sets.{informedSet}
-use Rattle.server_changes.specs.Changes.{keepsAgeB, finishB, leaveB, listB, unlistB, writeB}
-use Rattle.server_actions.specs.Actions.{serving, pageB, abortedB, committedB, invalidateB, recordB, sendPageB, abortB, informTo, installB}
+use Rattle.server_changes.specs.Changes.{keepsAgeB, finishB, leaveB, listB, writeB}
+use Rattle.server_actions.specs.Actions.{serving, pageB, abortedB, committedB, invalidateB, recordB, sendPageB, abortB, informTo, installB, plain, writtenSets}
 use Rattle.server_actions.specs.declared.Counts.{Counts}
 use Rattle.station_callbacks.specs.Callbacks.{flat}
 use Rattle.server_actions.specs.Posting.{from, counts, Posted, posted, post, post-none, post-one, post-both, posted-then, Room, room-first, room-next, acts-turns}
 use Rattle.server_actions.specs.Parts.{turns-informs, installedB, acts-installed, install-is}
+use Rattle.server_actions.specs.Stores.{invalidate-put}
 use Rattle.server_actions.specs.Informs.{informOneB, informSetTo, informs-are}
 
 -- a record
@@ -68,25 +69,25 @@ module _ (o q : List ℕ) (c : Counts) where
 
   -- 23
 
-  pub inform-fits : (w d j : ℕ) (s : List ℕ) → hasBit w j ≡ true → Room o q c (informOneB w d (from s) j) → c .messages * messageLength + messageLength ≤ length o
+  pub inform-fits : (w j : ℕ) (y s : List ℕ) → hasBit w j ≡ true → Room o q c (informOneB w y (from s) j) → c .messages * messageLength + messageLength ≤ length o
   unfolding informOneB
-  inform-fits w d j s e r = one-fits (unlistB j d s) (invalidateB j d) [] [] (rw e at r)
+  inform-fits w j y s e r = one-fits s (invalidateB j y) [] [] (rw e at r)
 
-  pub inform-chain : (w d j : ℕ) (s : List ℕ) {s₁ o₁ : List ℕ} {r : Counts} → hasBit w j ≡ true → o₁ ≡ sets o (c .messages * messageLength) (invalidateB j d) → s₁ ≡ unlistB j d s
-      → r ≡ counts (c .messages + 1) (c .records) → posted s₁ o₁ q r ≡ post o q c (informOneB w d (from s) j)
+  pub inform-chain : (w j : ℕ) (y s : List ℕ) → length y ≡ setRow → {o₁ o₂ : List ℕ} {r : Counts} → hasBit w j ≡ true → o₁ ≡ sets o (c .messages * messageLength) (plain 23 j 0 0 0 0 0)
+      → o₂ ≡ sets o₁ (c .messages * messageLength + setsFrom) (take setRow (drop 0 y)) → r ≡ counts (c .messages + 1) (c .records) → posted s o₂ q r ≡ post o q c (informOneB w y (from s) j)
   unfolding informOneB
-  inform-chain w d j s e eo es er = rw e (sent-chain (unlistB j d s) (invalidateB j d) eo es er)
+  inform-chain w j y s l e e₁ e₂ er = rw e (sent-chain s (invalidateB j y) (invalidate-put o y (c .messages * messageLength) j l e₁ e₂) refl er)
 
-  pub inform-none : (w d j : ℕ) (s : List ℕ) → hasBit w j ≡ false → posted s o q c ≡ post o q c (informOneB w d (from s) j)
+  pub inform-none : (w j : ℕ) (y s : List ℕ) → hasBit w j ≡ false → posted s o q c ≡ post o q c (informOneB w y (from s) j)
   unfolding informOneB
-  inform-none w d j s e = rw e (post-none o q c s)
+  inform-none w j y s e = rw e (post-none o q c s)
 
-  module _ (i d : ℕ) (s : List ℕ) {w : ℕ} (ew : w ≡ informedSet s i d) where
-    pub informs-room : Room o q c (informTo i d (from s) 8) → Room o q c (informSetTo w d (from s) 8)
-    informs-room r = rw (ew, informs-are i d (from s) 8 (omega arith)) r
+  module _ (i d : ℕ) (y s : List ℕ) {w : ℕ} (ew : w ≡ informedSet s i d) where
+    pub informs-room : Room o q c (informTo i d y (from s) 8) → Room o q c (informSetTo w y (from s) 8)
+    informs-room r = rw (ew, informs-are i d y (from s) 8 (omega arith)) r
 
-    pub informs-post : {p : Posted} → p ≡ post o q c (informSetTo w d (from s) 8) → p ≡ post o q c (informTo i d (from s) 8)
-    informs-post e = e ∙ ap (post o q c) (rw ew (informs-are i d (from s) 8 (omega arith)))
+    pub informs-post : {p : Posted} → p ≡ post o q c (informSetTo w y (from s) 8) → p ≡ post o q c (informTo i d y (from s) 8)
+    informs-post e = e ∙ ap (post o q c) (rw ew (informs-are i d y (from s) 8 (omega arith)))
 
   -- A RECORD AND 21
 
@@ -106,15 +107,16 @@ module _ (o q : List ℕ) (c : Counts) where
 
     pub install-first : Room o q c (installB i (from s)) → Room o q c (installedB i (from s))
     install-first r =
-        room-first o q c (acts-turns (turns-informs i (writtenPagesB s i)) 8) (installedB i (from s)) (rw (← install-is i (from s)) r)
+        room-first o q c (acts-turns (turns-informs i (writtenPagesB s i) (writtenSets i s)) 8) (installedB i (from s)) (rw (← install-is i (from s)) r)
 
-    module _ {d : ℕ} {s₁ o₁ q₁ : List ℕ} {b : Counts} (ed : d ≡ writtenPagesB s i) (e : posted s₁ o₁ q₁ b ≡ post o q c (installedB i (from s))) where
-      pub install-next : Room o q c (installB i (from s)) → Room o₁ q₁ b (informTo i d (from s₁) 8)
+    module _ {d : ℕ} {y s₁ o₁ q₁ : List ℕ} {b : Counts} (ed : d ≡ writtenPagesB s i) (ey : y ≡ writtenSets i s) (e : posted s₁ o₁ q₁ b ≡ post o q c (installedB i (from s))) where
+      pub install-next : Room o q c (installB i (from s)) → Room o₁ q₁ b (informTo i d y (from s₁) 8)
       install-next r =
-          rw ed
-          (room-next o q c (acts-turns (turns-informs i (writtenPagesB s i)) 8) (installedB i (from s)) e (rw (← install-is i (from s)) r))
+          rw (ed, ey)
+          (room-next o q c (acts-turns (turns-informs i (writtenPagesB s i) (writtenSets i s)) 8) (installedB i (from s)) e (rw (← install-is i (from s)) r))
 
-      pub install-chain : {p : Posted} → p ≡ post o₁ q₁ b (informTo i d (from s₁) 8) → p ≡ post o q c (installB i (from s))
+      pub install-chain : {p : Posted} → p ≡ post o₁ q₁ b (informTo i d y (from s₁) 8) → p ≡ post o q c (installB i (from s))
       install-chain f =
-          posted-then (acts-turns (turns-informs i (writtenPagesB s i)) 8) o q c (installedB i (from s)) e (f ∙ ap (λ (k : ℕ). post o₁ q₁ b (informTo i k (from s₁) 8)) ed)
+          posted-then (acts-turns (turns-informs i (writtenPagesB s i) (writtenSets i s)) 8) o q c (installedB i (from s)) e
+          (f ∙ ap (λ (k : ℕ). post o₁ q₁ b (informTo i k y (from s₁) 8)) ed ∙ ap (λ (z : List ℕ). post o₁ q₁ b (informTo i (writtenPagesB s i) z (from s₁) 8)) ey)
           ∙ ap (post o q c) (sym (install-is i (from s)))

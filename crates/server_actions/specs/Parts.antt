@@ -11,7 +11,7 @@ use Rattle.station_state.specs.Layout.{hasBit}
 use Rattle.server_state.specs.Layout.{lastOf, latestOf, workNumber, askedOf, wholeOf, wantOf, requestOf, calledOf, pendOf, lockingB}
 use Rattle.server_tests.specs.Tests.{openCallB, openAskB, faultB, blockedB, shutB, shutOutB, concernedSet, hinderedB, unavailableB, writtenPagesB, informedB}
 use Rattle.server_changes.specs.Changes.{keepsAgeB, noticeB, finishB, leaveB, joinReadB, joinWriteB, joinCommitB, unpackB, listB, unlistB, markBusyB, answeredB, loosenB, askedB, calledB, lockPageB, lockObjectB, writeB}
-use Rattle.server_actions.specs.Actions.{Serving, serving, onState, send, pageB, deescalateB, callbackB, committedB, abortedB, invalidateB, recordB, sendPageB, abortB, informB, informTo, installB, commitNowB, addressOf, noticedB, onReadB, onWriteB, onCommitB, onAbortB, onPurgeB, onBusyB, onDoneB, onWrittenSetB, acceptB}
+use Rattle.server_actions.specs.Actions.{Serving, serving, onState, send, pageB, deescalateB, callbackB, committedB, abortedB, invalidateB, recordB, sendPageB, abortB, informB, informTo, installB, commitNowB, addressOf, noticedB, onReadB, onWriteB, onCommitB, onAbortB, onPurgeB, onBusyB, onDoneB, onWrittenSetB, acceptB, writtenSets}
 use Rattle.server_actions.specs.Pass.{askB, askTo, serveReadB, callOneB, callTo, callB, callOnceB, grantPageB, grantObjectB, grantB, afterCallsB, proceedB, gatesB, visitB, passB}
 use Rattle.server_actions.specs.Posting.{Acts, acts-not, acts-state, acts-send, acts-archive, acts-cond, acts-with, acts-then, Turns, acts-turns}
 
@@ -27,13 +27,13 @@ unfolding abortB
 acts-abort i c =
     acts-then (acts-state (λ s. finishB i (keepsAgeB c) (leaveB i s))) (acts-with (λ s x. send x (abortedB i (latestOf s i) c)) (λ s. acts-send (abortedB i (latestOf s i) c)))
 
-pub acts-inform : (i d j : ℕ) → Acts (λ x. informB i d x j)
+pub acts-inform : (i d : ℕ) (y : List ℕ) (j : ℕ) → Acts (λ x. informB i d y x j)
 unfolding informB
-acts-inform i d j = acts-cond (λ s. informedB s i d j) (acts-then (acts-state (unlistB j d)) (acts-send (invalidateB j d))) acts-not
+acts-inform i d y j = acts-cond (λ s. informedB s i d j) (acts-send (invalidateB j y)) acts-not
 
-pub turns-informs : (i d : ℕ) → Turns (informTo i d) (informB i d)
+pub turns-informs : (i d : ℕ) (y : List ℕ) → Turns (informTo i d y) (informB i d y)
 unfolding informTo
-turns-informs i d = record { none = λ x. refl; next = λ x n. refl; acts = acts-inform i d }
+turns-informs i d y = record { none = λ x. refl; next = λ x n. refl; acts = acts-inform i d y }
 
 -- an installation as far as its 21
 unfoldable pub installedB : ℕ → Serving → Serving
@@ -53,14 +53,15 @@ acts-installed i =
     acts-then (acts-archive (recordB i (writeB i s)))
     (acts-then (acts-state (λ t. finishB i 0 (leaveB i (writeB i s)))) (acts-send (committedB i (workNumber s i) (lastOf (finishB i 0 (leaveB i (writeB i s))))))))
 
-pub install-is : (i : ℕ) (x : Serving) → installB i x ≡ informTo i (writtenPagesB (x .state) i) (installedB i x) 8
+pub install-is : (i : ℕ) (x : Serving) → installB i x ≡ informTo i (writtenPagesB (x .state) i) (writtenSets i (x .state)) (installedB i x) 8
 unfolding installB installedB
 install-is i x = refl
 
 pub acts-install : (i : ℕ) → Acts (installB i)
 unfolding installB installedB
 acts-install i =
-    acts-with (λ s x. informTo i (writtenPagesB s i) (installedB i x) 8) (λ s. acts-then (acts-installed i) (acts-turns (turns-informs i (writtenPagesB s i)) 8))
+    acts-with (λ s x. informTo i (writtenPagesB s i) (writtenSets i s) (installedB i x) 8)
+    (λ s. acts-then (acts-installed i) (acts-turns (turns-informs i (writtenPagesB s i) (writtenSets i s)) 8))
 
 -- THE MESSAGE'S OWN EFFECT
 

@@ -5,7 +5,7 @@ ghost use Prim.Native.Nat.{_+_, _*_, _≤_, _<_};
 ghost use lib.ListN.{length, take, drop};
 ghost use lib.Seq.{sets};
 ghost use Rattle.message.specs.Layout.{messageLength};
-ghost use Rattle.server_state.specs.Layout.{serverLength, lastOf};
+ghost use Rattle.server_state.specs.Layout.{serverLength, setRow, lastOf};
 ghost use Rattle.server_actions.specs.Actions.{pageB, callbackB, recordB, sendPageB, abortB, informTo, installB};
 ghost use Rattle.server_actions.specs.Posting.{from as Posting·from, counts, posted, post, Room};
 ghost use Rattle.server_actions.specs.Parts.{installedB};
@@ -15,6 +15,7 @@ use server_state::KIND;
 use server_state::LAST;
 use server_state::LATEST;
 use server_state::PAGE_ROW;
+use server_state::PAGE_VERSION_ROW;
 use server_state::READ_SET;
 use server_state::READ_VALUE;
 use server_state::VALUE;
@@ -60,10 +61,16 @@ fn put_page(o: &mut [u8], at: usize, s: &[u8], kind: u8, i: usize, a: usize, u: 
 {
     let p = a / 8;
     let t = le::get_u32(s, LATEST + i * NUMBER_WIDTH);
-    let v = le::get_u32(s, VERSION + p * NUMBER_WIDTH);
-    message::put_message(o, at, kind, i as u8, p as u8, (a % 8) as u8, t, 0, v);
+    message::put_message(o, at, kind, i as u8, p as u8, (a % 8) as u8, t, 0, 0);
     le::put_u8(o, at + message::SETS, u);
     copy_in(o, at + message::VALUES, s, VALUE + p * PAGE_ROW, PAGE_ROW);
+    copy_in(
+        o,
+        at + message::PAGE_VERSIONS,
+        s,
+        VERSION + p * PAGE_VERSION_ROW,
+        PAGE_VERSION_ROW,
+    );
 }
 
 // 20 to station j, with what i's entry writes.
@@ -107,29 +114,37 @@ pub fn abort(s: &mut [u8], o: &mut [u8], q: &mut [u8], c: Counts, i: usize, caus
     one_more(c)
 }
 
-// 23 with the pages d to station j, if it is in w; it is then listed for none of them.
-fn inform(s: &mut [u8], o: &mut [u8], q: &mut [u8], c: Counts, w: u8, d: u32, j: usize) -> Counts
-    requires { ⌜ (length (now s) ≡ serverLength) × (j < 8) × Room (now o) (now q) c (informOneB w d (Posting·from (now s)) j) ⌝ }
-    ensures { λ r. ⌜ posted (now (s .exit)) (now (o .exit)) (now (q .exit)) r ≡ post (now (o .entry)) (now (q .entry)) c (informOneB w d (Posting·from (now (s .entry))) j) ⌝ }
+// 23 with the object sets y to station j, if it is in w.
+fn inform(s: &mut [u8], o: &mut [u8], q: &mut [u8], c: Counts, w: u8, y: &[u8], j: usize) -> Counts
+    requires { ⌜ (length (now s) ≡ serverLength) × (length (now y) ≡ setRow) × (j < 8) × Room (now o) (now q) c (informOneB w (now y) (Posting·from (now s)) j) ⌝ }
+    ensures { λ r. ⌜ posted (now (s .exit)) (now (o .exit)) (now (q .exit)) r ≡ post (now (o .entry)) (now (q .entry)) c (informOneB w (now (y .entry)) (Posting·from (now (s .entry))) j) ⌝ }
 {
     if station_state::has_bit8(w, j) {
-        message::put_message(o, c.messages * MESSAGE, 23, j as u8, 0, 0, 0, d, 0);
-        server_changes::unlist(s, j, d);
+        message::put_message(o, c.messages * MESSAGE, 23, j as u8, 0, 0, 0, 0, 0);
+        copy_in(o, c.messages * MESSAGE + message::SETS, y, 0, SET_ROW);
         return one_more(c);
     }
     c
 }
 
-// Other validating stations listed for one of the pages d get 23, stations rising.
-fn inform_all(s: &mut [u8], o: &mut [u8], q: &mut [u8], c: Counts, i: usize, d: u32) -> Counts
-    requires { ⌜ (length (now s) ≡ serverLength) × (i < 8) × Room (now o) (now q) c (informTo i d (Posting·from (now s)) 8) ⌝ }
-    ensures { λ r. ⌜ posted (now (s .exit)) (now (o .exit)) (now (q .exit)) r ≡ post (now (o .entry)) (now (q .entry)) c (informTo i d (Posting·from (now (s .entry))) 8) ⌝ }
+// Other validating stations listed for one of the pages d get 23 with the object sets y, stations rising.
+fn inform_all(
+    s: &mut [u8],
+    o: &mut [u8],
+    q: &mut [u8],
+    c: Counts,
+    i: usize,
+    d: u32,
+    y: &[u8],
+) -> Counts
+    requires { ⌜ (length (now s) ≡ serverLength) × (length (now y) ≡ setRow) × (i < 8) × Room (now o) (now q) c (informTo i d (now y) (Posting·from (now s)) 8) ⌝ }
+    ensures { λ r. ⌜ posted (now (s .exit)) (now (o .exit)) (now (q .exit)) r ≡ post (now (o .entry)) (now (q .entry)) c (informTo i d (now (y .entry)) (Posting·from (now (s .entry))) 8) ⌝ }
 {
     let w = server_sets::informed_set(s, i, d);
     let mut b = c;
     let mut j = 0;
     while j < 8 {
-        let e = inform(s, o, q, b, w, d, j);
+        let e = inform(s, o, q, b, w, y, j);
         b = e;
         j += 1;
     }
@@ -178,12 +193,16 @@ fn put_installed(s: &mut [u8], o: &mut [u8], q: &mut [u8], c: Counts, i: usize) 
     one_more(e)
 }
 
-// Installs i's entry; other validating stations listed for a written page get 23.
+// Installs i's entry; other validating stations listed for a written page get 23 with all that it wrote.
 pub fn install(s: &mut [u8], o: &mut [u8], q: &mut [u8], c: Counts, i: usize) -> Counts
     requires { ⌜ (length (now s) ≡ serverLength) × (i < 8) × (lastOf (now s) < 4294967295) × Room (now o) (now q) c (installB i (Posting·from (now s))) ⌝ }
     ensures { λ r. ⌜ posted (now (s .exit)) (now (o .exit)) (now (q .exit)) r ≡ post (now (o .entry)) (now (q .entry)) c (installB i (Posting·from (now (s .entry)))) ⌝ }
 {
     let d = server_sets::written_pages(s, i);
+    // the entry goes before the first 23
+    let mut x = [0u8; 32];
+    copy_in(&mut x, 0, s, WRITTEN_SET + i * SET_ROW, SET_ROW);
     let b = put_installed(s, o, q, c, i);
-    inform_all(s, o, q, b, i, d)
+    let y = &x[0..SET_ROW];
+    inform_all(s, o, q, b, i, d, y)
 }

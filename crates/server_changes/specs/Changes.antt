@@ -5,14 +5,13 @@ use mathlib.Core.Bool.{Bool, not, cond}
 use lib.ListN.{getD, set}
 use lib.Bits.{bitAnd, bitOr}
 use lib.Dec.{eqb}
-use Rattle.le.specs.Le.{u16At, u32At, u64At, setU32, setU64}
+use Rattle.le.specs.Le.{u64At, setU32, setU64}
 use Rattle.message.specs.Layout.{transactionOf}
-use Rattle.message.specs.Commit.{recordAt, addressesAt, versionWidth, versionsAt, entriesOf}
+use Rattle.message.specs.Commit.{addressesAt, sentReads, sentWrites, entriesOf, entryVersion}
 use Rattle.layout.specs.Record.{valueLength}
-use Rattle.record.specs.Check.{writeCountFrom, readCountFrom}
 use Rattle.station_state.specs.Layout.{pageSetWidth, numberWidth, valueWidth, hasBit, member}
 use Rattle.station_state.specs.Changes.{addTo, pageOn, pageOff, clearTo}
-use Rattle.server_state.specs.Layout.{ageWidth, setRow, valueFrom, ageFrom, arrivalFrom, nextAgeFrom, nextArrivalFrom, versionFrom, workFrom, latestFrom, listedFrom, lastFrom, askedFrom, lockFrom, wholeFrom, wantFrom, requestFrom, calledFrom, pendFrom, busyFrom, unfinishedFrom, ageKeptFrom, sentVersionsFrom, readValuesFrom, writtenValuesFrom, agesOf, arrivalsOf, latestOf, listedOf, lastOf, lockOf, wholeOf, readSetFrom, writtenSetFrom, writtenSet, pendOf, busyOf, ageKeptOf}
+use Rattle.server_state.specs.Layout.{ageWidth, setRow, valueFrom, ageFrom, arrivalFrom, nextAgeFrom, nextArrivalFrom, versionFrom, workFrom, latestFrom, listedFrom, lastFrom, askedFrom, lockFrom, wholeFrom, wantFrom, requestFrom, calledFrom, pendFrom, busyFrom, unfinishedFrom, ageKeptFrom, readVersionsFrom, writtenVersionsFrom, readValuesFrom, writtenValuesFrom, agesOf, arrivalsOf, latestOf, listedOf, lastOf, lockOf, wholeOf, readSetFrom, writtenSetFrom, pendOf, busyOf, ageKeptOf}
 
 -- the next age, and the counter one higher
 unfoldable pub newAgeB : ℕ → List ℕ → List ℕ
@@ -69,32 +68,28 @@ joinReadB i a s = addTo (joinB i 1 a s) (readSetFrom i) a
 unfoldable pub joinWriteB : ℕ → ℕ → List ℕ → List ℕ
 joinWriteB i a s = addTo (joinB i 2 a s) (writtenSetFrom i) a
 
--- a commit's record, from message m: entry e, of the sets from `at` with values from `from`
-unfoldable pub unpackOne : List ℕ → List ℕ → ℕ → ℕ → ℕ → List ℕ
-unpackOne m s at from e =
-    let a = getD m (addressesAt + e) 0 in
-    setU64 (addTo s at a) (from + a * valueWidth) (u64At m (addressesAt + entriesOf m + e * valueLength))
+-- a commit's record and its versions, from message m: entry e, of the sets from `at` with values from `from` and versions from `seen`
+unfoldable pub unpackOne : List ℕ → List ℕ → ℕ → ℕ → ℕ → ℕ → List ℕ
+unpackOne m s at from seen e =
+    let a = getD m (addressesAt m + e) 0 in
+    setU32 (setU64 (addTo s at a) (from + a * valueWidth) (u64At m (addressesAt m + entriesOf m + e * valueLength))) (seen + a * numberWidth) (entryVersion m e)
 
 -- n entries from the first on
-unfoldable pub unpackTo : List ℕ → List ℕ → ℕ → ℕ → ℕ → ℕ → List ℕ
-unpackTo m s at from first zero = s
-unpackTo m s at from first (suc n) = unpackOne m (unpackTo m s at from first n) at from (first + n)
+unfoldable pub unpackTo : List ℕ → List ℕ → ℕ → ℕ → ℕ → ℕ → ℕ → List ℕ
+unpackTo m s at from seen first zero = s
+unpackTo m s at from seen first (suc n) = unpackOne m (unpackTo m s at from seen first n) at from seen (first + n)
 
-unfoldable pub versionsIn : List ℕ → ℕ → List ℕ → ℕ → List ℕ
-versionsIn m i s zero = s
-versionsIn m i s (suc p) = setU32 (versionsIn m i s p) (sentVersionsFrom i + p * numberWidth) (u32At m (versionsAt + p * versionWidth))
-
--- the work of a commit: transaction, versions, reads, writes. The sets were empty before
+-- the work of a commit: transaction, reads, writes. The sets were empty before
 unfoldable pub unpackB : ℕ → List ℕ → List ℕ → List ℕ
 unpackB i m s =
     unpackTo m
-    (unpackTo m (versionsIn m i (setU32 s (workFrom + i * numberWidth) (transactionOf m)) 32) (readSetFrom i) (readValuesFrom i) 0 (u16At m (recordAt + readCountFrom)))
-    (writtenSetFrom i) (writtenValuesFrom i) (u16At m (recordAt + readCountFrom)) (u16At m (recordAt + writeCountFrom))
+    (unpackTo m (setU32 s (workFrom + i * numberWidth) (transactionOf m)) (readSetFrom i) (readValuesFrom i) (readVersionsFrom i) 0 (sentReads m))
+    (writtenSetFrom i) (writtenValuesFrom i) (writtenVersionsFrom i) (sentReads m) (sentWrites m)
 
 unfoldable pub joinCommitB : ℕ → List ℕ → List ℕ → List ℕ
 joinCommitB i m s = unpackB i m (joinB i 3 0 s)
 
--- "A station is listed as holding a page from the sending of 16, 17 or 18 until 5, a page in 7, or 23"
+-- "A station is listed as holding a page from the sending of 16, 17 or 18 until 5, a page in 7"; by document 02 it "remains listed after 23"
 unfoldable pub listB : ℕ → ℕ → List ℕ → List ℕ
 listB i p s = pageOn s (listedFrom + i * pageSetWidth) p
 
@@ -135,21 +130,15 @@ lockPageB i p s = set (pageOff s askedFrom p) (wholeFrom + p) (i + 1)
 unfoldable pub lockObjectB : ℕ → ℕ → List ℕ → List ℕ
 lockObjectB i a s = set s (lockFrom + a) (i + 1)
 
--- "write values", from i's entry; written pages take the new number as version
+-- "write values", from i's entry; written objects take the new number n as version
 
-unfoldable pub versionOneB : ℕ → ℕ → List ℕ → ℕ → List ℕ
-versionOneB i n s p = cond (eqb (writtenSet s i p) 0) s (setU32 s (versionFrom + p * numberWidth) n)
+unfoldable pub valueOneB : ℕ → ℕ → List ℕ → ℕ → List ℕ
+valueOneB i n s a =
+    cond (member s (writtenSetFrom i) a) (setU32 (setU64 s (valueFrom + a * valueWidth) (u64At s (writtenValuesFrom i + a * valueWidth))) (versionFrom + a * numberWidth) n) s
 
-unfoldable pub versionsTo : ℕ → ℕ → List ℕ → ℕ → List ℕ
-versionsTo i n s zero = s
-versionsTo i n s (suc p) = versionOneB i n (versionsTo i n s p) p
-
-unfoldable pub valueOneB : ℕ → List ℕ → ℕ → List ℕ
-valueOneB i s a = cond (member s (writtenSetFrom i) a) (setU64 s (valueFrom + a * valueWidth) (u64At s (writtenValuesFrom i + a * valueWidth))) s
-
-unfoldable pub valuesTo : ℕ → List ℕ → ℕ → List ℕ
-valuesTo i s zero = s
-valuesTo i s (suc a) = valueOneB i (valuesTo i s a) a
+unfoldable pub valuesTo : ℕ → ℕ → List ℕ → ℕ → List ℕ
+valuesTo i n s zero = s
+valuesTo i n s (suc a) = valueOneB i n (valuesTo i n s a) a
 
 unfoldable pub writeB : ℕ → List ℕ → List ℕ
-writeB i s = valuesTo i (versionsTo i (lastOf s + 1) (setU32 s lastFrom (lastOf s + 1)) 32) 256
+writeB i s = valuesTo i (lastOf s + 1) (setU32 s lastFrom (lastOf s + 1)) 256

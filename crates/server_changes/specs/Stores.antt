@@ -2,17 +2,17 @@
 use Prim.Native.Nat.{ℕ, _+_, _*_}
 use mathlib.Core.Path.{_≡_}
 use mathlib.Core.List.{List}
-use lib.ListN.{set}
-use Rattle.le.specs.Le.{u16At, setU32, setU64}
+use lib.ListN.{getD, set}
+use Rattle.le.specs.Le.{u64At, setU32, setU64}
 use Rattle.message.specs.Layout.{transactionOf}
-use Rattle.message.specs.Commit.{recordAt}
-use Rattle.record.specs.Check.{writeCountFrom, readCountFrom}
-use Rattle.station_state.specs.Changes.{clearTo}
-use Rattle.station_state.specs.Layout.{numberWidth}
+use Rattle.message.specs.Commit.{recordAt, sentReads, sentWrites, entryVersion}
+use Rattle.layout.specs.Record.{headerLength, valueLength}
+use Rattle.station_state.specs.Changes.{addTo, clearTo}
+use Rattle.station_state.specs.Layout.{numberWidth, valueWidth}
 use Rattle.server_state.specs.declared.Aged.{Aged}
 use Rattle.server_state.specs.Ages.{agedOf}
-use Rattle.server_state.specs.Layout.{ageWidth, setRow, ageFrom, arrivalFrom, nextAgeFrom, nextArrivalFrom, workFrom, wantFrom, requestFrom, calledFrom, pendFrom, busyFrom, agesOf, readValuesFrom, writtenValuesFrom, arrivalsOf, readSetFrom, writtenSetFrom}
-use Rattle.server_changes.specs.Changes.{newAgeB, leaveB, joinB, unpackTo, versionsIn, unpackB}
+use Rattle.server_state.specs.Layout.{ageWidth, setRow, ageFrom, arrivalFrom, nextAgeFrom, nextArrivalFrom, workFrom, wantFrom, requestFrom, calledFrom, pendFrom, busyFrom, agesOf, readValuesFrom, writtenValuesFrom, readVersionsFrom, writtenVersionsFrom, arrivalsOf, readSetFrom, writtenSetFrom}
+use Rattle.server_changes.specs.Changes.{newAgeB, leaveB, joinB, unpackOne, unpackTo, unpackB}
 
 pub leave-stores : (i : ℕ) (s : List ℕ) {s₁ s₂ s₃ s₄ s₅ s₆ s₇ s₈ : List ℕ} → s₁ ≡ set s (wantFrom + i) 0 → s₂ ≡ setU64 s₁ (arrivalFrom + i * ageWidth) 0 → s₃ ≡ set s₂ (requestFrom + i) 0
     → s₄ ≡ clearTo s₃ (readSetFrom i) setRow → s₅ ≡ clearTo s₄ (writtenSetFrom i) setRow
@@ -25,11 +25,18 @@ pub join-stores : (i k a : ℕ) (s : List ℕ) {n : ℕ} {s₁ s₂ s₃ s₄ s�
 unfolding joinB
 join-stores i k a s en e₁ e₂ e₃ e₄ e₅ = rw (e₅, e₄, e₃, e₂, e₁, en)
 
-pub unpack-stores : (i : ℕ) (m s : List ℕ) {n w t : ℕ} {s₁ s₂ s₃ s₄ : List ℕ} → n ≡ u16At m (recordAt + readCountFrom) → w ≡ u16At m (recordAt + writeCountFrom) → t ≡ transactionOf m
-    → s₁ ≡ setU32 s (workFrom + i * numberWidth) t → s₂ ≡ versionsIn m i s₁ 32 → s₃ ≡ unpackTo m s₂ (readSetFrom i) (readValuesFrom i) 0 n
-    → s₄ ≡ unpackTo m s₃ (writtenSetFrom i) (writtenValuesFrom i) n w → s₄ ≡ unpackB i m s
+pub unpack-stores : (i : ℕ) (m s : List ℕ) {n w t : ℕ} {s₁ s₂ s₃ : List ℕ} → n ≡ sentReads m → w ≡ sentWrites m → t ≡ transactionOf m
+    → s₁ ≡ setU32 s (workFrom + i * numberWidth) t → s₂ ≡ unpackTo m s₁ (readSetFrom i) (readValuesFrom i) (readVersionsFrom i) 0 n
+    → s₃ ≡ unpackTo m s₂ (writtenSetFrom i) (writtenValuesFrom i) (writtenVersionsFrom i) n w → s₃ ≡ unpackB i m s
 unfolding unpackB
-unpack-stores i m s en ew et e₁ e₂ e₃ e₄ = rw (e₄, e₃, e₂, e₁, en, ew, et)
+unpack-stores i m s en ew et e₁ e₂ e₃ = rw (e₃, e₂, e₁, en, ew, et)
+
+-- an entry: r is the record's place, n and w are its sizes
+pub entry-stores : (m s : List ℕ) (at from seen e : ℕ) {r n w a v x : ℕ} {s₁ s₂ s₃ : List ℕ} → r ≡ recordAt m → n ≡ sentReads m → w ≡ sentWrites m
+    → a ≡ getD m (r + headerLength + e) 0 → v ≡ u64At m (r + headerLength + (n + w) + e * valueLength) → x ≡ entryVersion m e
+    → s₁ ≡ addTo s at a → s₂ ≡ setU64 s₁ (from + a * valueWidth) v → s₃ ≡ setU32 s₂ (seen + a * numberWidth) x → s₃ ≡ unpackOne m s at from seen e
+unfolding unpackOne
+entry-stores m s at from seen e er en ew ea ev ex e₁ e₂ e₃ = rw (e₃, e₂, e₁, ex, ev, ea, er, en, ew)
 
 -- the age that the counter gives, and the counter one higher
 pub age-stores : (s : List ℕ) (i : ℕ) {n : ℕ} {a : Aged} {s₁ s₂ : List ℕ} → n ≡ agesOf s → a ≡ agedOf (record { next = n }) → s₁ ≡ setU64 s (ageFrom + i * ageWidth) (a .age)

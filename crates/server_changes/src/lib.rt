@@ -3,10 +3,11 @@ ghost use mathlib.Core.Path.{_≡_};
 ghost use Prim.Native.Nat.{_+_, _*_, _≤_, _<_};
 ghost use lib.ListN.{length};
 ghost use Rattle.le.specs.Le.{setU64};
-ghost use Rattle.message.specs.Commit.{addressesAt, entriesOf};
+ghost use Rattle.message.specs.Layout.{versionWidth};
+ghost use Rattle.message.specs.Commit.{versionsAt, shortestCommit, addressesAt, entriesOf};
 ghost use Rattle.layout.specs.Record.{entryLength};
-ghost use Rattle.server_state.specs.Layout.{ageWidth, serverLength, valueRow, setRow, counterLimit, ageFrom, nextAgeFrom, agesOf, arrivalsOf, lastOf};
-ghost use Rattle.server_changes.specs.Changes.{newAgeB, ageB, noticeB, keepsAgeB, freePageB, freePagesTo, freeOneB, freeTo, finishB, leaveB, joinB, joinReadB, joinWriteB, unpackOne, unpackTo, versionsIn, unpackB, joinCommitB, listB, unlistB, markBusyB, answeredB, lockOneB, lockTo, loosenB, askedB, calledB, lockPageB, lockObjectB, versionOneB, versionsTo, valueOneB, valuesTo, writeB};
+ghost use Rattle.server_state.specs.Layout.{ageWidth, serverLength, valueRow, versionRow, setRow, counterLimit, ageFrom, nextAgeFrom, agesOf, arrivalsOf, lastOf};
+ghost use Rattle.server_changes.specs.Changes.{newAgeB, ageB, noticeB, keepsAgeB, freePageB, freePagesTo, freeOneB, freeTo, finishB, leaveB, joinB, joinReadB, joinWriteB, unpackOne, unpackTo, unpackB, joinCommitB, listB, unlistB, markBusyB, answeredB, lockOneB, lockTo, loosenB, askedB, calledB, lockPageB, lockObjectB, valueOneB, valuesTo, writeB};
 ghost use Rattle.server_changes.specs.Frees.{freeFrom};
 use server_state::AGE;
 use server_state::AGE_KEPT;
@@ -25,8 +26,8 @@ use server_state::NEXT_ARRIVAL;
 use server_state::PEND;
 use server_state::READ_SET;
 use server_state::READ_VALUE;
+use server_state::READ_VERSION;
 use server_state::REQUEST;
-use server_state::SENT_VERSION;
 use server_state::UNFINISHED;
 use server_state::VALUE;
 use server_state::VALUE_ROW;
@@ -37,6 +38,7 @@ use server_state::WHOLE;
 use server_state::WORK;
 use server_state::WRITTEN_SET;
 use server_state::WRITTEN_VALUE;
+use server_state::WRITTEN_VERSION;
 use station_state::NUMBER_WIDTH;
 use station_state::PAGE_SET_WIDTH;
 use station_state::SET_ROW;
@@ -212,72 +214,51 @@ pub fn join_write(s: &mut [u8], i: usize, a: usize)
     station_state::add_to(s, WRITTEN_SET + i * SET_ROW, a);
 }
 
-// How many entries the record of a commit has.
-fn entries(m: &[u8]) -> usize
-    requires { ⌜ addressesAt ≤ length (now m) ⌝ }
-    ensures { λ r. ⌜ r ≡ entriesOf (now (m .entry)) ⌝ }
+// Entry e of a commit's record joins the sets from `at`, its value those from `from` and its version those from `seen`.
+fn unpack_one(s: &mut [u8], m: &[u8], at: usize, from: usize, seen: usize, e: usize)
+    requires { ⌜ (length (now s) ≡ serverLength) × (shortestCommit ≤ length (now m)) × (addressesAt (now m) + entryLength * entriesOf (now m) ≤ length (now m)) × (versionsAt + entriesOf (now m) * versionWidth ≤ length (now m)) × (at + setRow ≤ serverLength) × (from + valueRow ≤ serverLength) × (seen + versionRow ≤ serverLength) × (e < entriesOf (now m)) ⌝ }
+    ensures { λ _. ⌜ now (s .exit) ≡ unpackOne (now (m .entry)) (now (s .entry)) at from seen e ⌝ }
 {
-    le::index(le::get_u16(m, message::RECORD_READS))
-        + le::index(le::get_u16(m, message::RECORD_WRITES))
-}
-
-// Entry e of a commit's record joins the sets from `at`, its value those from `from`.
-fn unpack_one(s: &mut [u8], m: &[u8], at: usize, from: usize, e: usize)
-    requires { ⌜ (length (now s) ≡ serverLength) × (addressesAt ≤ length (now m)) × (addressesAt + entryLength * entriesOf (now m) ≤ length (now m)) × (at + setRow ≤ serverLength) × (from + valueRow ≤ serverLength) × (e < entriesOf (now m)) ⌝ }
-    ensures { λ _. ⌜ now (s .exit) ≡ unpackOne (now (m .entry)) (now (s .entry)) at from e ⌝ }
-{
-    let a = le::index(le::wide(m[message::ADDRESSES + e]));
-    let v = le::get_u64(m, message::ADDRESSES + entries(m) + e * record::VALUE);
+    let p = message::record_at(m) + record::HEADER;
+    let k = message::sent_reads(m) + message::sent_writes(m);
+    let a = le::index(le::wide(m[p + e]));
+    let v = le::get_u64(m, p + k + e * record::VALUE);
+    let n = le::get_u32(m, message::VERSIONS + e * message::VERSION_WIDTH);
     station_state::add_to(s, at, a);
     le::put_u64(s, from + a * VALUE_WIDTH, v);
+    le::put_u32(s, seen + a * NUMBER_WIDTH, n);
 }
 
 // n entries from the first on.
-fn unpack(s: &mut [u8], m: &[u8], at: usize, from: usize, first: usize, n: usize)
-    requires { ⌜ (length (now s) ≡ serverLength) × (addressesAt ≤ length (now m)) × (addressesAt + entryLength * entriesOf (now m) ≤ length (now m)) × (at + setRow ≤ serverLength) × (from + valueRow ≤ serverLength) × (first + n ≤ entriesOf (now m)) ⌝ }
-    ensures { λ _. ⌜ now (s .exit) ≡ unpackTo (now (m .entry)) (now (s .entry)) at from first n ⌝ }
+fn unpack(s: &mut [u8], m: &[u8], at: usize, from: usize, seen: usize, first: usize, n: usize)
+    requires { ⌜ (length (now s) ≡ serverLength) × (shortestCommit ≤ length (now m)) × (addressesAt (now m) + entryLength * entriesOf (now m) ≤ length (now m)) × (versionsAt + entriesOf (now m) * versionWidth ≤ length (now m)) × (at + setRow ≤ serverLength) × (from + valueRow ≤ serverLength) × (seen + versionRow ≤ serverLength) × (first + n ≤ entriesOf (now m)) ⌝ }
+    ensures { λ _. ⌜ now (s .exit) ≡ unpackTo (now (m .entry)) (now (s .entry)) at from seen first n ⌝ }
 {
     let mut k = 0;
     while k < n {
-        unpack_one(s, m, at, from, first + k);
+        unpack_one(s, m, at, from, seen, first + k);
         k += 1;
-    }
-}
-
-// The versions that came with a commit.
-fn versions_in(s: &mut [u8], m: &[u8], i: usize)
-    requires { ⌜ (length (now s) ≡ serverLength) × (addressesAt ≤ length (now m)) × (i < 8) ⌝ }
-    ensures { λ _. ⌜ now (s .exit) ≡ versionsIn (now (m .entry)) i (now (s .entry)) 32 ⌝ }
-{
-    let mut p = 0;
-    while p < 32 {
-        le::put_u32(
-            s,
-            SENT_VERSION + i * VERSION_ROW + p * NUMBER_WIDTH,
-            le::get_u32(m, message::VERSIONS + p * message::VERSION_WIDTH),
-        );
-        p += 1;
     }
 }
 
 // The work of a commit goes to i's entry, whose sets are empty.
 pub fn unpack_commit(s: &mut [u8], m: &[u8], i: usize)
-    requires { ⌜ (length (now s) ≡ serverLength) × (addressesAt ≤ length (now m)) × (addressesAt + entryLength * entriesOf (now m) ≤ length (now m)) × (i < 8) ⌝ }
+    requires { ⌜ (length (now s) ≡ serverLength) × (shortestCommit ≤ length (now m)) × (addressesAt (now m) + entryLength * entriesOf (now m) ≤ length (now m)) × (versionsAt + entriesOf (now m) * versionWidth ≤ length (now m)) × (i < 8) ⌝ }
     ensures { λ _. ⌜ now (s .exit) ≡ unpackB i (now (m .entry)) (now (s .entry)) ⌝ }
 {
-    let n = le::index(le::get_u16(m, message::RECORD_READS));
-    let w = le::index(le::get_u16(m, message::RECORD_WRITES));
+    let n = message::sent_reads(m);
+    let w = message::sent_writes(m);
     le::put_u32(
         s,
         WORK + i * NUMBER_WIDTH,
         le::get_u32(m, message::TRANSACTION),
     );
-    versions_in(s, m, i);
     unpack(
         s,
         m,
         READ_SET + i * SET_ROW,
         READ_VALUE + i * VALUE_ROW,
+        READ_VERSION + i * VERSION_ROW,
         0,
         n,
     );
@@ -286,13 +267,14 @@ pub fn unpack_commit(s: &mut [u8], m: &[u8], i: usize)
         m,
         WRITTEN_SET + i * SET_ROW,
         WRITTEN_VALUE + i * VALUE_ROW,
+        WRITTEN_VERSION + i * VERSION_ROW,
         n,
         w,
     );
 }
 
 pub fn join_commit(s: &mut [u8], m: &[u8], i: usize)
-    requires { ⌜ (length (now s) ≡ serverLength) × (addressesAt ≤ length (now m)) × (addressesAt + entryLength * entriesOf (now m) ≤ length (now m)) × (i < 8) × (arrivalsOf (now s) < counterLimit) ⌝ }
+    requires { ⌜ (length (now s) ≡ serverLength) × (shortestCommit ≤ length (now m)) × (addressesAt (now m) + entryLength * entriesOf (now m) ≤ length (now m)) × (versionsAt + entriesOf (now m) * versionWidth ≤ length (now m)) × (i < 8) × (arrivalsOf (now s) < counterLimit) ⌝ }
     ensures { λ _. ⌜ now (s .exit) ≡ joinCommitB i (now (m .entry)) (now (s .entry)) ⌝ }
 {
     join(s, i, 3, 0);
@@ -402,46 +384,26 @@ pub fn lock_object(s: &mut [u8], i: usize, a: usize)
     le::put_u8(s, LOCK + a, holder(i));
 }
 
-fn version_one(s: &mut [u8], i: usize, n: u32, p: usize)
-    requires { ⌜ (length (now s) ≡ serverLength) × (i < 8) × (p < 32) ⌝ }
-    ensures { λ _. ⌜ now (s .exit) ≡ versionOneB i n (now (s .entry)) p ⌝ }
-{
-    if s[WRITTEN_SET + i * SET_ROW + p] == 0 {
-        return;
-    }
-    le::put_u32(s, VERSION + p * NUMBER_WIDTH, n);
-}
-
-// The pages that i's entry writes take version n.
-fn versions(s: &mut [u8], i: usize, n: u32)
-    requires { ⌜ (length (now s) ≡ serverLength) × (i < 8) ⌝ }
-    ensures { λ _. ⌜ now (s .exit) ≡ versionsTo i n (now (s .entry)) 32 ⌝ }
-{
-    let mut p = 0;
-    while p < 32 {
-        version_one(s, i, n, p);
-        p += 1;
-    }
-}
-
-fn value_one(s: &mut [u8], i: usize, a: usize)
+// What i's entry writes at address a is written there, with version n.
+fn value_one(s: &mut [u8], i: usize, n: u32, a: usize)
     requires { ⌜ (length (now s) ≡ serverLength) × (i < 8) × (a < 256) ⌝ }
-    ensures { λ _. ⌜ now (s .exit) ≡ valueOneB i (now (s .entry)) a ⌝ }
+    ensures { λ _. ⌜ now (s .exit) ≡ valueOneB i n (now (s .entry)) a ⌝ }
 {
     if station_state::member(s, WRITTEN_SET + i * SET_ROW, a) {
         let v = le::get_u64(s, WRITTEN_VALUE + i * VALUE_ROW + a * VALUE_WIDTH);
         le::put_u64(s, VALUE + a * VALUE_WIDTH, v);
+        le::put_u32(s, VERSION + a * NUMBER_WIDTH, n);
         return;
     }
 }
 
-fn values(s: &mut [u8], i: usize)
+fn values(s: &mut [u8], i: usize, n: u32)
     requires { ⌜ (length (now s) ≡ serverLength) × (i < 8) ⌝ }
-    ensures { λ _. ⌜ now (s .exit) ≡ valuesTo i (now (s .entry)) 256 ⌝ }
+    ensures { λ _. ⌜ now (s .exit) ≡ valuesTo i n (now (s .entry)) 256 ⌝ }
 {
     let mut a = 0;
     while a < 256 {
-        value_one(s, i, a);
+        value_one(s, i, n, a);
         a += 1;
     }
 }
@@ -453,6 +415,5 @@ pub fn write(s: &mut [u8], i: usize)
 {
     let n = le::get_u32(s, LAST) + 1;
     le::put_u32(s, LAST, n);
-    versions(s, i, n);
-    values(s, i);
+    values(s, i, n);
 }

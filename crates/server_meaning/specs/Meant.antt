@@ -12,7 +12,7 @@ use Rattle.cells.specs.Cells.{Cells, view, Holds, begin}
 use Rattle.line.specs.Messages.{Work}
 use Rattle.line.specs.Server.{Server, Waiter, Want, NoWant, WantRead, WantWrite, WantCommit, noWork}
 use Rattle.station_meaning.specs.Meant.{within, valueIf}
-use Rattle.server_state.specs.Layout.{valueCell, readValueCell, writtenValueCell, ageCell, arrivalCell, nextAgeCell, nextArrivalCell, versionCell, sentVersionCell, workCell, latestCell, listedCell, lastCell, askedCell, lockCell, wholeCell, readSetCell, writtenSetCell, kindCell, wantCell, requestCell, calledCell, pendCell, busyCell, unfinishedCell, ageKeptCell, table, serverLength}
+use Rattle.server_state.specs.Layout.{valueCell, readValueCell, writtenValueCell, ageCell, arrivalCell, nextAgeCell, nextArrivalCell, versionCell, readVersionCell, writtenVersionCell, workCell, latestCell, listedCell, lastCell, askedCell, lockCell, wholeCell, readSetCell, writtenSetCell, kindCell, wantCell, requestCell, calledCell, pendCell, busyCell, unfinishedCell, ageKeptCell, table, serverLength}
 
 -- "0 nothing, 1 a read, 2 a write, 3 a commit"
 abbrev pub wantAs : ℕ → Want
@@ -25,7 +25,8 @@ rowWork C i =
       transaction = C workCell i 0;
       reads = λ a. valueIf (within (C readSetCell i) a) (C readValueCell i a);
       writes = λ a. valueIf (within (C writtenSetCell i) a) (C writtenValueCell i a);
-      versions = λ p. C sentVersionCell i p;
+      readVersions = λ a. cond (within (C readSetCell i) a) (C readVersionCell i a) 0;
+      writtenVersions = λ a. cond (within (C writtenSetCell i) a) (C writtenVersionCell i a) 0;
     }
 
 abbrev pub waiterC : Cells → ℕ → Waiter
@@ -47,7 +48,7 @@ meantC C =
     record {
       kind = λ i. C kindCell i 0;
       val = λ a. C valueCell 0 a;
-      ver = λ p. C versionCell 0 p;
+      ver = λ a. C versionCell 0 a;
       last = C lastCell 0 0;
       ol = λ a. C lockCell 0 a;
       wl = λ p. C wholeCell 0 p;

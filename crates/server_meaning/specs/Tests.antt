@@ -1,7 +1,7 @@
 -- What the server's bytes are read for means the model's field or test.
 use Prim.Native.Nat.{ℕ, zero, suc, _+_, _*_, _≤_, _<_, _/_, _%_, _^_}
 use mathlib.Core.Path.{_≡_, refl, sym, ap, ap₂, _∙_, fun-ext}
-use mathlib.Core.Bool.{Bool, true, false, not, _&&_, _||_, cond, and-comm, and-assoc, and-true, and-false, Bool·not-not}
+use mathlib.Core.Bool.{Bool, true, false, not, _&&_, _||_, cond, and-comm, and-assoc, and-true, and-false, Bool·not-not, false≢true}
 use mathlib.Core.List.{List}
 use native.Mathlib.Nat.{lt-of-le-of-lt}
 use native.Mathlib.Numerals.{add-one}
@@ -13,25 +13,24 @@ use borrow.Author.Tests.{lt-ltb}
 use Rattle.lists.specs.Tests.{and-l, and-r}
 use Rattle.sets.specs.Base.{has, any}
 use Rattle.sets.specs.Laws.{byB, byEq, eqb-same, eqb-yes, eqb-no, any-no, any-yes, any-some, any-ext, ltb-yes}
-use Rattle.le.specs.Le.{u16At}
 use Rattle.cells.specs.Num.{AllBytes}
 use Rattle.cells.specs.Upd.{eqb-diff}
 use Rattle.cells.specs.Bits.{tb, tb-zero, tb-or, tb-and, tb-test, tb-high}
 use Rattle.cells.specs.Cells.{view, view-col, get8, get32, get64, cell-lt}
+use Rattle.cells.specs.Sets.{test8}
 use Rattle.cells.specs.Loops.{anyTo, any-to, any-same, mask-is, mask-lt}
 use Rattle.cells.specs.Pages.{any-bits, any-byte, page-any, page-join, any-all}
 use Rattle.line.specs.Messages.{locking, Work}
-use Rattle.line.specs.Server.{Server, isWant, waits, other, wants, wantsPage, writesPage, usedPage, lockOn, badNumber, unlocked, unavailable, openCall, openAsk, stale, lockedAt, locked, fault, earlier, blocks, blockedAt, blocked, shut, concerned, hinders, allAnswered, edge}
-use Rattle.message.specs.Commit.{recordAt, addressesAt}
-use Rattle.record.specs.Check.{writeCountFrom, readCountFrom}
+use Rattle.line.specs.Server.{Server, isWant, waits, other, wants, wantsPage, writesPage, usedPage, lockOn, badNumber, unlocked, unavailable, openCall, openAsk, staleAt, stale, lockedAt, locked, fault, earlier, blocks, blockedAt, blocked, shut, concerned, hinders, allAnswered, edge}
+use Rattle.message.specs.Commit.{addressesAt, sentReads, sentWrites}
 use Rattle.station_state.specs.Layout.{pageSetWidth, numberWidth, valueWidth, hasBit}
 use Rattle.line.specs.Apart.{ageCounts}
 use Rattle.server_state.specs.Valid.{ageless}
-use Rattle.server_state.specs.Layout.{ageWidth, valueCell, readValueCell, writtenValueCell, ageCell, arrivalCell, nextAgeCell, nextArrivalCell, versionCell, sentVersionCell, latestCell, listedCell, lastCell, askedCell, lockCell, wholeCell, readSetCell, writtenSetCell, kindCell, wantCell, requestCell, calledCell, pendCell, busyCell, unfinishedCell, ageKeptCell, valueFrom, table, ageFrom, arrivalFrom, nextAgeFrom, nextArrivalFrom, versionFrom, latestFrom, listedFrom, lastFrom, askedFrom, lockFrom, wholeFrom, kindFrom, wantFrom, requestFrom, calledFrom, pendFrom, busyFrom, unfinishedFrom, ageKeptFrom, sentVersionsFrom, readSetFrom, writtenSetFrom, valueOf, ageOf, arrivalOf, agesOf, arrivalsOf, versionOf, sentVersion, latestOf, listedOf, lastOf, askedOf, lockOf, wholeOf, readSet, writtenSet, kindOf, wantOf, requestOf, calledOf, pendOf, busyOf, unfinishedOf, ageKeptOf, waitsB, otherB, wantedOn}
+use Rattle.server_state.specs.Layout.{ageWidth, valueCell, readValueCell, writtenValueCell, ageCell, arrivalCell, nextAgeCell, nextArrivalCell, versionCell, readVersionCell, writtenVersionCell, latestCell, listedCell, lastCell, askedCell, lockCell, wholeCell, readSetCell, writtenSetCell, kindCell, wantCell, requestCell, calledCell, pendCell, busyCell, unfinishedCell, ageKeptCell, valueFrom, table, ageFrom, arrivalFrom, nextAgeFrom, nextArrivalFrom, versionFrom, latestFrom, listedFrom, lastFrom, askedFrom, lockFrom, wholeFrom, kindFrom, wantFrom, requestFrom, calledFrom, pendFrom, busyFrom, unfinishedFrom, ageKeptFrom, readVersionsFrom, writtenVersionsFrom, readSetFrom, writtenSetFrom, valueOf, ageOf, arrivalOf, agesOf, arrivalsOf, versionOf, readVersion, writtenVersion, latestOf, listedOf, lastOf, askedOf, lockOf, wholeOf, readSet, writtenSet, kindOf, wantOf, requestOf, calledOf, pendOf, busyOf, unfinishedOf, ageKeptOf, waitsB, otherB, wantedOn}
 use Rattle.server_state.specs.Valid.{valid}
 use Rattle.server_state.specs.Facts.{valid-ranged}
-use Rattle.server_tests.specs.Tests.{lockAtB, lockOnB, badNumberB, unlockedAt, unlockedB, dropsLockedB, dropsOwnB, openCallB, openAskB, staleAt, staleB, lockedAtB, lockedOnB, lockedB, faultB, earlierB, blocksB, blockedAtB, blockedOnB, blockedB, shutB, shutOutB, concernsAt, concernedB, concernedSet, hindersB, hinderedB, waitsToWriteB, unavailableAt, unavailableB, informedB, edgeAtB, edgeOnB, edgeB, edgeSet}
-use Rattle.station_meaning.specs.Meant.{within}
+use Rattle.server_tests.specs.Tests.{lockAtB, lockOnB, badNumberB, unlockedAt, unlockedB, dropsLockedB, dropsOwnB, openCallB, openAskB, otherVersion, staleAtB, staleOnB, staleB, lockedAtB, lockedOnB, lockedB, faultB, earlierB, blocksB, blockedAtB, blockedOnB, blockedB, shutB, shutOutB, concernsAt, concernedB, concernedSet, hindersB, hinderedB, waitsToWriteB, unavailableAt, unavailableB, informedB, edgeAtB, edgeOnB, edgeB, edgeSet}
+use Rattle.station_meaning.specs.Meant.{within, valueIf}
 use Rattle.station_meaning.specs.Tests.{has-if}
 use Rattle.server_meaning.specs.Meant.{wantAs, workOf, Is, start}
 
@@ -134,8 +133,8 @@ module _ {s : List ℕ} {m : Server} (h : Is s m) where
   pub arrivals-at : arrivalsOf s ≡ m .arrivals
   arrivals-at = get64 (start h) nextArrivalCell 0 0 nextArrivalFrom refl refl (omega arith) (omega arith) ∙ ap (λ (n : Server). n .arrivals) (h .is)
 
-  pub version-at : (p : ℕ) → p < 32 → versionOf s p ≡ m .ver p
-  version-at p l = get32 (start h) versionCell 0 p (versionFrom + p * numberWidth) refl (omega arith) (omega arith) l ∙ ap (λ (n : Server). n .ver p) (h .is)
+  pub version-at : (a : ℕ) → a < 256 → versionOf s a ≡ m .ver a
+  version-at a l = get32 (start h) versionCell 0 a (versionFrom + a * numberWidth) refl (omega arith) (omega arith) l ∙ ap (λ (n : Server). n .ver a) (h .is)
 
   pub latest-at : (i : ℕ) → i < 8 → latestOf s i ≡ m .latest i
   latest-at i l = get32 (start h) latestCell i 0 (latestFrom + i * numberWidth) refl (omega arith) l (omega arith) ∙ ap (λ (n : Server). n .latest i) (h .is)
@@ -180,8 +179,8 @@ module _ {s : List ℕ} {m : Server} (h : Is s m) where
   pub value-lt : (a : ℕ) → a < 256 → valueOf s a < 2 ^ 64
   value-lt a l = rw (get64 (start h) valueCell 0 a (valueFrom + a * valueWidth) refl (omega arith) (omega arith) l) (cell-lt (start h) valueCell 0 a)
 
-  pub version-lt : (p : ℕ) → p < 32 → versionOf s p < 2 ^ 32
-  version-lt p l = rw (get32 (start h) versionCell 0 p (versionFrom + p * numberWidth) refl (omega arith) (omega arith) l) (cell-lt (start h) versionCell 0 p)
+  pub version-lt : (a : ℕ) → a < 256 → versionOf s a < 2 ^ 32
+  version-lt a l = rw (get32 (start h) versionCell 0 a (versionFrom + a * numberWidth) refl (omega arith) (omega arith) l) (cell-lt (start h) versionCell 0 a)
 
   pub latest-lt : (i : ℕ) → i < 8 → latestOf s i < 2 ^ 32
   latest-lt i l = rw (get32 (start h) latestCell i 0 (latestFrom + i * numberWidth) refl (omega arith) l (omega arith)) (cell-lt (start h) latestCell i 0)
@@ -306,8 +305,11 @@ module _ {s : List ℕ} {m : Server} (h : Is s m) where
 
   -- a validating commit's faults
 
-  sentVersion-at : (i p : ℕ) → i < 8 → p < 32 → sentVersion s i p ≡ view table 0 s sentVersionCell i p
-  sentVersion-at i p li lp = get32 (start h) sentVersionCell i p (sentVersionsFrom i + p * numberWidth) refl (omega arith) li lp
+  readVersion-at : (i a : ℕ) → i < 8 → a < 256 → readVersion s i a ≡ view table 0 s readVersionCell i a
+  readVersion-at i a li la = get32 (start h) readVersionCell i a (readVersionsFrom i + a * numberWidth) refl (omega arith) li la
+
+  writtenVersion-at : (i a : ℕ) → i < 8 → a < 256 → writtenVersion s i a ≡ view table 0 s writtenVersionCell i a
+  writtenVersion-at i a li la = get32 (start h) writtenVersionCell i a (writtenVersionsFrom i + a * numberWidth) refl (omega arith) li la
 
   used-at : (i p : ℕ) → i < 8 → p < 32 → not (eqb (wantedOn s i p) 0) ≡ usedPage (workOf s i) p
   used-at i p li lp =
@@ -319,11 +321,49 @@ module _ {s : List ℕ} {m : Server} (h : Is s m) where
       sym
       (ap₂ _||_ (has-if (within (view table 0 s readSetCell i) (p * 8 + o)) (view table 0 s readValueCell i (p * 8 + o))) (has-if (within (view table 0 s writtenSetCell i) (p * 8 + o)) (view table 0 s writtenValueCell i (p * 8 + o))))))
 
+  -- "one version for each entry": of an object that is read, or written
+  stale-one : (b : Bool) (v x w : ℕ) → (b && not (eqb v w)) ≡ (has (valueIf b x) && not (eqb (cond b v 0) w))
+  stale-one true v x w = refl
+  stale-one false v x w = refl
+
+  stale-object : (i p o : ℕ) → i < 8 → p < 32 → o < 8 → staleAtB s i p o ≡ staleAt m (workOf s i) (p * 8 + o)
+  unfolding staleAtB otherVersion hasBit
+  stale-object i p o li lp lo =
+      let a = p * 8 + o in
+      let la : a < 256 = omega arith in
+      let d : a / 8 ≡ p = omega arith in
+      let r : a % 8 ≡ o = omega arith in
+      rw (
+        test8 (start h) readSetCell i p o (readSetFrom i + p) (omega arith) li lp refl,
+        test8 (start h) writtenSetCell i p o (writtenSetFrom i + p) (omega arith) li lp refl,
+        readVersion-at i a li la,
+        writtenVersion-at i a li la,
+        version-at a la,
+        d,
+        r,
+      )
+      (ap₂ _||_
+      (stale-one (tb (view table 0 s readSetCell i p) o) (view table 0 s readVersionCell i a) (view table 0 s readValueCell i a) (m .ver a))
+      (stale-one (tb (view table 0 s writtenSetCell i p) o) (view table 0 s writtenVersionCell i a) (view table 0 s writtenValueCell i a) (m .ver a)))
+
+  -- a page of which nothing is used is not looked at
+  stale-none : (i p : ℕ) → usedPage (workOf s i) p ≡ false → any 8 (λ o. staleAt m (workOf s i) (p * 8 + o)) ≡ false
+  stale-none i p e = no-eight (λ o. staleAt m (workOf s i) (p * 8 + o)) (λ o l. quiet (has ((workOf s i) .reads (p * 8 + o))) (has ((workOf s i) .writes (p * 8 + o))) _ _ (any-no 8 (λ o. has ((workOf s i) .reads (p * 8 + o)) || has ((workOf s i) .writes (p * 8 + o))) e o l))
+    where
+      quiet : (a b c d : Bool) → (a || b) ≡ false → ((a && c) || (b && d)) ≡ false
+      quiet false false c d q = refl
+      quiet false true c d q = absurd (false≢true (sym q))
+      quiet true b c d q = absurd (false≢true (sym q))
+
   pub stale-at : (i : ℕ) → i < 8 → staleB s i ≡ stale m (workOf s i)
-  unfolding staleB staleAt
-  stale-at i l =
-      any-to (staleAt s i) (λ p. usedPage (workOf s i) p && not (eqb ((workOf s i) .versions p) (m .ver p))) 32
-      (λ p q. rw (used-at i p l q, sentVersion-at i p l q, version-at p q))
+  unfolding staleB staleOnB
+  stale-at i l = all-pages (staleAt m (workOf s i)) (staleOnB s i) on-page
+    where
+      on-page : (p : ℕ) → p < 32 → staleOnB s i p ≡ any 8 (λ o. staleAt m (workOf s i) (p * 8 + o))
+      on-page p lp =
+          byB (eqb (wantedOn s i p) 0)
+          (λ e. rw e (sym (stale-none i p (sym (used-at i p l lp) ∙ rw e))))
+          (λ e. rw e (any-to (staleAtB s i p) (λ o. staleAt m (workOf s i) (p * 8 + o)) 8 (λ o lo. stale-object i p o l lp lo)))
 
   pub locked-at : (i : ℕ) → i < 8 → lockedB s i ≡ locked m i
   unfolding lockedB lockedOnB lockedAtB
@@ -341,18 +381,18 @@ module _ {s : List ℕ} {m : Server} (h : Is s m) where
   -- "a locking commit that writes an unlocked object": the work's writes are at the addresses of the message's record
 
   pub unlocked-of : (i : ℕ) (x : List ℕ) (w : Work) → i < 8 → AllBytes x
-      → ((a : ℕ) → has (w .writes a) ≡ any (u16At x (recordAt + writeCountFrom)) (λ k. eqb a (getD x (addressesAt + u16At x (recordAt + readCountFrom) + k) 0))) → unlockedB s i x ≡ unlocked m i w
+      → ((a : ℕ) → has (w .writes a) ≡ any (sentWrites x) (λ k. eqb a (getD x (addressesAt x + sentReads x + k) 0))) → unlockedB s i x ≡ unlocked m i w
   unfolding unlockedB unlockedAt
   unlocked-of i x w l b named =
       rw (kind-at i l)
       (ap (λ c. locking (m .kind i) && c)
-      (any-to (unlockedAt s i x) (λ k. free (at k)) (u16At x (recordAt + writeCountFrom)) (λ k _. rw (lock-at (at k) (b (addressesAt + u16At x (recordAt + readCountFrom) + k)), whole-at (at k / 8) (omega (arith, b (addressesAt + u16At x (recordAt + readCountFrom) + k))), add-one i))
-      ∙ sym (any-through 256 (u16At x (recordAt + writeCountFrom)) (λ a. has (w .writes a)) free at named (λ k _. b (addressesAt + u16At x (recordAt + readCountFrom) + k)))
+      (any-to (unlockedAt s i x) (λ k. free (at k)) (sentWrites x) (λ k _. rw (lock-at (at k) (b (addressesAt x + sentReads x + k)), whole-at (at k / 8) (omega (arith, b (addressesAt x + sentReads x + k))), add-one i))
+      ∙ sym (any-through 256 (sentWrites x) (λ a. has (w .writes a)) free at named (λ k _. b (addressesAt x + sentReads x + k)))
       ∙ any-ext 256 (λ a. has (w .writes a) && free a) (λ a. has (w .writes a) && not (eqb (m .ol a) (suc i)) && not (eqb (m .wl (a / 8)) (suc i)))
       (λ a. sym (and-assoc (has (w .writes a)) (not (eqb (m .ol a) (suc i))) (not (eqb (m .wl (a / 8)) (suc i)))))))
     where
       at : ℕ → ℕ
-      at k = getD x (addressesAt + u16At x (recordAt + readCountFrom) + k) 0
+      at k = getD x (addressesAt x + sentReads x + k) 0
 
       free : ℕ → Bool
       free a = not (eqb (m .ol a) (suc i)) && not (eqb (m .wl (a / 8)) (suc i))

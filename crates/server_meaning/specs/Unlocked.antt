@@ -10,12 +10,11 @@ use lib.ListN.{getD, drop}
 use lib.Seq.{getD-drop}
 use Rattle.sets.specs.Base.{Val, some, has, any}
 use Rattle.sets.specs.Laws.{any-ext}
-use Rattle.le.specs.Le.{u16At}
 use Rattle.cells.specs.Num.{AllBytes}
 use Rattle.cells.specs.Loops.{any-suc}
 use Rattle.entries.specs.Entries.{valueIn}
 use Rattle.record_meaning.specs.Parse.{entriesAt, recordOf}
-use Rattle.message.specs.Commit.{addressesAt, recordAt}
+use Rattle.message.specs.Commit.{addressesAt, recordAt, sentReads, sentWrites}
 use Rattle.record.specs.Check.{writeCount, readCount, writeCountFrom, readCountFrom}
 use Rattle.layout.specs.Record.{headerLength}
 use Rattle.message_meaning.specs.Meant.{workAt}
@@ -47,16 +46,16 @@ has-at s k i (suc c) a =
     next j = ap (λ (n : ℕ). eqb a (getD s n 0)) (omega arith)
 
 -- the addresses that a commit writes
-pub wrote-at : (x : List ℕ) (a : ℕ) → has ((workAt x) .writes a) ≡ any (u16At x (recordAt + writeCountFrom)) (λ k. eqb a (getD x (addressesAt + u16At x (recordAt + readCountFrom) + k) 0))
+pub wrote-at : (x : List ℕ) (a : ℕ) → has ((workAt x) .writes a) ≡ any (sentWrites x) (λ k. eqb a (getD x (addressesAt x + sentReads x + k) 0))
 unfolding workAt recordOf
 wrote-at x a =
-    let n = readCount (drop recordAt x) in
-    has-at (drop recordAt x) (n + writeCount (drop recordAt x)) n (writeCount (drop recordAt x)) a
-    ∙ any-ext (writeCount (drop recordAt x)) (λ k. eqb a (getD (drop recordAt x) (headerLength + n + k) 0)) (λ k. eqb a (getD x (addressesAt + n + k) 0)) place
-    ∙ rw (← u16-behind recordAt x readCountFrom, ← u16-behind recordAt x writeCountFrom)
+    let n = readCount (drop (recordAt x) x) in
+    has-at (drop (recordAt x) x) (n + writeCount (drop (recordAt x) x)) n (writeCount (drop (recordAt x) x)) a
+    ∙ any-ext (writeCount (drop (recordAt x) x)) (λ k. eqb a (getD (drop (recordAt x) x) (headerLength + n + k) 0)) (λ k. eqb a (getD x (addressesAt x + n + k) 0)) place
+    ∙ rw (← u16-behind (recordAt x) x readCountFrom, ← u16-behind (recordAt x) x writeCountFrom)
   where
-    place : (k : ℕ) → eqb a (getD (drop recordAt x) (headerLength + readCount (drop recordAt x) + k) 0) ≡ eqb a (getD x (addressesAt + readCount (drop recordAt x) + k) 0)
-    place k = rw (getD-drop recordAt x (headerLength + readCount (drop recordAt x) + k) 0) (ap (λ (n : ℕ). eqb a (getD x n 0)) (omega arith))
+    place : (k : ℕ) → eqb a (getD (drop (recordAt x) x) (headerLength + readCount (drop (recordAt x) x) + k) 0) ≡ eqb a (getD x (addressesAt x + readCount (drop (recordAt x) x) + k) 0)
+    place k = rw (getD-drop (recordAt x) x (headerLength + readCount (drop (recordAt x) x) + k) 0) (ap (λ (n : ℕ). eqb a (getD x n 0)) (omega arith))
 
 pub unlocked-at : {s : List ℕ} {m : Server} → Is s m → (i : ℕ) (x : List ℕ) → i < 8 → AllBytes x → unlockedB s i x ≡ unlocked m i (workAt x)
 unlocked-at h i x l b = unlocked-of h i x (workAt x) l b (wrote-at x)

@@ -24,8 +24,9 @@ table =
     ∷ region ageWidth 8 1  -- arrival
     ∷ region ageWidth 1 1  -- next age
     ∷ region ageWidth 1 1  -- next arrival
-    ∷ region numberWidth 1 32  -- version
-    ∷ region numberWidth 8 32  -- sent version
+    ∷ region numberWidth 1 256  -- version
+    ∷ region numberWidth 8 256  -- read version
+    ∷ region numberWidth 8 256  -- written version
     ∷ region numberWidth 8 1  -- work
     ∷ region numberWidth 8 1  -- latest
     ∷ region pageSetWidth 8 1  -- listed
@@ -78,11 +79,14 @@ nextArrivalCell = nextAgeCell + 1
 abbrev pub versionCell : ℕ
 versionCell = nextArrivalCell + 1
 
-abbrev pub sentVersionCell : ℕ
-sentVersionCell = versionCell + 1
+abbrev pub readVersionCell : ℕ
+readVersionCell = versionCell + 1
+
+abbrev pub writtenVersionCell : ℕ
+writtenVersionCell = readVersionCell + 1
 
 abbrev pub workCell : ℕ
-workCell = sentVersionCell + 1
+workCell = writtenVersionCell + 1
 
 abbrev pub latestCell : ℕ
 latestCell = workCell + 1
@@ -132,7 +136,7 @@ unfinishedCell = busyCell + 1
 abbrev pub ageKeptCell : ℕ
 ageKeptCell = unfinishedCell + 1
 
--- the bytes of a row: a station's values by address, its versions by page, an object set for each page; of a page's eight values
+-- the bytes of a row: a station's values and its versions by address, an object set for each page; of a page's eight values, and of its versions
 abbrev rowOf : ℕ → ℕ
 rowOf k = (reg table k) .cols * (reg table k) .w
 
@@ -144,6 +148,9 @@ pageRow = 8 * valueWidth
 
 abbrev pub versionRow : ℕ
 versionRow = rowOf versionCell
+
+abbrev pub pageVersionRow : ℕ
+pageVersionRow = 8 * numberWidth
 
 abbrev pub setRow : ℕ
 setRow = rowOf readSetCell
@@ -194,19 +201,29 @@ nextArrivalFrom = base table nextArrivalCell
 abbrev pub arrivalsOf : List ℕ → ℕ
 arrivalsOf s = u64At s nextArrivalFrom
 
--- by page
+-- by address
 abbrev pub versionFrom : ℕ
 versionFrom = base table versionCell
 
+-- of the eight of a page
+abbrev pub pageVersionsFrom : ℕ → ℕ
+pageVersionsFrom p = versionFrom + p * pageVersionRow
+
 abbrev pub versionOf : List ℕ → ℕ → ℕ
-versionOf s p = u32At s (versionFrom + p * numberWidth)
+versionOf s a = u32At s (versionFrom + a * numberWidth)
 
--- a waiting commit's versions, by station and page, and its transaction
-abbrev pub sentVersionsFrom : ℕ → ℕ
-sentVersionsFrom i = base table sentVersionCell + i * versionRow
+-- a waiting commit's versions, by station and address: of what it read, and of what it wrote; and its transaction
+abbrev pub readVersionsFrom : ℕ → ℕ
+readVersionsFrom i = base table readVersionCell + i * versionRow
 
-abbrev pub sentVersion : List ℕ → ℕ → ℕ → ℕ
-sentVersion s i p = u32At s (sentVersionsFrom i + p * numberWidth)
+abbrev pub readVersion : List ℕ → ℕ → ℕ → ℕ
+readVersion s i a = u32At s (readVersionsFrom i + a * numberWidth)
+
+abbrev pub writtenVersionsFrom : ℕ → ℕ
+writtenVersionsFrom i = base table writtenVersionCell + i * versionRow
+
+abbrev pub writtenVersion : List ℕ → ℕ → ℕ → ℕ
+writtenVersion s i a = u32At s (writtenVersionsFrom i + a * numberWidth)
 
 abbrev pub workFrom : ℕ
 workFrom = base table workCell

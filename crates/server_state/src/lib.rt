@@ -15,12 +15,14 @@ use station_state::VALUE_WIDTH;
 // The width of an age or an arrival; what a station has too is as wide as there.
 pub const AGE_WIDTH: usize = 8;
 
-// The bytes of a row: a station's values by address, its versions by page; of a page's eight values.
+// The bytes of a row: a station's values and its versions by address; of a page's eight values, and of its versions.
 pub const VALUE_ROW: usize = 256 * VALUE_WIDTH;
 
 pub const PAGE_ROW: usize = 8 * VALUE_WIDTH;
 
-pub const VERSION_ROW: usize = 32 * NUMBER_WIDTH;
+pub const VERSION_ROW: usize = 256 * NUMBER_WIDTH;
+
+pub const PAGE_VERSION_ROW: usize = 8 * NUMBER_WIDTH;
 
 // Where each field stands: docs/STATE.md, "The server's state", in its order, each behind the field before it.
 pub const VALUE: usize = 0;
@@ -39,9 +41,11 @@ pub const NEXT_ARRIVAL: usize = NEXT_AGE + AGE_WIDTH;
 
 pub const VERSION: usize = NEXT_ARRIVAL + AGE_WIDTH;
 
-pub const SENT_VERSION: usize = VERSION + VERSION_ROW;
+pub const READ_VERSION: usize = VERSION + VERSION_ROW;
 
-pub const WORK: usize = SENT_VERSION + 8 * VERSION_ROW;
+pub const WRITTEN_VERSION: usize = READ_VERSION + 8 * VERSION_ROW;
+
+pub const WORK: usize = WRITTEN_VERSION + 8 * VERSION_ROW;
 
 pub const LATEST: usize = WORK + 8 * NUMBER_WIDTH;
 

@@ -7,14 +7,13 @@ use lib.ListN.{getD}
 use lib.Bits.{bitAnd}
 use lib.Dec.{eqb, ltb}
 use Rattle.sets.specs.Base.{turned}
-use Rattle.le.specs.Le.{u16At}
+use Rattle.le.specs.Le.{u32At}
 use Rattle.cells.specs.Loops.{anyTo, maskTo}
 use Rattle.message.specs.Layout.{stationOf, pageOf, transactionOf, pagesOf}
 use Rattle.message.specs.Layout as Message
-use Rattle.message.specs.Commit.{recordAt, addressesAt}
-use Rattle.record.specs.Check.{writeCountFrom, readCountFrom}
-use Rattle.station_state.specs.Layout.{hasBit}
-use Rattle.server_state.specs.Layout.{arrivalOf, versionOf, sentVersion, latestOf, listedOf, lastOf, askedOf, lockOf, wholeOf, writtenSet, unfinishedOf, pendOf, busyOf, lockingB, waitsB, otherB, wantedOn}
+use Rattle.message.specs.Commit.{addressesAt, sentReads, sentWrites}
+use Rattle.station_state.specs.Layout.{numberWidth, hasBit}
+use Rattle.server_state.specs.Layout.{arrivalOf, versionOf, readVersionsFrom, writtenVersionsFrom, latestOf, listedOf, lastOf, askedOf, lockOf, wholeOf, readSet, writtenSet, unfinishedOf, pendOf, busyOf, lockingB, waitsB, otherB, wantedOn}
 
 -- "a lock of its own" on the page
 unfoldable pub lockAtB : List ℕ → ℕ → ℕ → ℕ → Bool
@@ -34,11 +33,11 @@ badNumberB s i t =
 -- "a locking commit that writes an unlocked object": write k of the record
 unfoldable pub unlockedAt : List ℕ → ℕ → List ℕ → ℕ → Bool
 unlockedAt s i m k =
-    let a = getD m (addressesAt + u16At m (recordAt + readCountFrom) + k) 0 in
+    let a = getD m (addressesAt m + sentReads m + k) 0 in
     not (eqb (lockOf s a) (i + 1)) && not (eqb (wholeOf s (a / 8)) (i + 1))
 
 unfoldable pub unlockedB : List ℕ → ℕ → List ℕ → Bool
-unlockedB s i m = lockingB s i && anyTo (unlockedAt s i m) (u16At m (recordAt + writeCountFrom))
+unlockedB s i m = lockingB s i && anyTo (unlockedAt s i m) (sentWrites m)
 
 -- "7 dropping a page with a lock of its own"
 unfoldable pub dropsLockedB : List ℕ → ℕ → ℕ → ℕ → Bool
@@ -72,12 +71,20 @@ openAskB s i p t = eqb (wholeOf s p) (i + 1) && hasBit (askedOf s) p && not (eqb
 
 -- the gates of the pass
 
--- "a used page with another version"
-unfoldable pub staleAt : List ℕ → ℕ → ℕ → Bool
-staleAt s i p = not (eqb (wantedOn s i p) 0) && not (eqb (sentVersion s i p) (versionOf s p))
+-- "a used object with another version": object o of page p
+unfoldable pub otherVersion : List ℕ → ℕ → ℕ → Bool
+otherVersion s from a = not (eqb (u32At s (from + a * numberWidth)) (versionOf s a))
+
+unfoldable pub staleAtB : List ℕ → ℕ → ℕ → ℕ → Bool
+staleAtB s i p o =
+    (hasBit (readSet s i p) o && otherVersion s (readVersionsFrom i) (p * 8 + o)) || (hasBit (writtenSet s i p) o && otherVersion s (writtenVersionsFrom i) (p * 8 + o))
+
+-- a page of which nothing is used is not looked at
+unfoldable pub staleOnB : List ℕ → ℕ → ℕ → Bool
+staleOnB s i p = cond (eqb (wantedOn s i p) 0) false (anyTo (staleAtB s i p) 8)
 
 unfoldable pub staleB : List ℕ → ℕ → Bool
-staleB s i = anyTo (staleAt s i) 32
+staleB s i = anyTo (staleOnB s i) 32
 
 -- "exactly when a written object itself is locked by another": object o of page p
 unfoldable pub lockedAtB : List ℕ → ℕ → ℕ → ℕ → Bool
@@ -90,7 +97,7 @@ lockedOnB s i p = cond (eqb (writtenSet s i p) 0) false (anyTo (lockedAtB s i p)
 unfoldable pub lockedB : List ℕ → ℕ → Bool
 lockedB s i = anyTo (lockedOnB s i) 32
 
--- "number 4,294,967,295 already used, cause 4; a used page with another version, cause 2"; "a written object itself .. locked by another", cause 3
+-- "number 4,294,967,295 already used, cause 4; a used object with another version, cause 2"; "a written object itself .. locked by another", cause 3
 unfoldable pub faultB : List ℕ → ℕ → ℕ
 faultB s i = turned (eqb (lastOf s) 4294967295) 4 (turned (staleB s i) 2 (turned (lockedB s i) 3 0))
 

@@ -1,15 +1,13 @@
 // What the server asks of its state: number 6, the gates of the pass, who blocks a waiter.
 ghost use mathlib.Core.Path.{_≡_};
 ghost use mathlib.Core.Bool.{cond};
-ghost use Prim.Native.Nat.{_+_, _/_, _^_, _≤_, _<_};
+ghost use Prim.Native.Nat.{_+_, _*_, _/_, _^_, _≤_, _<_};
 ghost use lib.ListN.{length, getD};
-ghost use Rattle.le.specs.Le.{u16At};
 ghost use Rattle.message.specs.Layout.{messageLength, kindOf, stationOf, pageOf};
-ghost use Rattle.message.specs.Commit.{recordAt, addressesAt, entriesOf};
-ghost use Rattle.record.specs.Check.{readCountFrom};
-ghost use Rattle.server_state.specs.Layout.{serverLength, wantedOn};
+ghost use Rattle.message.specs.Commit.{shortestCommit, addressesAt, sentReads, entriesOf};
+ghost use Rattle.server_state.specs.Layout.{serverLength, versionRow, wantedOn};
 ghost use Rattle.server_tests.specs.Kinds.{ForServer};
-ghost use Rattle.server_tests.specs.Tests.{lockAtB, lockOnB, badNumberB, unlockedAt, unlockedB, dropsLockedB, dropsOwnB, unexpectedB, openCallB, openAskB, staleAt, staleB, lockedAtB, lockedOnB, lockedB, faultB, earlierB, shutB, shutOutB, unavailableAt, unavailableB};
+ghost use Rattle.server_tests.specs.Tests.{lockAtB, lockOnB, badNumberB, unlockedAt, unlockedB, dropsLockedB, dropsOwnB, unexpectedB, openCallB, openAskB, otherVersion, staleAtB, staleOnB, staleB, lockedAtB, lockedOnB, lockedB, faultB, earlierB, shutB, shutOutB, unavailableAt, unavailableB};
 ghost use Rattle.server_tests.specs.Shorter.{writtenBy};
 ghost use Rattle.server_tests.specs.Blockers.{joinTo, meetOn, meetSet, aheadB, aheadSet, holderAt, holdersOn, holderSet, blockersB};
 use server_state::AGE_WIDTH;
@@ -21,13 +19,14 @@ use server_state::LATEST;
 use server_state::LOCK;
 use server_state::PEND;
 use server_state::READ_SET;
-use server_state::SENT_VERSION;
+use server_state::READ_VERSION;
 use server_state::UNFINISHED;
 use server_state::VERSION;
 use server_state::VERSION_ROW;
 use server_state::WANT;
 use server_state::WHOLE;
 use server_state::WRITTEN_SET;
+use server_state::WRITTEN_VERSION;
 use station_state::NUMBER_WIDTH;
 use station_state::SET_ROW;
 
@@ -95,22 +94,22 @@ fn bad_number(s: &[u8], i: usize, t: u32) -> bool
 
 // Whether write k of the record is to an object that i has not locked.
 fn unlocked_at(s: &[u8], i: usize, m: &[u8], k: usize) -> bool
-    requires { ⌜ (length (now s) ≡ serverLength) × (i < 8) × (addressesAt + u16At (now m) (recordAt + readCountFrom) + k < length (now m)) ⌝ }
+    requires { ⌜ (length (now s) ≡ serverLength) × (i < 8) × (shortestCommit ≤ length (now m)) × (addressesAt (now m) + sentReads (now m) + k < length (now m)) ⌝ }
     ensures { λ r. ⌜ r ≡ unlockedAt (now (s .entry)) i (now (m .entry)) k ⌝ }
 {
     let a = byte(
         m,
-        message::ADDRESSES + le::index(le::get_u16(m, message::RECORD_READS)) + k,
+        message::record_at(m) + record::HEADER + message::sent_reads(m) + k,
     );
     (byte(s, LOCK + a) != i + 1) & (byte(s, WHOLE + a / 8) != i + 1)
 }
 
 // Whether i is locking and writes an object that it has not locked.
 fn unlocked(s: &[u8], i: usize, m: &[u8]) -> bool
-    requires { ⌜ (length (now s) ≡ serverLength) × (i < 8) × (addressesAt + entriesOf (now m) ≤ length (now m)) ⌝ }
+    requires { ⌜ (length (now s) ≡ serverLength) × (i < 8) × (shortestCommit ≤ length (now m)) × (addressesAt (now m) + entriesOf (now m) ≤ length (now m)) ⌝ }
     ensures { λ r. ⌜ r ≡ unlockedB (now (s .entry)) i (now (m .entry)) ⌝ }
 {
-    let n = le::index(le::get_u16(m, message::RECORD_WRITES));
+    let n = message::sent_writes(m);
     let mut r = false;
     let mut k: usize = 0;
     while k < n {
@@ -146,7 +145,7 @@ fn drops_own(s: &[u8], i: usize, d: u32) -> bool
 
 // Number 6 of a message that numbers 2 to 5 let pass.
 pub fn unexpected(s: &[u8], m: &[u8]) -> bool
-    requires { ⌜ (length (now s) ≡ serverLength) × (messageLength ≤ length (now m)) × (stationOf (now m) < 8) × ForServer (now m) × (kindOf (now m) ≡ 3 → addressesAt + entriesOf (now m) ≤ length (now m)) × (kindOf (now m) ≡ 5 → pageOf (now m) < 32) ⌝ }
+    requires { ⌜ (length (now s) ≡ serverLength) × (messageLength ≤ length (now m)) × (stationOf (now m) < 8) × ForServer (now m) × (kindOf (now m) ≡ 3 → (shortestCommit ≤ length (now m)) × (addressesAt (now m) + entriesOf (now m) ≤ length (now m))) × (kindOf (now m) ≡ 5 → pageOf (now m) < 32) ⌝ }
     ensures { λ r. ⌜ r ≡ unexpectedB (now (s .entry)) (now (m .entry)) ⌝ }
 {
     let i = byte(m, message::STATION);
@@ -186,16 +185,43 @@ pub fn open_ask(s: &[u8], i: usize, p: usize, t: u32) -> bool
         & (t == le::get_u32(s, LATEST + i * NUMBER_WIDTH))
 }
 
-fn stale_at(s: &[u8], i: usize, p: usize) -> bool
-    requires { ⌜ (length (now s) ≡ serverLength) × (i < 8) × (p < 32) ⌝ }
-    ensures { λ r. ⌜ r ≡ staleAt (now (s .entry)) i p ⌝ }
+// Whether the version that came for object o of page p, among those from `from`, is another than the object's.
+fn other_version(s: &[u8], from: usize, p: usize, o: usize) -> bool
+    requires { ⌜ (length (now s) ≡ serverLength) × (from + versionRow ≤ serverLength) × (p < 32) × (o < 8) ⌝ }
+    ensures { λ r. ⌜ r ≡ otherVersion (now (s .entry)) from (p * 8 + o) ⌝ }
 {
-    (wanted(s, i, p) != 0)
-        & (le::get_u32(s, SENT_VERSION + i * VERSION_ROW + p * NUMBER_WIDTH)
-            != le::get_u32(s, VERSION + p * NUMBER_WIDTH))
+    le::get_u32(s, from + (p * 8 + o) * NUMBER_WIDTH)
+        != le::get_u32(s, VERSION + (p * 8 + o) * NUMBER_WIDTH)
 }
 
-// Whether i's commit used a page at another version.
+fn stale_at(s: &[u8], i: usize, p: usize, o: usize) -> bool
+    requires { ⌜ (length (now s) ≡ serverLength) × (i < 8) × (p < 32) × (o < 8) ⌝ }
+    ensures { λ r. ⌜ r ≡ staleAtB (now (s .entry)) i p o ⌝ }
+{
+    (station_state::has_bit8(s[READ_SET + i * SET_ROW + p], o)
+        & other_version(s, READ_VERSION + i * VERSION_ROW, p, o))
+        | (station_state::has_bit8(s[WRITTEN_SET + i * SET_ROW + p], o)
+            & other_version(s, WRITTEN_VERSION + i * VERSION_ROW, p, o))
+}
+
+// Most pages are not used, and cost one test.
+fn stale_on(s: &[u8], i: usize, p: usize) -> bool
+    requires { ⌜ (length (now s) ≡ serverLength) × (i < 8) × (p < 32) ⌝ }
+    ensures { λ r. ⌜ r ≡ staleOnB (now (s .entry)) i p ⌝ }
+{
+    if wanted(s, i, p) == 0 {
+        return false;
+    }
+    let mut r = false;
+    let mut o = 0;
+    while o < 8 {
+        r |= stale_at(s, i, p, o);
+        o += 1;
+    }
+    r
+}
+
+// Whether i's commit used an object at another version.
 fn stale(s: &[u8], i: usize) -> bool
     requires { ⌜ (length (now s) ≡ serverLength) × (i < 8) ⌝ }
     ensures { λ r. ⌜ r ≡ staleB (now (s .entry)) i ⌝ }
@@ -203,7 +229,7 @@ fn stale(s: &[u8], i: usize) -> bool
     let mut r = false;
     let mut p = 0;
     while p < 32 {
-        r |= stale_at(s, i, p);
+        r |= stale_on(s, i, p);
         p += 1;
     }
     r

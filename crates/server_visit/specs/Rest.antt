@@ -16,7 +16,7 @@ use Rattle.server_state.specs.Layout.{serverLength, calledFrom, pendFrom, asked
 use Rattle.server_tests.specs.Tests.{faultB, blockedB, shutB, shutOutB, concernedB, concernedSet, hinderedB, unavailableB, writtenPagesB}
 use Rattle.server_tests.specs.Blockers.{bit-is}
 use Rattle.server_changes.specs.Changes.{leaveB, askedB, calledB, lockPageB, lockObjectB}
-use Rattle.server_actions.specs.Actions.{Serving, onState, send, deescalateB, sendPageB, abortB, installB}
+use Rattle.server_actions.specs.Actions.{Serving, onState, send, deescalateB, writtenSets, sendPageB, abortB, installB}
 use Rattle.server_actions.specs.Pass.{askB, askTo, serveReadB, callOneB, callTo, callB, callOnceB, grantPageB, grantObjectB, grantB, afterCallsB, proceedB, gatesB, visitB}
 use Rattle.server_actions.specs.Posting.{from, Acts, acts-turns}
 use Rattle.server_actions.specs.Parts.{installedB, turns-informs, install-is, acts-ask, turns-asks, turns-calls, acts-callOnce}
@@ -66,7 +66,7 @@ installed-sends i x = simp length-append (omega arith)
 install-sends : (i : ℕ) (x : Serving) → Sends x (installB i x)
 install-sends i x =
     let d = writtenPagesB (x .state) i in
-    rw (install-is i x) (omega (arith, installed-sends i x, longer (acts-turns (turns-informs i d) 8) (installedB i x)))
+    rw (install-is i x) (omega (arith, installed-sends i x, longer (acts-turns (turns-informs i d (writtenSets i (x .state))) 8) (installedB i x)))
 
 -- "send 20 .. to each": somebody is to be called, and somebody is
 calls-some : (i d : ℕ) (s : List ℕ) (x : Serving) (n k : ℕ) → k < n → hasBit d k ≡ true → Sends x (callTo i d s x n)

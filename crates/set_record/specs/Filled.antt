@@ -70,7 +70,7 @@ module _ (s : List ℕ) (at from : ℕ) where
       one true = refl
       one false = refl
 
-  length-all : length (entriesOf (valuesAt s at from)) ≡ rank (member s at) 256
+  pub length-all : length (entriesOf (valuesAt s at from)) ≡ rank (member s at) 256
   length-all = rw (← below-all) (length-below 256)
 
   -- as many entries as the set has members

@@ -43,7 +43,7 @@ fn list_page(list: &mut [u8], s: &[u8], at: usize, i: usize, p: usize) -> usize
 }
 
 // Lists the addresses of the set from `at`, from entry i on: how many entries there are then.
-fn list_set(list: &mut [u8], s: &[u8], at: usize, i: usize) -> usize
+pub fn list_set(list: &mut [u8], s: &[u8], at: usize, i: usize) -> usize
     requires { ⌜ (at + setRow ≤ length (now s)) × (i + mostEntries ≤ length (now list)) ⌝ }
     ensures { λ r. ⌜ (now (list .exit) ≡ entriesTo (now (list .entry)) (now (s .entry)) at i 256) × (r ≡ i + rank (Layout·member (now (s .entry)) at) 256) × (i ≤ r) × (r ≤ i + mostEntries) ⌝ }
 {

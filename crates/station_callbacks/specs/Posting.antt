@@ -17,7 +17,7 @@ use Rattle.station_state.specs.Changes.{unkeepB, closedB}
 use Rattle.station_callbacks.specs.Callbacks.{Sends, sends, setsAt, doCallbackB, notKeptB, doKeptB, keptTo, closeB, flat, Posted, posted, post, callbackPosted, keptPosted, keptPostedTo, closePosted}
 use Rattle.message.specs.Layout.{messageLength}
 
--- every message has 112 bytes
+-- every message has the length of one
 abbrev pub Whole : List (List ℕ) → Type 0
 Whole ms = length (flat ms) ≡ length ms * messageLength
 

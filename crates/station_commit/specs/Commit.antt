@@ -1,18 +1,17 @@
--- The bytes of a commit: "3 commit (transaction, set of pages used)", "followed by 32 versions of 4 bytes (0 for an unused page; all 0
--- from a locking station) and a record".
-use Prim.Native.Nat.{ℕ, zero, suc}
-use mathlib.Core.List.{List, [], _++_}
-use mathlib.Core.Bool.{not, _&&_, cond}
+-- The bytes of a commit: "3 commit (transaction, set of pages used)", and by document 02 "one version for each entry of its record, in record
+-- order", then the record.
+use Prim.Native.Nat.{ℕ, _+_}
+use mathlib.Core.List.{List, [], _∷_, _++_}
+use mathlib.Core.Bool.{cond}
 use lib.ListN.{length}
 use lib.Seq.{sets}
 use lib.Dec.{eqb}
 use Rattle.le.specs.Width.{bytes}
 use Rattle.sets.specs.Base.{Val}
-use Rattle.layout.specs.Record.{Record, bytesOf}
-use Rattle.message.specs.Layout.{upMessage}
-use Rattle.message.specs.Commit.{versionWidth}
-use Rattle.station_state.specs.Layout.{readValueFrom, writtenValueFrom, versionOf, number, station, kind, readSetFrom, writtenSetFrom}
-use Rattle.station_pages.specs.Pages.{usedPageB, usedPagesB}
+use Rattle.layout.specs.Record.{Record, entries, addresses, bytesOf}
+use Rattle.message.specs.Layout.{versionWidth, upMessage}
+use Rattle.station_state.specs.Layout.{readValueFrom, writtenValueFrom, seenOf, number, station, kind, readSetFrom, writtenSetFrom, countIn}
+use Rattle.station_pages.specs.Pages.{usedPagesB}
 use Rattle.set_record.specs.Record.{valuesAt, recordFrom}
 pub use Rattle.set_record.specs.Record.{Filled, filled}
 
@@ -27,18 +26,26 @@ writesOf s = valuesAt s writtenSetFrom writtenValueFrom
 abbrev pub recordSent : List ℕ → Record
 recordSent s = recordFrom s readSetFrom readValueFrom writtenSetFrom writtenValueFrom 0 (number s) (station s) (kind s)
 
--- "0 for an unused page; all 0 from a locking station"
-unfoldable pub versionSent : List ℕ → ℕ → ℕ
-versionSent s p = cond (not (eqb (kind s) 0) && usedPageB s p) (versionOf s p) 0
+-- how many entries it has
+abbrev pub countSent : List ℕ → ℕ
+countSent s = countIn s readSetFrom + countIn s writtenSetFrom
 
--- the n versions from page p on
-unfoldable pub versionsSent : List ℕ → ℕ → ℕ → List ℕ
-versionsSent s zero p = []
-versionsSent s (suc n) p = bytes versionWidth (versionSent s p) ++ versionsSent s n (suc p)
+-- "from a locking station all are 0"; else the version that the object had when it was first used
+unfoldable pub versionSent : List ℕ → ℕ → ℕ
+versionSent s a = cond (eqb (kind s) 0) 0 (seenOf s a)
+
+-- the versions of these addresses, one behind the other
+unfoldable pub versionsFor : List ℕ → List ℕ → List ℕ
+versionsFor s [] = []
+versionsFor s (a ∷ l) = bytes versionWidth (versionSent s a) ++ versionsFor s l
+
+-- "in record order"
+abbrev pub versionsSent : List ℕ → List ℕ
+versionsSent s = versionsFor s (addresses (entries (recordSent s)))
 
 unfoldable pub commitBytes : List ℕ → List ℕ
 commitBytes s =
-    upMessage 3 (station s) 0 0 (number s) (usedPagesB s) 0 ++ (versionsSent s 32 0 ++ bytesOf (recordSent s))
+    upMessage 3 (station s) 0 0 (number s) (usedPagesB s) 0 ++ (versionsSent s ++ bytesOf (recordSent s))
 
 -- the output afterwards, and how many of its bytes are the commit
 abbrev pub commitFilled : List ℕ → List ℕ → Filled

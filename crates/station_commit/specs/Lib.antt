@@ -1,4 +1,3 @@
 -- The commit that a station sends: its bytes, and the stores that leave them.
 pub mod Commit
-pub mod Stores
 pub mod Filled

@@ -1,45 +1,59 @@
 // The commit that a station sends.
 ghost use mathlib.Core.Path.{_≡_};
-ghost use Prim.Native.Nat.{_≤_, _<_};
+ghost use Prim.Native.Nat.{_+_, _*_, _≤_, _<_};
 ghost use lib.ListN.{length};
-ghost use Rattle.station_commit.specs.Commit.{versionSent, commitBytes, filled, commitFilled};
-ghost use Rattle.station_commit.specs.Stores.{versionsTo};
+ghost use lib.Seq.{sets};
+ghost use Rattle.station_commit.specs.Commit.{countSent, versionSent, versionsFor, versionsSent, commitBytes, filled, commitFilled};
 ghost use Rattle.station_state.specs.Layout.{stateLength};
-ghost use Rattle.message.specs.Commit.{recordAt};
+ghost use Rattle.message.specs.Layout.{versionWidth};
+ghost use Rattle.message.specs.Commit.{versionsAt};
 use station_state::KIND;
 use station_state::NUMBER;
 use station_state::NUMBER_WIDTH;
 use station_state::READ_SET;
 use station_state::READ_VALUES;
+use station_state::SEEN;
 use station_state::STATION;
-use station_state::VERSIONS;
 use station_state::WRITTEN_SET;
 use station_state::WRITTEN_VALUES;
 
-// The version sent for page p: 0 for an unused page, and from a locking station.
-fn version_sent(s: &[u8], p: usize) -> u32
-    requires { ⌜ (length (now s) ≡ stateLength) × (p < 32) ⌝ }
-    ensures { λ r. ⌜ r ≡ versionSent (now (s .entry)) p ⌝ }
+// The version sent for address a: 0 from a locking station.
+fn version_sent(s: &[u8], a: usize) -> u32
+    requires { ⌜ (length (now s) ≡ stateLength) × (a < 256) ⌝ }
+    ensures { λ r. ⌜ r ≡ versionSent (now (s .entry)) a ⌝ }
 {
     if s[KIND] == 0 {
         return 0;
     }
-    if !station_pages::used_page(s, p) {
-        return 0;
-    }
-    le::get_u32(s, VERSIONS + p * NUMBER_WIDTH)
+    le::get_u32(s, SEEN + a * NUMBER_WIDTH)
 }
 
-fn put_versions(c: &mut [u8], s: &[u8])
-    requires { ⌜ (length (now s) ≡ stateLength) × (recordAt ≤ length (now c)) ⌝ }
-    ensures { λ _. ⌜ now (c .exit) ≡ versionsTo (now (c .entry)) (now (s .entry)) 32 ⌝ }
+// The versions of these addresses, behind the message.
+fn put_each(c: &mut [u8], s: &[u8], addresses: &[u8])
+    requires { ⌜ (length (now s) ≡ stateLength) × (versionsAt + length (now addresses) * versionWidth ≤ length (now c)) ⌝ }
+    ensures { λ _. ⌜ now (c .exit) ≡ sets (now (c .entry)) versionsAt (versionsFor (now (s .entry)) (now (addresses .entry))) ⌝ }
 {
-    let mut p = 0;
-    while p < 32 {
-        let v = version_sent(s, p);
-        le::put_u32(c, message::VERSIONS + p * message::VERSION_WIDTH, v);
-        p += 1;
+    let n = addresses.len();
+    let mut e: usize = 0;
+    while e < n {
+        let v = version_sent(s, addresses[e] as usize);
+        le::put_u32(c, message::VERSIONS + e * message::VERSION_WIDTH, v);
+        e += 1;
     }
+}
+
+// The versions of all that was read, then of all that was written: how many they are.
+fn put_versions(c: &mut [u8], s: &[u8]) -> usize
+    requires { ⌜ (length (now s) ≡ stateLength) × (versionsAt + countSent (now s) * versionWidth ≤ length (now c)) ⌝ }
+    ensures { λ r. ⌜ (now (c .exit) ≡ sets (now (c .entry)) versionsAt (versionsSent (now (s .entry)))) × (r ≡ countSent (now (s .entry))) ⌝ }
+{
+    // room for the addresses of both sets
+    let mut list = [0u8; 512];
+    let n = set_record::list_set(&mut list, s, READ_SET, 0);
+    let k = set_record::list_set(&mut list, s, WRITTEN_SET, n);
+    let addresses = &list[0..k];
+    put_each(c, s, addresses);
+    k
 }
 
 // The bytes of the commit, from the start of `c`: how many they are.
@@ -59,14 +73,15 @@ pub fn put_commit(s: &[u8], c: &mut [u8]) -> usize
         station_pages::used_pages(s),
         0,
     );
-    put_versions(c, s);
+    let k = put_versions(c, s);
     let station = le::wide(s[STATION]);
     let kind = le::wide(s[KIND]);
-    message::RECORD
+    let at = message::VERSIONS + k * message::VERSION_WIDTH;
+    at
         + set_record::put_record(
             s,
             c,
-            message::RECORD,
+            at,
             READ_SET,
             READ_VALUES,
             WRITTEN_SET,

@@ -5,10 +5,10 @@ use mathlib.Core.Logic.{_≢_}
 use mathlib.Core.List.{List, [], _∷_}
 use mathlib.Core.Bool.{Bool, true, false, not, _&&_, _||_, cond}
 use lib.Dec.{eqb, ltb}
-use Rattle.message.specs.Layout.{setsFrom, kindOf, pageOf, requesterOf, objectOf, causeOf, transactionOf, pagesOf, versionOf, upMessage}
+use Rattle.message.specs.Layout.{setsFrom, kindOf, pageOf, requesterOf, objectOf, causeOf, transactionOf, versionOf, upMessage}
 use Rattle.station_state.specs.Layout.{wholeFrom, copyOf, waitingValue, number, whole, writtenSet, station, wait, address, locksFrom, hasBit}
 use Rattle.station_state.specs.Changes.{addTo, pageOn, recordReadB, writeLocalB, idleB, loosenB, keepB}
-use Rattle.station_pages.specs.Pages.{inUseB, touchedB, dropPagesB, arriveB, versionsB}
+use Rattle.station_pages.specs.Pages.{inUseB, markB, arriveB, versionsB}
 use Rattle.station_callbacks.specs.Callbacks.{sends, setsAt, doCallbackB, closeB, undoB}
 use Rattle.station_answer.specs.declared.Answer.{Answer}
 use Rattle.station_answer.specs.declared.Answer.the-variants.{Value, Written, Committed, Aborted, Nothing}
@@ -108,20 +108,21 @@ onCallbackB m s =
     (does Nothing (keepB r t (setsAt m setsFrom) s) (upMessage 6 (station s) r 0 t 0 0 ∷ []))
     (doesAll Nothing (doCallbackB (station s) r t (setsAt m setsFrom) (sends s [])))
 
--- "On 21 written pages take the commit number as version."
+-- "on 21 the written objects, no longer their pages, take the commit number"
 unfoldable pub onCommittedB : List ℕ → List ℕ → Did
 onCommittedB m s = doesAll (Committed (versionOf m)) (closeB (station s) (sends (versionsB (versionOf m) s) []))
 
 unfoldable pub onAbortedB : List ℕ → List ℕ → Did
 onAbortedB m s = doesAll (Aborted (causeOf m)) (closeB (station s) (sends (undoB s) []))
 
--- "Validating, on 23: drop the pages; if the transaction used one and no commit is out, it ends as aborted, cause 2"
+-- Validating, on 23: "the station marks those objects unavailable, and its transaction, if no commit is out, ends if it used one", as
+-- aborted, cause 2
 unfoldable pub onInvalidateB : List ℕ → List ℕ → Did
 onInvalidateB m s =
-    let d = pagesOf m in
-    cond (touchedB d s && not (eqb (wait s) 3))
-    (doesAll (Aborted 2) (closeB (station s) (sends (undoB (dropPagesB d s)) [])))
-    (does Nothing (dropPagesB d s) [])
+    let x = setsAt m setsFrom in
+    cond (inUseB x s && not (eqb (wait s) 3))
+    (doesAll (Aborted 2) (closeB (station s) (sends (undoB (markB x s)) [])))
+    (does Nothing (markB x s) [])
 
 unfoldable pub onDownB : List ℕ → List ℕ → Did
 onDownB m s =

@@ -8,10 +8,10 @@ use native.Mathlib.Omega.{arith}
 use lib.Seq.{sets}
 use lib.Dec.{eqb}
 use borrow.Author.Tests.{eq-eqb, ne-eqb}
-use Rattle.message.specs.Layout.{setsFrom, pageOf, requesterOf, causeOf, transactionOf, pagesOf, versionOf, upMessage}
+use Rattle.message.specs.Layout.{setsFrom, pageOf, requesterOf, causeOf, transactionOf, versionOf, upMessage}
 use Rattle.station_state.specs.Layout.{copyOf, waitingValue, station, wait, address}
 use Rattle.station_state.specs.Changes.{recordReadB, writeLocalB, keepB}
-use Rattle.station_pages.specs.Pages.{inUseB, touchedB, dropPagesB, versionsB}
+use Rattle.station_pages.specs.Pages.{inUseB, markB, versionsB}
 use Rattle.station_callbacks.specs.Callbacks.{sends, setsAt, doCallbackB, closeB, undoB, flat, posted, callbackPosted, closePosted}
 use Rattle.station_callbacks.specs.Posting.{call-post, close-post}
 use Rattle.station_answer.specs.declared.Answer.{Answer}
@@ -97,12 +97,12 @@ module _ (m s o : List ℕ) where
   unfolding onAbortedB
   aborted-sent s₂ p k en es e ey = rw (← en, ← es) (close-sent (station s) _ o _ s₂ p k e ey)
 
-  module _ {d : ℕ} {b : Bool} {s₁ : List ℕ} (ed : d ≡ pagesOf m) (eb : b ≡ touchedB d s) (es : s₁ ≡ dropPagesB d s) where
+  module _ {b : Bool} {s₁ : List ℕ} (eb : b ≡ inUseB (setsAt m setsFrom) s) (es : s₁ ≡ markB (setsAt m setsFrom) s) where
     pub invalidate-ends : {s₂ : List ℕ} (s₃ p : List ℕ) (k : ℕ) {y : Said} → b && not (eqb (wait s) 3) ≡ true → s₂ ≡ undoB s₁
         → posted s₃ p k ≡ closePosted (station s) s₂ o 0 → y ≡ said (Aborted 2) k 0 → delivered s₃ p y ≡ handed o (onInvalidateB m s)
     unfolding onInvalidateB
-    invalidate-ends s₃ p k h eu e ey = rw (← ed, ← eb, h, ← es, ← eu) (close-sent (station s) _ o _ s₃ p k e ey)
+    invalidate-ends s₃ p k h eu e ey = rw (← eb, h, ← es, ← eu) (close-sent (station s) _ o _ s₃ p k e ey)
 
-    pub invalidate-drops : {y : Said} → b && not (eqb (wait s) 3) ≡ false → y ≡ said Nothing 0 0 → delivered s₁ o y ≡ handed o (onInvalidateB m s)
+    pub invalidate-marks : {y : Said} → b && not (eqb (wait s) 3) ≡ false → y ≡ said Nothing 0 0 → delivered s₁ o y ≡ handed o (onInvalidateB m s)
     unfolding onInvalidateB
-    invalidate-drops h ey = rw (← ed, ← eb, h, ← es) (hand-none o _ _ refl ey)
+    invalidate-marks h ey = rw (← eb, h, ← es) (hand-none o _ _ refl ey)

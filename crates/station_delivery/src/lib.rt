@@ -253,9 +253,9 @@ fn on_invalidate(s: &mut [u8], m: &[u8], o: &mut [u8]) -> Said
     ensures { λ r. ⌜ delivered (now (s .exit)) (now (o .exit)) r ≡ handed (now (o .entry)) (onInvalidateB (now (m .entry)) (now (s .entry))) ⌝ }
 {
     let i = s[STATION];
-    let d = le::get_u32(m, message::PAGES);
-    let ends = station_pages::touched(d, s) & !(s[WAIT] == 3);
-    station_pages::drop_pages(s, d);
+    let x = &m[message::SETS..message::VALUES];
+    let ends = station_pages::in_use(x, s) & !(s[WAIT] == 3);
+    station_pages::mark(s, x);
     if ends {
         station_callbacks::undo(s);
         let k = station_callbacks::close(s, o, 0, i);

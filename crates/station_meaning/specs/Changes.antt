@@ -1,28 +1,28 @@
 -- Each change of a station's bytes means the change of the model that has its name.
 use Prim.Native.Nat.{ℕ, zero, suc, _+_, _*_, _≤_, _<_, _/_, _%_, _^_}
-use mathlib.Core.Path.{_≡_, refl, ap, subst, _∙_, fun-ext}
-use mathlib.Core.Bool.{Bool, true, false, cond, _&&_, _||_, or-false}
+use mathlib.Core.Path.{_≡_, refl, ap, ap₂, subst, _∙_, fun-ext}
+use mathlib.Core.Bool.{Bool, true, false, cond, _&&_, _||_, or-true, or-false}
 use mathlib.Core.List.{List}
 use native.Mathlib.Omega.{arith}
 use lib.Dec.{eqb, ltb}
 use lib.ListN.{getD, set}
 use lib.Bits.{bitOr}
-use Rattle.sets.specs.Base.{upd, Val, some, has, noneAt, nowhere}
+use Rattle.sets.specs.Base.{upd, Val, some, has, noneAt, nowhere, zeros}
 use Rattle.sets.specs.Laws.{byB, byEq, eqb-yes, ltb-no}
 use borrow.Author.Tests.{lt-ltb, le-ltb}
 use Rattle.cells.specs.Upd.{eqb-diff}
 use Rattle.cells.specs.Num.{AllBytes}
 use Rattle.cells.specs.Bits.{tb, tb-zero, tb-or, tb-set, tb-clear-all}
 use Rattle.cells.specs.Pages.{addr-on}
-use Rattle.cells.specs.Cells.{Cells, reg, off, view, view-col, Holds, put8, put32, put64, get8, cell-lt, rowTo, row-none, row-more}
+use Rattle.cells.specs.Cells.{Cells, reg, off, view, view-col, upd3, Holds, put8, put32, put64, get8, cell-lt, rowTo, row-none, row-more}
 use Rattle.cells.specs.Sets.{or8, on8, on32, off32}
 use Rattle.line.specs.Messages.{pageOf}
-use Rattle.line.specs.Station.{Station, Idle, ForRead, ForWrite, ForCommit, Kept, NotKept, KeptCall, setNum, setOpened, setWait, setRd, setWr, setCopy, setOl, setWl, setKept, recordRead, writeLocal, loosen, closed}
-use Rattle.station_state.specs.Layout.{copyCell, waitingValueFrom, numberFrom, wholeFrom, readSetFrom, writtenSetFrom, openFrom, waitFrom, addressFrom, copyFrom, readValueFrom, writtenValueFrom, keptFrom, valueWidth, numberWidth, readValueCell, writtenValueCell, waitingValueCell, keptCell, numberCell, wholeCell, readSetCell, writtenSetCell, locksCell, namedCell, openCell, waitCell, addressCell, table, number, copyOf, writtenSet, locksFrom, namedFrom}
-use Rattle.station_state.specs.Changes.{addTo, pageOn, pageOff, clearTo, copyTo, beginB, recordReadB, writeLocalB, idleB, forReadB, forWriteB, forCommitB, loosenB, keepB, unkeepB, closedB}
+use Rattle.line.specs.Station.{Station, Idle, ForRead, ForWrite, ForCommit, Kept, NotKept, KeptCall, usedAt, setNum, setOpened, setWait, setRd, setWr, setSeen, setCopy, setOl, setWl, setKept, recordRead, writeLocal, loosen, closed}
+use Rattle.station_state.specs.Layout.{copyCell, waitingValueFrom, numberFrom, wholeFrom, readSetFrom, writtenSetFrom, openFrom, waitFrom, addressFrom, copyFrom, readValueFrom, writtenValueFrom, keptFrom, seenFrom, valueWidth, numberWidth, seenCell, readValueCell, writtenValueCell, waitingValueCell, keptCell, numberCell, wholeCell, readSetCell, writtenSetCell, locksCell, namedCell, openCell, waitCell, addressCell, table, number, copyOf, versionOf, writtenSet, locksFrom, namedFrom}
+use Rattle.station_state.specs.Changes.{addTo, pageOn, pageOff, clearTo, copyTo, beginB, recordReadB, usedB, firstUseB, writeLocalB, idleB, forReadB, forWriteB, forCommitB, loosenB, keepB, unkeepB, closedB}
 use Rattle.station_meaning.specs.Meant.{within, valueIf, keptIf, meant, Is, start, done, done-flags}
 use Rattle.station_meaning.specs.Named.{named, named-is}
-use Rattle.station_meaning.specs.Tests.{has-if, number-cell, copy-cell, copy-lt}
+use Rattle.station_meaning.specs.Tests.{has-if, number-cell, copy-cell, copy-lt, version-cell, version-lt, used-sets}
 
 -- an address that joins the set with value v has the value v
 value-on : (D W : ℕ → ℕ) (a v : ℕ)
@@ -30,6 +30,36 @@ value-on : (D W : ℕ → ℕ) (a v : ℕ)
     (upd (λ b. valueIf (within D b) (W b)) a (some v))
 value-on D W a v =
     fun-ext (λ b. ap (λ (x : Bool). valueIf x (cond (eqb b a) v (W b))) (ap (λ (f : ℕ → Bool). f b) (addr-on D a)) ∙ byEq b a (λ e. rw e) (λ e. rw e))
+
+-- the version that it had at first, for an address that joins the one set or the other
+seen-read : (D E S : ℕ → ℕ) (a v : ℕ)
+    → _≡_ {A = ℕ → ℕ} (λ b. cond (within (λ j. cond (eqb j (a / 8)) (bitOr (D (a / 8)) (2 ^ (a % 8))) (D j)) b || within E b) (cond (eqb b a) v (S b)) 0)
+    (upd (λ b. cond (within D b || within E b) (S b) 0) a v)
+seen-read D E S a v =
+    fun-ext (λ b. ap (λ (x : Bool). cond (x || within E b) (cond (eqb b a) v (S b)) 0) (ap (λ (f : ℕ → Bool). f b) (addr-on D a)) ∙ byEq b a (λ e. rw e) (λ e. rw e))
+
+seen-write : (D E S : ℕ → ℕ) (a v : ℕ)
+    → _≡_ {A = ℕ → ℕ} (λ b. cond (within D b || within (λ j. cond (eqb j (a / 8)) (bitOr (E (a / 8)) (2 ^ (a % 8))) (E j)) b) (cond (eqb b a) v (S b)) 0)
+    (upd (λ b. cond (within D b || within E b) (S b) 0) a v)
+seen-write D E S a v =
+    fun-ext
+    (λ b.
+    ap (λ (x : Bool). cond (within D b || x) (cond (eqb b a) v (S b)) 0) (ap (λ (f : ℕ → Bool). f b) (addr-on E a))
+    ∙ byEq b a (λ e. rw (e, or-true (within D b))) (λ e. rw e))
+
+-- a cell that gets what it has
+cell-same : (C : Cells) (k i j : ℕ) → C ≡ upd3 C k i j (C k i j)
+cell-same C k i j =
+    fun-ext
+    (λ k′. fun-ext
+    (λ i′. fun-ext
+    (λ j′.
+    byEq k′ k
+    (λ e.
+    byEq i′ i
+    (λ f. byEq j′ j (λ g. rw (e, f, g) (rw (eqb-yes k′ k e, eqb-yes i′ i f, eqb-yes j′ j g))) (λ g. rw (e, f, g)))
+    (λ f. rw (e, f)))
+    (λ e. rw e))))
 
 -- the written objects of page p join the locks
 join-on : (D E W : ℕ → ℕ) (p y : ℕ) → y ≡ E p
@@ -69,6 +99,10 @@ set-none D g =
 value-none : (D W : ℕ → ℕ) → ((j : ℕ) → 32 ≤ j → D j ≡ 0) → _≡_ {A = ℕ → Val} (λ a. valueIf (within (λ j. cond (ltb j 32) 0 (D j)) a) (W a)) noneAt
 value-none D W g = ap {B = ℕ → Val} (λ (f : ℕ → Bool) a. valueIf (f a) (W a)) (set-none D g)
 
+seen-none : (D E S : ℕ → ℕ) → ((j : ℕ) → 32 ≤ j → D j ≡ 0) → ((j : ℕ) → 32 ≤ j → E j ≡ 0)
+    → _≡_ {A = ℕ → ℕ} (λ a. cond (within (λ j. cond (ltb j 32) 0 (D j)) a || within (λ j. cond (ltb j 32) 0 (E j)) a) (S a) 0) zeros
+seen-none D E S d e = ap₂ {C = ℕ → ℕ} (λ (f g : ℕ → Bool) a. cond (f a || g a) (S a) 0) (set-none D d) (set-none E e)
+
 -- the loops over one row
 module _ {s₀ s : List ℕ} {C : Cells} (h : Holds table 0 s₀ s C) where
   clear-to : (k at : ℕ) → (reg table k) .w ≡ 1 → 0 < (reg table k) .rows → (reg table k) .cols ≡ 32 → ((n : ℕ) → at + n ≡ 0 + off table k 0 n)
@@ -98,18 +132,41 @@ module _ {i : ℕ} {s : List ℕ} {m : Station} (h : Is i s m) where
   unfolding recordReadB recordRead addTo
   recordRead-is a l =
       done h (recordRead a)
+      (put32
       (put64 (on8 (start h) readSetCell 0 (a / 8) (a % 8) (readSetFrom + a / 8) (omega arith) (omega arith) (omega arith) refl (omega arith)) readValueCell 0 a (copyOf s a) (readValueFrom + a * valueWidth) refl (omega arith) (omega arith) l (copy-lt h a l))
-      (ap (setRd (meant s)) (value-on (view table 0 s readSetCell 0) (view table 0 s readValueCell 0) a (copyOf s a) ∙ ap (λ (x : ℕ). upd ((meant s) .rd) a (some x)) (copy-cell h a l)))
+      seenCell 0 a (versionOf s a) (seenFrom + a * numberWidth) refl (omega arith) (omega arith) l (version-lt h a l))
+      (ap₂ (λ x y. setSeen (setRd (meant s) x) y)
+      (value-on (view table 0 s readSetCell 0) (view table 0 s readValueCell 0) a (copyOf s a) ∙ ap (λ (x : ℕ). upd ((meant s) .rd) a (some x)) (copy-cell h a l))
+      (seen-read (view table 0 s readSetCell 0) (view table 0 s writtenSetCell 0) (view table 0 s seenCell 0) a (versionOf s a) ∙ ap (λ (x : ℕ). upd ((meant s) .seen) a x) (version-cell h a l)))
       (refl, refl, refl)
+
+  -- what stands in the cell once the object is used
+  unfoldable first : ℕ → ℕ
+  first a = cond (usedB s a) (view table 0 s seenCell 0 a) (versionOf s a)
+
+  first-use : (a : ℕ) → a < 256 → Holds table 0 s (firstUseB a s) (upd3 (view table 0 s) seenCell 0 a (first a))
+  unfolding firstUseB first
+  first-use a l =
+      byB (usedB s a) (λ e. rw e (subst (Holds table 0 s s) (cell-same (view table 0 s) seenCell 0 a) (start h)))
+      (λ e. rw e (put32 (start h) seenCell 0 a (versionOf s a) (seenFrom + a * numberWidth) refl (omega arith) (omega arith) l (version-lt h a l)))
+
+  first-is : (a : ℕ) → a < 256 → first a ≡ cond (usedAt (meant s) a) ((meant s) .seen a) ((meant s) .cver a)
+  unfolding first
+  first-is a l =
+      let x = within (view table 0 s readSetCell 0) a in
+      let y = within (view table 0 s writtenSetCell 0) a in
+      rw (used-sets h a l, version-cell h a l, has-if x (view table 0 s readValueCell 0 a), has-if y (view table 0 s writtenValueCell 0 a)) (byB (x || y) (λ e. rw e) (λ e. rw e))
 
   pub writeLocal-is : (a v : ℕ) → a < 256 → v < 2 ^ 64 → Is i (writeLocalB a v s) (writeLocal a v m)
   unfolding writeLocalB writeLocal addTo
   writeLocal-is a v l q =
       done h (writeLocal a v)
       (put64
-      (put64 (on8 (start h) writtenSetCell 0 (a / 8) (a % 8) (writtenSetFrom + a / 8) (omega arith) (omega arith) (omega arith) refl (omega arith)) writtenValueCell 0 a v (writtenValueFrom + a * valueWidth) refl (omega arith) (omega arith) l q)
+      (put64 (on8 (first-use a l) writtenSetCell 0 (a / 8) (a % 8) (writtenSetFrom + a / 8) (omega arith) (omega arith) (omega arith) refl (omega arith)) writtenValueCell 0 a v (writtenValueFrom + a * valueWidth) refl (omega arith) (omega arith) l q)
       copyCell 0 a v (copyFrom + a * valueWidth) refl (omega arith) (omega arith) l q)
-      (ap (λ (x : ℕ → Val). setCopy (setWr (meant s) x) (upd ((meant s) .copy) a v)) (value-on (view table 0 s writtenSetCell 0) (view table 0 s writtenValueCell 0) a v))
+      (ap₂ (λ (x : ℕ → Val) (y : ℕ → ℕ). setSeen (setCopy (setWr (meant s) x) (upd ((meant s) .copy) a v)) y)
+      (value-on (view table 0 s writtenSetCell 0) (view table 0 s writtenValueCell 0) a v)
+      (seen-write (view table 0 s readSetCell 0) (view table 0 s writtenSetCell 0) (view table 0 s seenCell 0) a (first a) ∙ ap (upd ((meant s) .seen) a) (first-is a l)))
       (refl, refl, refl)
 
   -- what is out
@@ -197,11 +254,13 @@ module _ {i : ℕ} {s : List ℕ} {m : Station} (h : Is i s m) where
       (λ t.
       setOpened
       (setWait
+      (setSeen
       (setRd
       (setWr
       (setOl (setWl (meant s) (fun-ext (λ q. tb-zero q) t)) (set-none (view table 0 s locksCell 0) (past locksCell refl) t))
       (value-none (view table 0 s writtenSetCell 0) (view table 0 s writtenValueCell 0) (past writtenSetCell refl) t))
       (value-none (view table 0 s readSetCell 0) (view table 0 s readValueCell 0) (past readSetCell refl) t))
+      (seen-none (view table 0 s readSetCell 0) (view table 0 s writtenSetCell 0) (view table 0 s seenCell 0) (past readSetCell refl) (past writtenSetCell refl) t))
       Idle)
       false)
       refl (omega arith) (omega arith)

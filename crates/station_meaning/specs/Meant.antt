@@ -1,7 +1,7 @@
 -- What the bytes of a station's state mean: docs/STATE.md as the table of regions of crate station_state, and the station of crate line read from its cells.
 use Prim.Native.Nat.{ℕ, _+_, _*_, _/_, _%_, _≤_}
 use mathlib.Core.Path.{_≡_, ap, _∙_}
-use mathlib.Core.Bool.{Bool, not, cond}
+use mathlib.Core.Bool.{Bool, not, _||_, cond}
 use mathlib.Core.List.{List}
 use native.Mathlib.Omega.{arith}
 use lib.Dec.{eqb}
@@ -11,7 +11,7 @@ use Rattle.cells.specs.Num.{AllBytes}
 use Rattle.cells.specs.Bits.{tb}
 use Rattle.cells.specs.Cells.{Cells, view, Holds, begin}
 use Rattle.line.specs.Station.{Station, Wait, Idle, ForRead, ForWrite, ForCommit, Kept, NotKept, KeptCall}
-use Rattle.station_state.specs.Layout.{stateLength, copyCell, readValueCell, writtenValueCell, waitingValueCell, keptCell, versionCell, numberCell, cachedCell, wholeCell, unavailableCell, readSetCell, writtenSetCell, locksCell, namedCell, stationCell, kindCell, openCell, waitCell, addressCell, table}
+use Rattle.station_state.specs.Layout.{stateLength, copyCell, readValueCell, writtenValueCell, waitingValueCell, keptCell, versionCell, seenCell, numberCell, cachedCell, wholeCell, unavailableCell, readSetCell, writtenSetCell, locksCell, namedCell, stationCell, kindCell, openCell, waitCell, addressCell, table}
 
 -- a set of addresses, kept as a byte for each page
 abbrev pub within : (ℕ → ℕ) → ℕ → Bool
@@ -36,11 +36,12 @@ meantC C =
       num = C numberCell 0 0;
       opened = not (eqb (C openCell 0 0) 0);
       cached = tb (C cachedCell 0 0);
-      cver = λ p. C versionCell 0 p;
+      cver = λ a. C versionCell 0 a;
       copy = λ a. C copyCell 0 a;
       unav = within (C unavailableCell 0);
       rd = λ a. valueIf (within (C readSetCell 0) a) (C readValueCell 0 a);
       wr = λ a. valueIf (within (C writtenSetCell 0) a) (C writtenValueCell 0 a);
+      seen = λ a. cond (within (C readSetCell 0) a || within (C writtenSetCell 0) a) (C seenCell 0 a) 0;
       wait = waitOf (C waitCell 0 0) (C addressCell 0 0) (C waitingValueCell 0 0);
       ol = within (C locksCell 0);
       wl = tb (C wholeCell 0 0);

@@ -1,7 +1,7 @@
 -- What a station's bytes are read for means the model's field or test.
 use Prim.Native.Nat.{ℕ, zero, suc, _+_, _*_, _≤_, _<_, _/_, _%_, _^_}
 use mathlib.Core.Path.{_≡_, refl, sym, ap, _∙_, fun-ext}
-use mathlib.Core.Bool.{Bool, true, false, not, _&&_, _||_}
+use mathlib.Core.Bool.{Bool, true, false, not, _&&_, _||_, cond}
 use mathlib.Core.List.{List}
 use native.Mathlib.Omega.{arith}
 use lib.Dec.{eqb, ltb}
@@ -11,14 +11,15 @@ use lib.Seq.{getD-take, getD-drop}
 use Rattle.sets.specs.Base.{none, has, any}
 use Rattle.sets.specs.Laws.{byB, any-ext, ltb-yes, ltb-no}
 use Rattle.cells.specs.Num.{AllBytes}
-use Rattle.cells.specs.Bits.{tb, tb-zero, tb-or, tb-test, tb-high}
+use Rattle.cells.specs.Bits.{tb, tb-zero, tb-or, tb-high}
 use Rattle.cells.specs.Cells.{view, view-col, get8, get32, get64, cell-lt}
 use Rattle.cells.specs.Sets.{test8, test32}
 use Rattle.cells.specs.Loops.{anyTo, any-to, any-same, mask-is, mask-lt}
 use Rattle.cells.specs.Pages.{page-any, page-join, page-meet, any-all}
-use Rattle.line.specs.Station.{Station, waiting, forRead, forWrite, forCommit, requested, usedAt, usedPage, wrotePage, drops, inUse, touched}
-use Rattle.station_state.specs.Layout.{setRow, waitingValueFrom, numberFrom, cachedFrom, wholeFrom, stationFrom, kindFrom, openFrom, waitFrom, addressFrom, copyFrom, readValueFrom, writtenValueFrom, keptFrom, versionFrom, valueWidth, numberWidth, copyCell, readValueCell, writtenValueCell, waitingValueCell, keptCell, versionCell, numberCell, cachedCell, wholeCell, unavailableCell, readSetCell, writtenSetCell, locksCell, namedCell, stationCell, kindCell, openCell, waitCell, addressCell, table, copyOf, readValue, writtenValue, waitingValue, keptOf, versionOf, number, cached, whole, readSet, writtenSet, unavailableFrom, readSetFrom, writtenSetFrom, locksFrom, namedFrom, station, kind, opened, wait, address, hasBit, member, requestedB}
-use Rattle.station_pages.specs.Pages.{usedPageB, wrotePageB, usedPagesB, writtenPagesB, usesB, inUseB, touchesB, touchedB, dropsB, droppedB}
+use Rattle.line.specs.Station.{Station, waiting, forRead, forWrite, forCommit, requested, usedAt, usedPage, wrotePage, drops, inUse}
+use Rattle.station_state.specs.Layout.{setRow, waitingValueFrom, numberFrom, cachedFrom, wholeFrom, stationFrom, kindFrom, openFrom, waitFrom, addressFrom, copyFrom, readValueFrom, writtenValueFrom, keptFrom, versionFrom, seenFrom, valueWidth, numberWidth, copyCell, readValueCell, writtenValueCell, waitingValueCell, keptCell, versionCell, seenCell, numberCell, cachedCell, wholeCell, unavailableCell, readSetCell, writtenSetCell, locksCell, namedCell, stationCell, kindCell, openCell, waitCell, addressCell, table, copyOf, readValue, writtenValue, waitingValue, keptOf, versionOf, seenOf, number, cached, whole, readSet, writtenSet, unavailableFrom, readSetFrom, writtenSetFrom, locksFrom, namedFrom, station, kind, opened, wait, address, hasBit, member, requestedB}
+use Rattle.station_state.specs.Changes.{usedB}
+use Rattle.station_pages.specs.Pages.{usedPageB, wrotePageB, usedPagesB, writtenPagesB, usesB, inUseB, dropsB, droppedB}
 use Rattle.station_meaning.specs.Meant.{within, valueIf, waitOf, keptIf, meant, Is, start}
 use Rattle.station_meaning.specs.Named.{named, named-at, named-is}
 
@@ -118,14 +119,20 @@ module _ {i : ℕ} {s : List ℕ} {m : Station} (h : Is i s m) where
   pub copy-lt : (a : ℕ) → a < 256 → copyOf s a < 2 ^ 64
   copy-lt a l = rw (copy-cell a l) (cell-lt (start h) copyCell 0 a)
 
-  version-cell : (p : ℕ) → p < 32 → versionOf s p ≡ view table 0 s versionCell 0 p
-  version-cell p l = get32 (start h) versionCell 0 p (versionFrom + p * numberWidth) refl (omega arith) (omega arith) l
+  pub version-cell : (a : ℕ) → a < 256 → versionOf s a ≡ view table 0 s versionCell 0 a
+  version-cell a l = get32 (start h) versionCell 0 a (versionFrom + a * numberWidth) refl (omega arith) (omega arith) l
 
-  pub version-at : (p : ℕ) → p < 32 → versionOf s p ≡ m .cver p
-  version-at p l = version-cell p l ∙ ap (λ (n : Station). n .cver p) (h .is)
+  pub version-at : (a : ℕ) → a < 256 → versionOf s a ≡ m .cver a
+  version-at a l = version-cell a l ∙ ap (λ (n : Station). n .cver a) (h .is)
 
-  pub version-lt : (p : ℕ) → p < 32 → versionOf s p < 2 ^ 32
-  version-lt p l = rw (version-cell p l) (cell-lt (start h) versionCell 0 p)
+  pub version-lt : (a : ℕ) → a < 256 → versionOf s a < 2 ^ 32
+  version-lt a l = rw (version-cell a l) (cell-lt (start h) versionCell 0 a)
+
+  seen-cell : (a : ℕ) → a < 256 → seenOf s a ≡ view table 0 s seenCell 0 a
+  seen-cell a l = get32 (start h) seenCell 0 a (seenFrom + a * numberWidth) refl (omega arith) (omega arith) l
+
+  pub seen-lt : (a : ℕ) → a < 256 → seenOf s a < 2 ^ 32
+  seen-lt a l = rw (seen-cell a l) (cell-lt (start h) seenCell 0 a)
 
   -- what is open, and what is out
 
@@ -219,6 +226,28 @@ module _ {i : ℕ} {s : List ℕ} {m : Station} (h : Is i s m) where
   pub writtenValue-lt : (a : ℕ) → a < 256 → writtenValue s a < 2 ^ 64
   writtenValue-lt a l = rw (get64 (start h) writtenValueCell 0 a (writtenValueFrom + a * valueWidth) refl (omega arith) (omega arith) l) (cell-lt (start h) writtenValueCell 0 a)
 
+  -- object o of page p is written
+  pub wrote-bit : (p o : ℕ) → p < 32 → o < 8 → hasBit (writtenSet s p) o ≡ has (m .wr (p * 8 + o))
+  unfolding hasBit member
+  wrote-bit p o l q =
+      let d : (p * 8 + o) / 8 ≡ p = omega arith in
+      let r : (p * 8 + o) % 8 ≡ o = omega arith in
+      rw (wrote-at (p * 8 + o) (omega arith), has-if (member s writtenSetFrom (p * 8 + o)) (writtenValue s (p * 8 + o)), d, r)
+
+  -- the transaction has used the object, by its sets
+
+  pub used-sets : (a : ℕ) → a < 256 → usedB s a ≡ (within (view table 0 s readSetCell 0) a || within (view table 0 s writtenSetCell 0) a)
+  unfolding usedB hasBit member
+  used-sets a l =
+      rw (
+        test8 (start h) readSetCell 0 (a / 8) (a % 8) (readSetFrom + a / 8) (omega arith) (omega arith) (omega arith) refl,
+        test8 (start h) writtenSetCell 0 (a / 8) (a % 8) (writtenSetFrom + a / 8) (omega arith) (omega arith) (omega arith) refl,
+      )
+
+  -- the version that a used object had at first
+  pub seen-at : (a : ℕ) → a < 256 → m .seen a ≡ cond (usedB s a) (seenOf s a) 0
+  seen-at a l = sym (rw (used-sets a l, seen-cell a l) (ap (λ (n : Station). n .seen a) (h .is)))
+
   -- kept callbacks
 
   kept-cell : (r : ℕ) → r < 8 → keptOf s r ≡ view table 0 s keptCell r 0
@@ -247,6 +276,9 @@ module _ {i : ℕ} {s : List ℕ} {m : Station} (h : Is i s m) where
 
   used-cells : (a : ℕ) → (within (view table 0 s readSetCell 0) a || within (view table 0 s writtenSetCell 0) a) ≡ usedAt (meant s) a
   used-cells a = rw (has-if (within (view table 0 s readSetCell 0) a) (view table 0 s readValueCell 0 a), has-if (within (view table 0 s writtenSetCell 0) a) (view table 0 s writtenValueCell 0 a))
+
+  pub used-at : (a : ℕ) → a < 256 → usedB s a ≡ usedAt m a
+  used-at a l = used-sets a l ∙ used-cells a ∙ ap (λ (n : Station). usedAt n a) (h .is)
 
   pub usedPage-at : (p : ℕ) → p < 32 → usedPageB s p ≡ usedPage m p
   unfolding usedPageB
@@ -284,10 +316,6 @@ module _ {i : ℕ} {s : List ℕ} {m : Station} (h : Is i s m) where
   pub inUse-at : (sets : List ℕ) → AllBytes sets → inUseB sets s ≡ inUse (named sets) m
   unfolding inUseB
   inUse-at sets b = all-pages (λ a. named sets a && usedAt m a) (usesB sets s) (uses-at sets b)
-
-  pub touched-at : (d : ℕ) → d < 2 ^ 32 → touchedB d s ≡ touched (tb d) m
-  unfolding touchedB touchesB hasBit
-  touched-at d _ = any-to (touchesB d s) (λ p. tb d p && usedPage m p) 32 (λ p l. rw (tb-test p d, usedPage-at p l))
 
   -- past the last page and address there is nothing
 

@@ -21,7 +21,7 @@ use Rattle.station_answer.specs.Did.{Did, does, doesAll, refuses, said, Outcome
 use Rattle.station_answer.specs.Ask.{lockingB, openB}
 use Rattle.message.specs.Commit.{stationRoom, commitRoom}
 
--- number 1: "output is under .. 8 messages", "a commit and the station's buffer for it 1,120"
+-- number 1: "output is under .. 8 messages"; a commit is "at most 1,408, the station's buffer too"
 unfoldable pub ready : List ℕ → List ℕ → List ℕ → Bool
 ready s o c = valid s && leb stationRoom (length o) && leb commitRoom (length c)
 
@@ -90,10 +90,10 @@ readAsB a s =
 unfoldable pub ownReadB : ℕ → List ℕ → Did
 ownReadB a s = unlessB (checkAddressB a (longReadB a s) s) (readAsB a s) s
 
--- "A locking station writes locally under its lock on object or page, else sends 2. A validating station writes locally on a
--- cached page, else sends 1."
+-- "A locking station writes locally under its lock on object or page, else sends 2." Of a validating one document 02 says: "It writes
+-- locally only on available objects"; else it sends 1.
 unfoldable pub mayWriteB : ℕ → List ℕ → Bool
-mayWriteB a s = cond (lockingB s) (member s locksFrom a || hasBit (whole s) (a / 8)) (hasBit (cached s) (a / 8))
+mayWriteB a s = cond (lockingB s) (member s locksFrom a || hasBit (whole s) (a / 8)) (shownB a s)
 
 unfoldable pub asksB : List ℕ → ℕ
 asksB s = cond (lockingB s) 2 1

@@ -248,7 +248,7 @@ fn may_write(a: usize, s: &[u8]) -> bool
         return station_state::member(s, LOCKS, a)
             | station_state::has_bit32(le::get_u32(s, WHOLE), a / 8);
     }
-    station_state::has_bit32(le::get_u32(s, CACHED), a / 8)
+    shown(a, s)
 }
 
 // The kind of message that asks for a write: 2 by a locking station, 1 by a validating one.

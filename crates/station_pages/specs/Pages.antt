@@ -9,7 +9,7 @@ use Rattle.le.specs.Le.{u32At, u64At, setU32, setU64}
 use Rattle.cells.specs.Loops.{anyTo, maskTo}
 use Rattle.station_state.specs.Layout.{cachedFrom, unavailableFrom, copyFrom, versionFrom, valueWidth, numberWidth, cached, unavailable, readSet, writtenSet, writtenValue, hasBit, requestedB}
 use Rattle.station_state.specs.Changes.{pageOn}
-use Rattle.message.specs.Layout.{versionFrom as Message·versionFrom, setsFrom, valuesFrom}
+use Rattle.message.specs.Layout.{setsFrom, valuesFrom, pageVersionOf}
 use Rattle.layout.specs.Record.{valueLength}
 
 -- "on which the transaction has read or written": something on the page
@@ -33,13 +33,6 @@ usesB sets s p = not (eqb (bitAnd (getD sets p 0) (bitOr (readSet s p) (writtenS
 unfoldable pub inUseB : List ℕ → List ℕ → Bool
 inUseB sets s = anyTo (usesB sets s) 32
 
--- "the transaction used one" of the pages
-unfoldable pub touchesB : ℕ → List ℕ → ℕ → Bool
-touchesB d s p = hasBit d p && usedPageB s p
-
-unfoldable pub touchedB : ℕ → List ℕ → Bool
-touchedB d s = anyTo (touchesB d s) 32
-
 -- "drop each cached page named on which the transaction has read or written nothing and for which no request is out"
 unfoldable pub dropsB : List ℕ → List ℕ → ℕ → Bool
 dropsB sets s p = hasBit (cached s) p && not (eqb (getD sets p 0) 0) && not (usedPageB s p) && not (requestedB s p)
@@ -47,13 +40,17 @@ dropsB sets s p = hasBit (cached s) p && not (eqb (getD sets p 0) 0) && not (use
 unfoldable pub droppedB : List ℕ → List ℕ → ℕ
 droppedB sets s = maskTo (dropsB sets s) 32
 
--- a dropped page leaves nothing behind: the first n of its values, then version and unavailable set
+-- a dropped page leaves nothing behind: the first n of its values and of its versions, then the unavailable set
 unfoldable pub blankTo : List ℕ → ℕ → ℕ → List ℕ
 blankTo s p zero = s
 blankTo s p (suc o) = setU64 (blankTo s p o) (copyFrom + (p * 8 + o) * valueWidth) 0
 
+unfoldable pub unversionTo : List ℕ → ℕ → ℕ → List ℕ
+unversionTo s p zero = s
+unversionTo s p (suc o) = setU32 (unversionTo s p o) (versionFrom + (p * 8 + o) * numberWidth) 0
+
 unfoldable pub dropPageB : List ℕ → ℕ → List ℕ
-dropPageB s p = set (setU32 (blankTo s p 8) (versionFrom + p * numberWidth) 0) (unavailableFrom + p) 0
+dropPageB s p = set (unversionTo (blankTo s p 8) p 8) (unavailableFrom + p) 0
 
 unfoldable pub dropOneB : List ℕ → ℕ → ℕ → List ℕ
 dropOneB s d p = cond (hasBit d p) (dropPageB s p) s
@@ -85,16 +82,27 @@ unfoldable pub arriveTo : List ℕ → List ℕ → ℕ → ℕ → List ℕ
 arriveTo m s p zero = s
 arriveTo m s p (suc o) = setU64 (arriveTo m s p o) (copyFrom + (p * 8 + o) * valueWidth) (arrivesB m (arriveTo m s p o) p o)
 
-unfoldable pub arriveB : List ℕ → ℕ → List ℕ → List ℕ
-arriveB m p s = pageOn (set (setU32 (arriveTo m s p 8) (versionFrom + p * numberWidth) (u32At m Message·versionFrom)) (unavailableFrom + p) (getD m setsFrom 0)) cachedFrom p
+unfoldable pub arriveVersionsTo : List ℕ → List ℕ → ℕ → ℕ → List ℕ
+arriveVersionsTo m s p zero = s
+arriveVersionsTo m s p (suc o) = setU32 (arriveVersionsTo m s p o) (versionFrom + (p * 8 + o) * numberWidth) (pageVersionOf m o)
 
--- "On 21 written pages take the commit number as version"
-unfoldable pub versionOneB : ℕ → List ℕ → ℕ → List ℕ
-versionOneB n s p = cond (hasBit (cached s) p && wrotePageB s p) (setU32 s (versionFrom + p * numberWidth) n) s
+unfoldable pub arriveB : List ℕ → ℕ → List ℕ → List ℕ
+arriveB m p s = pageOn (set (arriveVersionsTo m (arriveTo m s p 8) p 8) (unavailableFrom + p) (getD m setsFrom 0)) cachedFrom p
+
+-- "on 21 the written objects, no longer their pages, take the commit number": those of a page that is cached
+unfoldable pub versionOneB : ℕ → List ℕ → ℕ → ℕ → List ℕ
+versionOneB n s p o = cond (hasBit (writtenSet s p) o) (setU32 s (versionFrom + (p * 8 + o) * numberWidth) n) s
+
+unfoldable pub versionOnTo : ℕ → List ℕ → ℕ → ℕ → List ℕ
+versionOnTo n s p zero = s
+versionOnTo n s p (suc o) = versionOneB n (versionOnTo n s p o) p o
+
+unfoldable pub versionPageB : ℕ → List ℕ → ℕ → List ℕ
+versionPageB n s p = cond (hasBit (cached s) p && wrotePageB s p) (versionOnTo n s p 8) s
 
 unfoldable pub versionsTo : ℕ → List ℕ → ℕ → List ℕ
 versionsTo n s zero = s
-versionsTo n s (suc p) = versionOneB n (versionsTo n s p) p
+versionsTo n s (suc p) = versionPageB n (versionsTo n s p) p
 
 unfoldable pub versionsB : ℕ → List ℕ → List ℕ
 versionsB n s = versionsTo n s 32

@@ -3,7 +3,7 @@ ghost use mathlib.Core.Path.{_≡_};
 ghost use mathlib.Core.Bool.{cond};
 ghost use Prim.Native.Nat.{_+_, _*_, _≤_, _<_, _^_};
 ghost use lib.ListN.{length};
-ghost use Rattle.station_pages.specs.Pages.{usedPageB, wrotePageB, usedPagesB, writtenPagesB, usesB, inUseB, touchesB, touchedB, dropsB, droppedB, blankTo, dropPageB, dropOneB, dropPagesB, markOneB, markB, arrivesB, arriveTo, arriveB, versionOneB, versionsB};
+ghost use Rattle.station_pages.specs.Pages.{usedPageB, wrotePageB, usedPagesB, writtenPagesB, usesB, inUseB, dropsB, droppedB, blankTo, unversionTo, dropPageB, dropOneB, dropPagesB, markOneB, markB, arrivesB, arriveTo, arriveVersionsTo, arriveB, versionOneB, versionOnTo, versionPageB, versionsB};
 ghost use Rattle.station_state.specs.Layout.{setRow, stateLength};
 ghost use Rattle.message.specs.Layout.{messageLength};
 use station_state::CACHED;
@@ -89,27 +89,6 @@ pub fn in_use(sets: &[u8], s: &[u8]) -> bool
     r
 }
 
-fn touches(d: u32, s: &[u8], p: usize) -> bool
-    requires { ⌜ (length (now s) ≡ stateLength) × (p < 32) ⌝ }
-    ensures { λ r. ⌜ r ≡ touchesB d (now (s .entry)) p ⌝ }
-{
-    station_state::has_bit32(d, p) & used_page(s, p)
-}
-
-// Whether the transaction has used one of these pages.
-pub fn touched(d: u32, s: &[u8]) -> bool
-    requires { ⌜ length (now s) ≡ stateLength ⌝ }
-    ensures { λ r. ⌜ r ≡ touchedB d (now (s .entry)) ⌝ }
-{
-    let mut r = false;
-    let mut p = 0;
-    while p < 32 {
-        r |= touches(d, s, p);
-        p += 1;
-    }
-    r
-}
-
 fn drops(sets: &[u8], s: &[u8], p: usize) -> bool
     requires { ⌜ (length (now s) ≡ stateLength) × (setRow ≤ length (now sets)) × (p < 32) ⌝ }
     ensures { λ r. ⌜ r ≡ dropsB (now (sets .entry)) (now (s .entry)) p ⌝ }
@@ -146,12 +125,24 @@ fn blank(s: &mut [u8], p: usize)
     }
 }
 
+// .. and its eight versions.
+fn unversion(s: &mut [u8], p: usize)
+    requires { ⌜ (length (now s) ≡ stateLength) × (p < 32) ⌝ }
+    ensures { λ _. ⌜ now (s .exit) ≡ unversionTo (now (s .entry)) p 8 ⌝ }
+{
+    let mut o = 0;
+    while o < 8 {
+        le::put_u32(s, VERSIONS + (p * 8 + o) * NUMBER_WIDTH, 0);
+        o += 1;
+    }
+}
+
 fn drop_page(s: &mut [u8], p: usize)
     requires { ⌜ (length (now s) ≡ stateLength) × (p < 32) ⌝ }
     ensures { λ _. ⌜ now (s .exit) ≡ dropPageB (now (s .entry)) p ⌝ }
 {
     blank(s, p);
-    le::put_u32(s, VERSIONS + p * NUMBER_WIDTH, 0);
+    unversion(s, p);
     le::put_u8(s, UNAVAILABLE + p, 0);
 }
 
@@ -225,39 +216,68 @@ fn arrive_values(s: &mut [u8], m: &[u8], p: usize)
     }
 }
 
-// Page p arrives with message m: values, version, unavailable set.
+fn arrive_versions(s: &mut [u8], m: &[u8], p: usize)
+    requires { ⌜ (length (now s) ≡ stateLength) × (messageLength ≤ length (now m)) × (p < 32) ⌝ }
+    ensures { λ _. ⌜ now (s .exit) ≡ arriveVersionsTo (now (m .entry)) (now (s .entry)) p 8 ⌝ }
+{
+    let mut o = 0;
+    while o < 8 {
+        let v = le::get_u32(m, message::PAGE_VERSIONS + o * message::VERSION_WIDTH);
+        le::put_u32(s, VERSIONS + (p * 8 + o) * NUMBER_WIDTH, v);
+        o += 1;
+    }
+}
+
+// Page p arrives with message m: values, versions, unavailable set.
 pub fn arrive(s: &mut [u8], m: &[u8], p: usize)
     requires { ⌜ (length (now s) ≡ stateLength) × (messageLength ≤ length (now m)) × (p < 32) ⌝ }
     ensures { λ _. ⌜ now (s .exit) ≡ arriveB (now (m .entry)) p (now (s .entry)) ⌝ }
 {
     arrive_values(s, m, p);
-    le::put_u32(
-        s,
-        VERSIONS + p * NUMBER_WIDTH,
-        le::get_u32(m, message::VERSION),
-    );
+    arrive_versions(s, m, p);
     le::put_u8(s, UNAVAILABLE + p, m[message::SETS]);
     station_state::page_on(s, CACHED, p);
 }
 
-fn version_one(s: &mut [u8], n: u32, p: usize)
-    requires { ⌜ (length (now s) ≡ stateLength) × (p < 32) ⌝ }
-    ensures { λ _. ⌜ now (s .exit) ≡ versionOneB n (now (s .entry)) p ⌝ }
+fn version_one(s: &mut [u8], n: u32, p: usize, o: usize)
+    requires { ⌜ (length (now s) ≡ stateLength) × (p < 32) × (o < 8) ⌝ }
+    ensures { λ _. ⌜ now (s .exit) ≡ versionOneB n (now (s .entry)) p o ⌝ }
 {
-    if station_state::has_bit32(le::get_u32(s, CACHED), p) & wrote_page(s, p) {
-        le::put_u32(s, VERSIONS + p * NUMBER_WIDTH, n);
+    if station_state::has_bit8(s[WRITTEN_SET + p], o) {
+        le::put_u32(s, VERSIONS + (p * 8 + o) * NUMBER_WIDTH, n);
         return;
     }
 }
 
-// Written cached pages take version n.
+fn version_on(s: &mut [u8], n: u32, p: usize)
+    requires { ⌜ (length (now s) ≡ stateLength) × (p < 32) ⌝ }
+    ensures { λ _. ⌜ now (s .exit) ≡ versionOnTo n (now (s .entry)) p 8 ⌝ }
+{
+    let mut o = 0;
+    while o < 8 {
+        version_one(s, n, p, o);
+        o += 1;
+    }
+}
+
+fn version_page(s: &mut [u8], n: u32, p: usize)
+    requires { ⌜ (length (now s) ≡ stateLength) × (p < 32) ⌝ }
+    ensures { λ _. ⌜ now (s .exit) ≡ versionPageB n (now (s .entry)) p ⌝ }
+{
+    if station_state::has_bit32(le::get_u32(s, CACHED), p) & wrote_page(s, p) {
+        version_on(s, n, p);
+        return;
+    }
+}
+
+// Written objects of cached pages take version n.
 pub fn versions(s: &mut [u8], n: u32)
     requires { ⌜ length (now s) ≡ stateLength ⌝ }
     ensures { λ _. ⌜ now (s .exit) ≡ versionsB n (now (s .entry)) ⌝ }
 {
     let mut p = 0;
     while p < 32 {
-        version_one(s, n, p);
+        version_page(s, n, p);
         p += 1;
     }
 }

@@ -1,11 +1,11 @@
 -- The changes of a state that touch one place or one set. Each carries out the definition of crate line that has its name.
 use Prim.Native.Nat.{ℕ, zero, suc, _+_, _-_, _*_, _/_, _%_, _^_}
 use mathlib.Core.List.{List}
-use mathlib.Core.Bool.{Bool}
+use mathlib.Core.Bool.{Bool, _||_, cond}
 use lib.ListN.{getD, set}
 use lib.Bits.{bitAnd, bitOr}
 use Rattle.le.specs.Le.{u32At, setU32, setU64}
-use Rattle.station_state.specs.Layout.{setRow, waitingValueFrom, numberFrom, wholeFrom, openFrom, waitFrom, addressFrom, copyFrom, readValueFrom, writtenValueFrom, keptFrom, valueWidth, numberWidth, copyOf, number, locks, writtenSet, readSetFrom, writtenSetFrom, locksFrom, namedFrom}
+use Rattle.station_state.specs.Layout.{setRow, waitingValueFrom, numberFrom, wholeFrom, openFrom, waitFrom, addressFrom, copyFrom, readValueFrom, writtenValueFrom, keptFrom, valueWidth, numberWidth, seenFrom, copyOf, versionOf, member, number, locks, writtenSet, readSetFrom, writtenSetFrom, locksFrom, namedFrom}
 
 -- address a joins the object sets from `at`
 unfoldable pub addTo : List ℕ → ℕ → ℕ → List ℕ
@@ -33,10 +33,17 @@ beginB s = set (setU32 s numberFrom (number s + 1)) openFrom 1
 
 -- "A transaction's first read of an object is recorded"
 unfoldable pub recordReadB : ℕ → List ℕ → List ℕ
-recordReadB a s = setU64 (addTo s readSetFrom a) (readValueFrom + a * valueWidth) (copyOf s a)
+recordReadB a s = setU32 (setU64 (addTo s readSetFrom a) (readValueFrom + a * valueWidth) (copyOf s a)) (seenFrom + a * numberWidth) (versionOf s a)
+
+-- the copy's version is kept when the transaction first uses the object
+unfoldable pub usedB : List ℕ → ℕ → Bool
+usedB s a = member s readSetFrom a || member s writtenSetFrom a
+
+unfoldable pub firstUseB : ℕ → List ℕ → List ℕ
+firstUseB a s = cond (usedB s a) s (setU32 s (seenFrom + a * numberWidth) (versionOf s a))
 
 unfoldable pub writeLocalB : ℕ → ℕ → List ℕ → List ℕ
-writeLocalB a v s = setU64 (setU64 (addTo s writtenSetFrom a) (writtenValueFrom + a * valueWidth) v) (copyFrom + a * valueWidth) v
+writeLocalB a v s = setU64 (setU64 (addTo (firstUseB a s) writtenSetFrom a) (writtenValueFrom + a * valueWidth) v) (copyFrom + a * valueWidth) v
 
 -- what is out: nothing, a read, a write, a commit
 unfoldable pub idleB : List ℕ → List ℕ

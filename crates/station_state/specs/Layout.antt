@@ -42,8 +42,11 @@ keptFrom = waitingValueFrom + valueWidth
 abbrev pub versionFrom : ℕ
 versionFrom = keptFrom + 8 * numberWidth
 
+abbrev pub seenFrom : ℕ
+seenFrom = versionFrom + 256 * numberWidth
+
 abbrev pub numberFrom : ℕ
-numberFrom = versionFrom + 32 * numberWidth
+numberFrom = seenFrom + 256 * numberWidth
 
 abbrev pub cachedFrom : ℕ
 cachedFrom = numberFrom + numberWidth
@@ -93,7 +96,8 @@ table =
     ∷ region valueWidth 1 256  -- written value
     ∷ region valueWidth 1 1  -- waiting value
     ∷ region numberWidth 8 1  -- kept, by requester
-    ∷ region numberWidth 1 32  -- version
+    ∷ region numberWidth 1 256  -- version
+    ∷ region numberWidth 1 256  -- seen version
     ∷ region numberWidth 1 1  -- number
     ∷ region pageSetWidth 1 1  -- cached
     ∷ region pageSetWidth 1 1  -- whole
@@ -128,8 +132,11 @@ keptCell = waitingValueCell + 1
 abbrev pub versionCell : ℕ
 versionCell = keptCell + 1
 
+abbrev pub seenCell : ℕ
+seenCell = versionCell + 1
+
 abbrev pub numberCell : ℕ
-numberCell = versionCell + 1
+numberCell = seenCell + 1
 
 abbrev pub cachedCell : ℕ
 cachedCell = numberCell + 1
@@ -184,9 +191,12 @@ waitingValue s = u64At s waitingValueFrom
 abbrev pub keptOf : List ℕ → ℕ → ℕ
 keptOf s r = u32At s (keptFrom + r * numberWidth)
 
--- by page
+-- the copy's version, and the one that it had when the transaction first used the object; by address
 abbrev pub versionOf : List ℕ → ℕ → ℕ
-versionOf s p = u32At s (versionFrom + p * numberWidth)
+versionOf s a = u32At s (versionFrom + a * numberWidth)
+
+abbrev pub seenOf : List ℕ → ℕ → ℕ
+seenOf s a = u32At s (seenFrom + a * numberWidth)
 
 abbrev pub number : List ℕ → ℕ
 number s = u32At s numberFrom

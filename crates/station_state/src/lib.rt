@@ -6,7 +6,7 @@ ghost use Prim.Native.Nat.{_+_, _^_, _≤_, _<_};
 ghost use lib.ListN.{length, replicate};
 ghost use Rattle.station_state.specs.Layout.{pageSetWidth, setRow, stateLength, station as Layout·station, opened, number, hasBit, member as Layout·member, countIn, noneIn, requestedB};
 ghost use Rattle.station_state.specs.Valid.{fieldsOk, ownKept, closedOk, firstOk, fewIn, limitedOk, worksOk, locklessOk, holdsOk, valid as Valid·valid, freshened, freshOf};
-ghost use Rattle.station_state.specs.Changes.{addTo, pageOn, pageOff, clearTo, copyTo, beginB, recordReadB, writeLocalB, idleB, forReadB, forWriteB, forCommitB, loosenB, keepB, unkeepB, closedB};
+ghost use Rattle.station_state.specs.Changes.{addTo, pageOn, pageOff, clearTo, copyTo, beginB, recordReadB, usedB, firstUseB, writeLocalB, idleB, forReadB, forWriteB, forCommitB, loosenB, keepB, unkeepB, closedB};
 
 // Widths: of a value, of a transaction's number or a version, of a page set. An object set has one byte.
 pub const VALUE_WIDTH: usize = 8;
@@ -31,7 +31,9 @@ pub const KEPT: usize = WAITING_VALUE + VALUE_WIDTH;
 
 pub const VERSIONS: usize = KEPT + 8 * NUMBER_WIDTH;
 
-pub const NUMBER: usize = VERSIONS + 32 * NUMBER_WIDTH;
+pub const SEEN: usize = VERSIONS + 256 * NUMBER_WIDTH;
+
+pub const NUMBER: usize = SEEN + 256 * NUMBER_WIDTH;
 
 pub const CACHED: usize = NUMBER + NUMBER_WIDTH;
 
@@ -322,14 +324,36 @@ pub fn begin(s: &mut [u8])
     le::put_u8(s, OPEN, 1);
 }
 
-// The copy's value of a is recorded as read.
+// The copy's value of a is recorded as read, and its version with it.
 pub fn record_read(s: &mut [u8], a: usize)
     requires { ⌜ (length (now s) ≡ stateLength) × (a < 256) ⌝ }
     ensures { λ _. ⌜ now (s .exit) ≡ recordReadB a (now (s .entry)) ⌝ }
 {
     let v = le::get_u64(s, COPY + a * VALUE_WIDTH);
+    let n = le::get_u32(s, VERSIONS + a * NUMBER_WIDTH);
     add_to(s, READ_SET, a);
     le::put_u64(s, READ_VALUES + a * VALUE_WIDTH, v);
+    le::put_u32(s, SEEN + a * NUMBER_WIDTH, n);
+}
+
+// Whether the transaction has read or written a.
+fn used(s: &[u8], a: usize) -> bool
+    requires { ⌜ (length (now s) ≡ stateLength) × (a < 256) ⌝ }
+    ensures { λ r. ⌜ r ≡ usedB (now (s .entry)) a ⌝ }
+{
+    member(s, READ_SET, a) | member(s, WRITTEN_SET, a)
+}
+
+// Keeps the version of a's copy, if the transaction has not used a yet.
+fn first_use(s: &mut [u8], a: usize)
+    requires { ⌜ (length (now s) ≡ stateLength) × (a < 256) ⌝ }
+    ensures { λ _. ⌜ now (s .exit) ≡ firstUseB a (now (s .entry)) ⌝ }
+{
+    if used(s, a) {
+        return;
+    }
+    let n = le::get_u32(s, VERSIONS + a * NUMBER_WIDTH);
+    le::put_u32(s, SEEN + a * NUMBER_WIDTH, n);
 }
 
 // v is written to a, in the transaction and in the copy.
@@ -337,6 +361,7 @@ pub fn write_local(s: &mut [u8], a: usize, v: u64)
     requires { ⌜ (length (now s) ≡ stateLength) × (a < 256) ⌝ }
     ensures { λ _. ⌜ now (s .exit) ≡ writeLocalB a v (now (s .entry)) ⌝ }
 {
+    first_use(s, a);
     add_to(s, WRITTEN_SET, a);
     le::put_u64(s, WRITTEN_VALUES + a * VALUE_WIDTH, v);
     le::put_u64(s, COPY + a * VALUE_WIDTH, v);

@@ -1,11 +1,13 @@
 -- The actions over bytes mean document 01's: a page sent, an abort, an install.
 use Prim.Native.Nat.{ℕ, zero, suc, _+_, _*_, _/_, _%_, _^_, _≤_, _<_}
 use mathlib.Core.Path.{_≡_, refl, sym, ap, ap₂, subst, _∙_, fun-ext}
-use mathlib.Core.Bool.{Bool, true, false, not, _&&_, cond}
+use mathlib.Core.Bool.{Bool, true, false, not, _&&_}
 use mathlib.Core.List.{List}
 use mathlib.Core.Logic.{_≢_}
 use native.Mathlib.Omega.{arith}
 use lib.Dec.{eqb, ltb}
+use lib.ListN.{length}
+use Rattle.lists.specs.Bytes.{Bytes}
 use Rattle.sets.specs.Base.{Val, upd2, has, any}
 use Rattle.sets.specs.Laws.{byB, ltb-yes, ltb-no, any-ext}
 use Rattle.cells.specs.Upd.{cond-rel}
@@ -17,26 +19,27 @@ use Rattle.cells.specs.Sets.{test8}
 use Rattle.layout.specs.Record.{bytesOf}
 use Rattle.entries.specs.Entries.{entriesFrom, entriesOf}
 use Rattle.recs.specs.Recs.{asRecord}
-use Rattle.line.specs.Messages.{locking, Work, Lock, Invalidate}
-use Rattle.line.specs.Server.{ByCause, Server, onServer, setListed, wrotePage, sendPage, leave, finish, abort, write, archive, inform, informFrom, install, recordOf}
+use Rattle.line.specs.Messages.{locking, Work, Lock, Invalidate, To}
+use Rattle.line.specs.Server.{ByCause, Server, setListed, wrotePage, informed, sendPage, leave, finish, abort, write, archive, inform, informFrom, install, recordOf}
 use Rattle.line.specs.Server as Model
 use Rattle.station_state.specs.Layout.{numberWidth, valueWidth, hasBit, member}
 use Rattle.set_record.specs.Record.{valuesAt}
-use Rattle.server_state.specs.Layout.{readValueCell, writtenValueCell, workCell, readSetCell, writtenSetCell, table, workFrom, readValuesFrom, writtenValuesFrom, workNumber, lastOf, readSetFrom, writtenSetFrom, writtenSet}
+use Rattle.server_state.specs.Layout.{readValueCell, writtenValueCell, workCell, readSetCell, writtenSetCell, table, workFrom, readValuesFrom, writtenValuesFrom, workNumber, lastOf, setRow, readSetFrom, writtenSetFrom, writtenSet}
 use Rattle.server_tests.specs.Tests.{writtenPageB, writtenPagesB, informedB}
 use Rattle.server_changes.specs.Changes.{keepsAgeB, finishB, leaveB, writeB}
-use Rattle.server_actions.specs.Actions.{Serving, recordB, sendPageB, abortB, informB, informTo, installB}
+use Rattle.server_actions.specs.Actions.{Serving, recordB, sendPageB, abortB, writtenSets, invalidateB, informB, informTo, installB}
+use Rattle.message_meaning.specs.Meant.{objectsIn}
 use Rattle.station_meaning.specs.Meant.{within, valueIf}
 use Rattle.station_meaning.specs.Tests.{has-if}
 use Rattle.server_meaning.specs.Meant.{Is, start, workOf}
 use Rattle.server_meaning.specs.Tests.{latest-at, latest-lt, last-at, kind-at, informed-at}
-use Rattle.server_meaning.specs.Changes.{list-is, unlist-is}
+use Rattle.server_meaning.specs.Changes.{list-is}
 use Rattle.server_meaning.specs.Waiting.{leave-is}
 use Rattle.server_meaning.specs.Frees.{finish-is}
 use Rattle.server_meaning.specs.Writes.{write-is, write-work}
-use Rattle.step_meaning.specs.Relation.{sent-snoc, recs-snoc, Serves}
-use Rattle.step_meaning.specs.Posts.{kindFor, page-post, aborted-post, committed-post, invalidate-post}
-use Rattle.step_meaning.specs.Keeps.{wanting-list, wanting-unlist, wanting-finish, wanting-leave, wanting-write, sound-same, sound-leave, sound-finish}
+use Rattle.step_meaning.specs.Relation.{ReadAs, sent-snoc, recs-snoc, Serves}
+use Rattle.step_meaning.specs.Posts.{kindFor, page-post, aborted-post, committed-post, invalidate-post, written-has, written-length, written-are}
+use Rattle.step_meaning.specs.Keeps.{wanting-list, wanting-finish, wanting-leave, wanting-write, sound-same, sound-leave, sound-finish}
 
 module _ {b : Serving} {x : Model.Serving} (h : Serves b x) where
   -- "A station is listed as holding a page from the sending of 16, 17 or 18"
@@ -142,39 +145,35 @@ pub writtenPages-lt : (s : List ℕ) (i : ℕ) → writtenPagesB s i < 2 ^ 32
 unfolding writtenPagesB
 writtenPages-lt s i = mask-lt (writtenPageB s i) 32
 
--- "23 with all written pages to other validating stations listed for one": to j
-pub inform-means : {b : Serving} {x : Model.Serving} → Serves b x → (i d j : ℕ) (w : Work) → j < 8 → d < 2 ^ 32 → _≡_ {A = ℕ → Bool} (tb d) (wrotePage w)
-    → Serves (informB i d b j) (inform i w j x)
+-- 23 "names objects: object sets by page" to other validating stations listed for one of their pages: to j. y are the sets
+pub inform-means : {b : Serving} {x : Model.Serving} → Serves b x → (i d j : ℕ) (y : List ℕ) (w : Work) → j < 8 → length y ≡ setRow → Bytes y → _≡_ {A = ℕ → Bool} (tb d) (wrotePage w)
+    → _≡_ {A = ℕ → Bool} (objectsIn y) (λ a. has (w .writes a)) → Serves (informB i d y b j) (inform i w j x)
 unfolding informB inform
-inform-means {b} {x} h i d j w l ld e =
+inform-means {b} {x} h i d j y w l ly hy e g =
     let m = x .server in
-    subst
-    (λ (f : ℕ → Bool).
-    Serves (informB i d b j)
-    (cond (not (eqb j i) && not (locking (m .kind j)) && any 32 (λ p. f p && m .listed j p))
-    (Model.send (onServer x (setListed m (λ k p. cond (eqb k j) (m .listed k p && not (f p)) (m .listed k p)))) j (Invalidate f)) x))
-    e
-    (cond-rel Serves (informedB (b .state) i d j) (not (eqb j i) && not (locking (m .kind j)) && any 32 (λ p. tb d p && m .listed j p)) (informed-at (h .state) i d j l)
+    let test : informedB (b .state) i d j ≡ informed m i w j =
+    informed-at (h .state) i d j l ∙ ap (λ (f : ℕ → Bool). not (eqb j i) && not (locking (m .kind j)) && any 32 (λ p. f p && m .listed j p)) e in
+    cond-rel Serves (informedB (b .state) i d j) (informed m i w j) test
     (record {
-      state = unlist-is (h .state) j d l ld;
-      wanting = wanting-unlist (b .state) (h .wanting) j d l;
-      sound = sound-same _ refl refl refl refl (h .sound);
-      sent = sent-snoc (b .sent) (x .sent) _ _ (h .sent) (invalidate-post j d l ld);
+      state = h .state;
+      wanting = h .wanting;
+      sound = h .sound;
+      sent = sent-snoc (b .sent) (x .sent) _ _ (h .sent) (subst (λ (f : ℕ → Bool). ReadAs (invalidateB j y) (To j (Invalidate f))) g (invalidate-post j y l ly hy));
       recs = h .recs;
     })
-    h)
+    h
 
 -- "stations rising": the model informs n from j on, the bytes all below k
-informs-from : (b : Serving) {x : Model.Serving} (i d : ℕ) (w : Work) (n j k : ℕ) → d < 2 ^ 32 → _≡_ {A = ℕ → Bool} (tb d) (wrotePage w) → j + n ≡ k → k ≤ 8
-    → Serves (informTo i d b j) x → Serves (informTo i d b k) (informFrom n j i w x)
+informs-from : (b : Serving) {x : Model.Serving} (i d : ℕ) (y : List ℕ) (w : Work) (n j k : ℕ) → length y ≡ setRow → Bytes y → _≡_ {A = ℕ → Bool} (tb d) (wrotePage w)
+    → _≡_ {A = ℕ → Bool} (objectsIn y) (λ a. has (w .writes a)) → j + n ≡ k → k ≤ 8 → Serves (informTo i d y b j) x → Serves (informTo i d y b k) (informFrom n j i w x)
 unfolding informTo informFrom
-informs-from b {x} i d w zero j k ld f e l h = let same : j ≡ k = omega arith in subst (λ (q : ℕ). Serves (informTo i d b q) x) same h
-informs-from b i d w (suc n) j k ld f e l h = informs-from b i d w n (suc j) k ld f (omega arith) l (inform-means h i d j w (omega arith) ld f)
+informs-from b {x} i d y w zero j k ly hy f g e l h = let same : j ≡ k = omega arith in subst (λ (q : ℕ). Serves (informTo i d y b q) x) same h
+informs-from b i d y w (suc n) j k ly hy f g e l h = informs-from b i d y w n (suc j) k ly hy f g (omega arith) l (inform-means h i d j y w (omega arith) ly hy f g)
 
-pub informs-means : {b : Serving} {x : Model.Serving} → Serves b x → (i d : ℕ) (w : Work) → d < 2 ^ 32 → _≡_ {A = ℕ → Bool} (tb d) (wrotePage w)
-    → Serves (informTo i d b 8) (informFrom 8 0 i w x)
+pub informs-means : {b : Serving} {x : Model.Serving} → Serves b x → (i d : ℕ) (y : List ℕ) (w : Work) → length y ≡ setRow → Bytes y → _≡_ {A = ℕ → Bool} (tb d) (wrotePage w)
+    → _≡_ {A = ℕ → Bool} (objectsIn y) (λ a. has (w .writes a)) → Serves (informTo i d y b 8) (informFrom 8 0 i w x)
 unfolding informTo
-informs-means {b} h i d w ld f = informs-from b i d w 8 0 8 ld f refl (omega arith) h
+informs-means {b} h i d y w ly hy f g = informs-from b i d y w 8 0 8 ly hy f g refl (omega arith) h
 
 -- "Install: write values, archive the record, free locks, send 21, then .. 23"
 pub install-means : {b : Serving} {x : Model.Serving} → Serves b x → (i : ℕ) (w : Work) → i < 8 → workOf (b .state) i ≡ w → w .transaction ≢ 0 → lastOf (b .state) + 1 < 2 ^ 32
@@ -202,4 +201,4 @@ install-means {b} {x} h i w l e n ln =
           recs-snoc (b .recs) (x .recs) _ _ (h .recs)
           (record-is wrote i l ∙ ap (λ (u : Work). bytesOf (asRecord (recordOf (write v (leave i x) .server) i u))) (write-work (h .state) i l ln i));
     })
-    i (writtenPagesB (b .state) i) v (writtenPages-lt (b .state) i) (writtenPages-is (h .state) i l))
+    i (writtenPagesB (b .state) i) (writtenSets i (b .state)) v (written-length (h .state) i l) (written-are (h .state) i) (writtenPages-is (h .state) i l) (written-has (h .state) i l))

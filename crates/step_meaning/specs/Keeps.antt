@@ -10,17 +10,16 @@ use lib.ListN.{getD, set}
 use lib.Seq.{getD-set-other}
 use Rattle.sets.specs.Base.{upd}
 use Rattle.sets.specs.Laws.{byEq, eqb-yes}
-use Rattle.le.specs.Le.{u16At, u64At, setU32, setU64}
+use Rattle.le.specs.Le.{u64At, setU32, setU64}
 use Rattle.le.specs.Laws.{setU32-is}
 use Rattle.cells.specs.Num.{AllBytes, put-other}
 use Rattle.line.specs.Server.{Server, Waiter, NoWant, WantCommit, isWant, noWaiter, setWl, setLatest, setQueue}
 use Rattle.message.specs.Layout.{transactionOf}
-use Rattle.message.specs.Commit.{recordAt, addressesAt}
-use Rattle.record.specs.Check.{writeCountFrom, readCountFrom}
+use Rattle.message.specs.Commit.{addressesAt, sentReads, sentWrites}
 use Rattle.station_state.specs.Layout.{pageSetWidth, numberWidth, valueWidth, hasBit, member}
 use Rattle.station_state.specs.Changes.{addTo, pageOn, pageOff, clearTo}
-use Rattle.server_state.specs.Layout.{ageWidth, valueFrom, valueRow, setRow, ageFrom, arrivalFrom, nextAgeFrom, nextArrivalFrom, versionFrom, workFrom, latestFrom, listedFrom, lastFrom, askedFrom, lockFrom, wholeFrom, wantFrom, requestFrom, calledFrom, pendFrom, busyFrom, unfinishedFrom, ageKeptFrom, readValuesFrom, sentVersionsFrom, readSetFrom, agesOf, ageKeptOf, latestOf, lockOf, wholeOf, writtenSet, writtenSetFrom, writtenValuesFrom}
-use Rattle.server_changes.specs.Changes.{newAgeB, ageB, noticeB, freePageB, freePagesTo, freeOneB, freeTo, finishB, leaveB, joinB, joinReadB, joinWriteB, unpackOne, unpackTo, versionsIn, unpackB, joinCommitB, listB, unlistB, markBusyB, answeredB, lockOneB, lockTo, loosenB, askedB, calledB, lockPageB, lockObjectB, versionOneB, versionsTo, valueOneB, valuesTo, writeB}
+use Rattle.server_state.specs.Layout.{ageWidth, valueFrom, valueRow, setRow, ageFrom, arrivalFrom, nextAgeFrom, nextArrivalFrom, versionFrom, workFrom, latestFrom, listedFrom, lastFrom, askedFrom, lockFrom, wholeFrom, wantFrom, requestFrom, calledFrom, pendFrom, busyFrom, unfinishedFrom, ageKeptFrom, readValuesFrom, readVersionsFrom, writtenVersionsFrom, versionRow, readSetFrom, agesOf, ageKeptOf, latestOf, lockOf, wholeOf, writtenSetFrom, writtenValuesFrom}
+use Rattle.server_changes.specs.Changes.{newAgeB, ageB, noticeB, freePageB, freePagesTo, freeOneB, freeTo, finishB, leaveB, joinB, joinReadB, joinWriteB, unpackOne, unpackTo, unpackB, joinCommitB, listB, unlistB, markBusyB, answeredB, lockOneB, lockTo, loosenB, askedB, calledB, lockPageB, lockObjectB, valueOneB, valuesTo, writeB}
 use Rattle.server_meaning.specs.Tests.{Wanting}
 use Rattle.step_meaning.specs.Relation.{Sound}
 
@@ -91,20 +90,14 @@ want-locks {s} k i (suc n) h =
     let r = want-locks k i n (omega arith) in
     want-cond (eqb (lockOf (freeTo i s n) n) (i + 1)) (want-set r (lockFrom + n) 0 (λ j l e. omega arith)) r
 
-want-versions : {s : List ℕ} → Ok s → (i v n : ℕ) → n ≤ 32 → Ok (versionsTo i v s n)
-unfolding versionsTo versionOneB
-want-versions k i v zero h = k
-want-versions {s} k i v (suc n) h =
-    let r = want-versions k i v n (omega arith) in
-    want-cond (eqb (writtenSet (versionsTo i v s n) i n) 0) r (want-u32 r (versionFrom + n * numberWidth) v (omega arith))
-
-want-values : {s : List ℕ} → Ok s → (i n : ℕ) → n ≤ 256 → Ok (valuesTo i s n)
+want-values : {s : List ℕ} → Ok s → (i v n : ℕ) → n ≤ 256 → Ok (valuesTo i v s n)
 unfolding valuesTo valueOneB
-want-values k i zero h = k
-want-values {s} k i (suc n) h =
-    let r = want-values k i n (omega arith) in
-    let t = valuesTo i s n in
-    want-cond (member t (writtenSetFrom i) n) (want-u64 r (valueFrom + n * valueWidth) (u64At t (writtenValuesFrom i + n * valueWidth)) (omega arith)) r
+want-values k i v zero h = k
+want-values {s} k i v (suc n) h =
+    let r = want-values k i v n (omega arith) in
+    let t = valuesTo i v s n in
+    want-cond (member t (writtenSetFrom i) n)
+    (want-u32 (want-u64 r (valueFrom + n * valueWidth) (u64At t (writtenValuesFrom i + n * valueWidth)) (omega arith)) (versionFrom + n * numberWidth) v (omega arith)) r
 
 want-objects : {s : List ℕ} → Ok s → (i p x n : ℕ) → p < 32 → n ≤ 8 → Ok (lockTo i p x s n)
 unfolding lockTo lockOneB
@@ -113,18 +106,15 @@ want-objects k i p x (suc n) lp h =
     let r = want-objects k i p x n lp (omega arith) in
     want-cond (hasBit x n) (want-set r (lockFrom + (p * 8 + n)) (i + 1) (λ j l e. omega arith)) r
 
-want-sent : {s : List ℕ} → Ok s → (x : List ℕ) (i n : ℕ) → i < 8 → n ≤ 32 → Ok (versionsIn x i s n)
-unfolding versionsIn
-want-sent k x i zero l h = k
-want-sent k x i (suc n) l h = want-u32 (want-sent k x i n l (omega arith)) (sentVersionsFrom i + n * numberWidth) _ (omega arith)
-
-want-entries : {s : List ℕ} → Ok s → (x : List ℕ) → AllBytes x → (at from first n : ℕ) → at + setRow ≤ wantFrom → from + valueRow ≤ wantFrom
-    → Ok (unpackTo x s at from first n)
+want-entries : {s : List ℕ} → Ok s → (x : List ℕ) → AllBytes x → (at from seen first n : ℕ) → at + setRow ≤ wantFrom → from + valueRow ≤ wantFrom → seen + versionRow ≤ wantFrom
+    → Ok (unpackTo x s at from seen first n)
 unfolding unpackTo unpackOne
-want-entries k x b at from first zero h g = k
-want-entries k x b at from first (suc n) h g =
-    let l : getD x (addressesAt + (first + n)) 0 < 256 = b (addressesAt + (first + n)) in
-    want-u64 (want-add (want-entries k x b at from first n h g) at _ h l) (from + getD x (addressesAt + (first + n)) 0 * valueWidth) _ (omega arith)
+want-entries k x b at from seen first zero h g f = k
+want-entries k x b at from seen first (suc n) h g f =
+    let l : getD x (addressesAt x + (first + n)) 0 < 256 = b (addressesAt x + (first + n)) in
+    want-u32
+    (want-u64 (want-add (want-entries k x b at from seen first n h g f) at _ h l) (from + getD x (addressesAt x + (first + n)) 0 * valueWidth) _ (omega arith))
+    (seen + getD x (addressesAt x + (first + n)) 0 * numberWidth) _ (omega arith)
 
 -- the changes
 
@@ -146,9 +136,9 @@ joined k i w a l lw =
 unpacked : {s : List ℕ} → Ok s → (i : ℕ) (x : List ℕ) → i < 8 → AllBytes x → Ok (unpackB i x s)
 unfolding unpackB
 unpacked k i x l b =
-    let versions = want-sent (want-u32 k (workFrom + i * numberWidth) (transactionOf x) (omega arith)) x i 32 l (omega arith) in
-    let reads = want-entries versions x b (readSetFrom i) (readValuesFrom i) 0 (u16At x (recordAt + readCountFrom)) (omega arith) (omega arith) in
-    want-entries reads x b (writtenSetFrom i) (writtenValuesFrom i) (u16At x (recordAt + readCountFrom)) (u16At x (recordAt + writeCountFrom)) (omega arith) (omega arith)
+    let number = want-u32 k (workFrom + i * numberWidth) (transactionOf x) (omega arith) in
+    let reads = want-entries number x b (readSetFrom i) (readValuesFrom i) (readVersionsFrom i) 0 (sentReads x) (omega arith) (omega arith) (omega arith) in
+    want-entries reads x b (writtenSetFrom i) (writtenValuesFrom i) (writtenVersionsFrom i) (sentReads x) (sentWrites x) (omega arith) (omega arith) (omega arith)
 
 module _ (s : List ℕ) (k : Wanting s) where
   here : Ok s
@@ -186,7 +176,7 @@ module _ (s : List ℕ) (k : Wanting s) where
 
   written : (i : ℕ) → Ok (writeB i s)
   unfolding writeB
-  written i = want-values (want-versions (want-u32 here lastFrom _ (omega arith)) i _ 32 (omega arith)) i 256 (omega arith)
+  written i = want-values (want-u32 here lastFrom _ (omega arith)) i _ 256 (omega arith)
 
   pub wanting-write : (i : ℕ) → Wanting (writeB i s)
   wanting-write i = written i .wants

@@ -1,16 +1,16 @@
 -- The server's actions and the callback tokens of requester r at station j, under a server's step: t are the stations, u the up lines,
 -- d the down lines before the step.
 use mathlib.Core.Path.{_≡_, refl, sym, _∙_}
-use mathlib.Core.Bool.{Bool, true, false, not, _&&_, cond, false≢true}
+use mathlib.Core.Bool.{Bool, true, false, false≢true}
 use mathlib.Core.List.{List, _++_}
 use Prim.Native.Nat.{ℕ, suc, _+_, _<_}
 use native.Mathlib.Omega.{arith}
 use lib.Dec.{eqb}
-use Rattle.sets.specs.Base.{upd, upd2, snoc}
+use Rattle.sets.specs.Base.{upd, upd2, snoc, has}
 use Rattle.sets.specs.Laws.{byB, byEq, eqb-same, eqb-yes, eqb-no, any-no, not-yes}
 use Rattle.line.specs.Messages.{pageOf, lastNumber, Work, Up, Lock, NoLock, ObjectLock, WholeLock, Down, Page, Deescalate, Committed, Aborted, Invalidate, Sent, To}
 use Rattle.line.specs.Station.{Station}
-use Rattle.line.specs.Server.{End, ByCommit, ByCause, Server, Serving, onServer, send, setListed, setAsked, setOl, setWl, wrotePage, valuesOn, unavailable, Waiter, isWant, noWaiter, waits, badNumber, notice, finish, join, leave, sendPage, abort, write, archive, install, commitNow, markBusy, answered, ask, serveRead, concerned, call, grantObject, grantPage, allAnswered}
+use Rattle.line.specs.Server.{End, ByCommit, ByCause, Server, Serving, onServer, send, setListed, setAsked, setOl, setWl, valuesOn, unavailable, Waiter, isWant, noWaiter, waits, badNumber, notice, finish, join, leave, sendPage, abort, write, archive, install, commitNow, markBusy, answered, ask, serveRead, concerned, call, grantObject, grantPage, allAnswered}
 use Rattle.line.specs.Line.{sentTo}
 use Rattle.line.specs.Laws.{sentTo-snoc}
 use Rattle.line.specs.Apart.{GoodNumber, good-number}
@@ -89,7 +89,7 @@ module _ (t : ℕ → Station) (u : ℕ → List Up) (d : ℕ → List Down) (r 
   pub install-calls : (i : ℕ) (w : Work) (x : Serving) → CallsIn t u d r j x → CallsIn t u d r j (install i w x)
   install-calls i w x h =
       installs (CallsIn t u d r j) i w
-      (λ k y e g. send-calls k (Invalidate (wrotePage w)) (onServer y (setListed (y .server) (λ h p. cond (eqb h k) (y .server .listed h p && not (wrotePage w p)) (y .server .listed h p)))) refl tt g)
+      (λ k y e g. send-calls k (Invalidate (λ a. has (w .writes a))) y refl tt g)
       x (send-calls i (Committed (w .transaction) _) (finish i ByCommit (archive i w (write w (leave i x)))) refl tt (installed-calls i w x h))
 
   pub commit-calls : (i : ℕ) (w : Work) (x : Serving) → CallsIn t u d r j x → CallsIn t u d r j (commitNow i w x)
@@ -100,7 +100,7 @@ module _ (t : ℕ → Station) (u : ℕ → List Up) (d : ℕ → List Down) (r 
   unfolding sendPage
   page-calls l i a v x h =
       let s : Server = x .server in
-      send-calls i (Page l a (s .latest i) (s .ver (pageOf a)) v (valuesOn (pageOf a) (s .val))) (onServer x (setListed s (upd2 (s .listed) i (pageOf a) true))) refl tt h
+      send-calls i (Page l a (s .latest i) (valuesOn (pageOf a) (s .ver)) v (valuesOn (pageOf a) (s .val))) (onServer x (setListed s (upd2 (s .listed) i (pageOf a) true))) refl tt h
 
   pub ask-calls : (k p : ℕ) (x : Serving) → CallsIn t u d r j x → CallsIn t u d r j (ask k p x)
   unfolding ask

@@ -20,9 +20,9 @@ pub undo-kept : (s : Station) (r : ℕ) → (undo s) .kept r ≡ s .kept r
 unfolding undo mark dropPages
 undo-kept s r = byB (locking (s .kind)) (λ e. rw e refl) (λ e. rw e refl)
 
-drop-kept : (d : ℕ → Bool) (s : Station) (r : ℕ) → (dropPages d s) .kept r ≡ s .kept r
-unfolding dropPages
-drop-kept d s r = refl
+mark-kept : (d : ℕ → Bool) (s : Station) (r : ℕ) → (mark d s) .kept r ≡ s .kept r
+unfolding mark
+mark-kept d s r = refl
 
 lock-kept : (l : Lock) (a : ℕ) (s : Station) (r : ℕ) → (takeLock l a s) .kept r ≡ s .kept r
 unfolding takeLock
@@ -30,7 +30,7 @@ lock-kept NoLock a s r = refl
 lock-kept ObjectLock a s r = refl
 lock-kept WholeLock a s r = refl
 
-arrived-kept : (l : Lock) (a v : ℕ) (u : ℕ → Bool) (x : ℕ → ℕ) (s : Station) (r : ℕ) → (arrived l a v u x s) .kept r ≡ s .kept r
+arrived-kept : (l : Lock) (a : ℕ) (v : ℕ → ℕ) (u : ℕ → Bool) (x : ℕ → ℕ) (s : Station) (r : ℕ) → (arrived l a v u x s) .kept r ≡ s .kept r
 unfolding arrive
 arrived-kept l a v u x s r = lock-kept l a s r
 
@@ -121,8 +121,8 @@ module _ (r L : ℕ) (F : Bool) (q : Waiter) (p : Bool) (U : List Up) (D : List 
           dones = λ k t set e f h. done-calls k t set h;
           commits = λ t n e f h. close-calls _ (still (s .kept r) (pop-down _ h));
           aborts = λ t c e f h. close-calls _ (rw (undo-kept s r) (still (s .kept r) (pop-down _ h)));
-          invalid-ends = λ d e f g h. close-calls _ (rw (undo-kept (dropPages d s) r, drop-kept d s r) (still (s .kept r) (pop-down _ h)));
-          invalid = λ d e f h. rw (drop-kept d s r) (still (s .kept r) (pop-down _ h));
+          invalid-ends = λ d e f g h. close-calls _ (rw (undo-kept (mark d s) r, mark-kept d s r) (still (s .kept r) (pop-down _ h)));
+          invalid = λ d e f h. rw (mark-kept d s r) (still (s .kept r) (pop-down _ h));
         }
 
     pub station-calls : (m : Down) → Callbacks r L F q p (s .kept r) U (m ∷ D) → CallsDid r L F q p U D (stationStep m s)

@@ -10,7 +10,7 @@ use lib.ListN.{length, take}
 use Rattle.sets.specs.Base.{Val, none, some, has, valOr, zeros}
 use Rattle.line.specs.All.{All}
 use Rattle.line.specs.Messages.{pageOf, locking, Work, Up, ReadRequest, WriteRequest, Commit, Abort, Purge, Busy, Done, WrittenSet, NoLock, ObjectLock, WholeLock, Down, Page, Deescalate, Callback, Committed, Aborted, Invalidate, Sent, To, Rec}
-use Rattle.line.specs.Station.{Station, Wait, Idle, ForRead, ForWrite, ForCommit, waiting, forRead, forWrite, forCommit, requested, Kept, NotKept, KeptCall}
+use Rattle.line.specs.Station.{Station, Wait, Idle, ForRead, ForWrite, ForCommit, waiting, forRead, forWrite, forCommit, Kept, NotKept, KeptCall}
 use Rattle.line.specs.Server.{Server, Waiter, Want, NoWant, WantRead, WantWrite, WantCommit, isWant, noWaiter, other}
 use Rattle.line.specs.Line.{World, Op, Read, Write, Commits, Told, ToldRead, ToldWrite, ToldCommit, ToldAbort}
 use Rattle.line.specs.Truth.{In, count, left, NumberedFrom, ofTransaction, ofNumber, lastWrite, firstRead, SameAsTold}
@@ -393,34 +393,22 @@ ValuesAt s t d i a =
 abbrev pub Hist : List Rec → ℕ → ℕ → ℕ
 Hist archive n a = left (take n archive) zeros a
 
--- V0, of the server alone
+-- V0, of the server alone: an object's value is what the archive leaves at that object's version
 pub record Versions (archive : List Rec) (last : ℕ) (ver : ℕ → ℕ) : Type 0 where
-  pub V0-last : (p : ℕ) → ver p ≤ last
-  pub V0 : (n a : ℕ) → ver (pageOf a) ≤ n → n ≤ last → Hist archive n a ≡ Hist archive (ver (pageOf a)) a
+  pub V0-last : (a : ℕ) → ver a ≤ last
+  pub V0 : (n a : ℕ) → ver a ≤ n → n ≤ last → Hist archive n a ≡ Hist archive (ver a) a
 
 abbrev pub TruePage : List Rec → ℕ → Down → Type 0
-TruePage archive last (Page l a t v u x) = (v ≤ last) × ((b : ℕ) → pageOf b ≡ pageOf a → x b ≡ Hist archive v b)
+TruePage archive last (Page l a t v u x) = (b : ℕ) → pageOf b ≡ pageOf a → (v b ≤ last) × (x b ≡ Hist archive (v b) b)
 TruePage archive last (Deescalate p t) = Unit {0}
 TruePage archive last (Callback r t set) = Unit {0}
 TruePage archive last (Committed t n) = Unit {0}
 TruePage archive last (Aborted t c) = Unit {0}
 TruePage archive last (Invalidate d) = Unit {0}
 
-abbrev pub AllAvailable : Down → Type 0
-AllAvailable (Page l a t v u x) = (b : ℕ) → u b ≡ false
-AllAvailable (Deescalate p t) = Unit {0}
-AllAvailable (Callback r t set) = Unit {0}
-AllAvailable (Committed t n) = Unit {0}
-AllAvailable (Aborted t c) = Unit {0}
-AllAvailable (Invalidate d) = Unit {0}
-
 -- the reads of a commit were true at the versions it names
 abbrev pub TrueReads : List Rec → ℕ → Work → Type 0
-TrueReads archive last k = (a v : ℕ) → k .reads a ≡ some v → (k .versions (pageOf a) ≤ last) × (v ≡ Hist archive (k .versions (pageOf a)) a)
-
--- the versions that a commit names, of cached pages that it writes, are those of the copies
-abbrev pub SameVersions : (ℕ → Bool) → (ℕ → ℕ) → Work → Type 0
-SameVersions cached cver k = (a : ℕ) → has (k .writes a) ≡ true → cached (pageOf a) ≡ true → k .versions (pageOf a) ≡ cver (pageOf a)
+TrueReads archive last k = (a v : ℕ) → k .reads a ≡ some v → (k .readVersions a ≤ last) × (v ≡ Hist archive (k .readVersions a) a)
 
 -- said of the work of a commit in Up, and of a commit that waits
 abbrev pub WorkUp : (Work → Type 0) → Up → Type 0
@@ -439,34 +427,19 @@ WorkWaiting P WantRead k = Unit {0}
 WorkWaiting P WantWrite k = Unit {0}
 WorkWaiting P WantCommit k = P k
 
--- the commit number on its way down: copies of written pages are what the records up to it leave
-abbrev pub Installed : List Rec → (ℕ → Bool) → (ℕ → ℕ) → (ℕ → Val) → Down → Type 0
-Installed archive cached copy wr (Page l a t v u x) = Unit {0}
-Installed archive cached copy wr (Deescalate p t) = Unit {0}
-Installed archive cached copy wr (Callback r t set) = Unit {0}
-Installed archive cached copy wr (Committed t n) =
-    (a b : ℕ) → has (wr b) ≡ true → pageOf b ≡ pageOf a → cached (pageOf a) ≡ true → copy a ≡ Hist archive n a
-Installed archive cached copy wr (Aborted t c) = Unit {0}
-Installed archive cached copy wr (Invalidate d) = Unit {0}
-
-pub record Validated (archive : List Rec) (last : ℕ) (cached : ℕ → Bool) (cver copy : ℕ → ℕ) (unav : ℕ → Bool) (rd wr : ℕ → Val) (w : Wait) (q : Waiter) (U : List Up) (D : List Down) : Type 0 where
-  pub V1-last : (p : ℕ) → cached p ≡ true → cver p ≤ last
-  pub V1 : (a : ℕ) → cached (pageOf a) ≡ true → has (wr a) ≡ false → copy a ≡ Hist archive (cver (pageOf a)) a  -- a copy is what its version says
+-- `seen` is the version that an object had when the transaction first used it
+pub record Validated (archive : List Rec) (last : ℕ) (cached : ℕ → Bool) (cver copy : ℕ → ℕ) (rd wr : ℕ → Val) (seen : ℕ → ℕ) (q : Waiter) (U : List Up) (D : List Down) : Type 0 where
+  pub V1-last : (a : ℕ) → cached (pageOf a) ≡ true → cver a ≤ last
+  pub V1 : (a : ℕ) → cached (pageOf a) ≡ true → has (wr a) ≡ false → copy a ≡ Hist archive (cver a) a  -- a copy is what its object's version says
   pub V2 : All (TruePage archive last) D  -- so is a page on its way
   pub V3-up : All (WorkUp (TrueReads archive last)) U  -- so were the reads of a commit
   pub V3-waiter : WorkWaiting (TrueReads archive last) (q .want) (q .work)
-  pub V4 : All (Installed archive cached copy wr) D
-  pub V5 : forCommit w ≡ false → (a v : ℕ) → rd a ≡ some v → (cached (pageOf a) ≡ true) × (v ≡ Hist archive (cver (pageOf a)) a)
-  pub V6-up : All (WorkUp (SameVersions cached cver)) U
-  pub V6-waiter : WorkWaiting (SameVersions cached cver) (q .want) (q .work)
-  pub V7 : (a : ℕ) → unav a ≡ false  -- nothing is unavailable
-  pub V7-down : All AllAvailable D
-  pub V8 : (p : ℕ) → requested w p ≡ true → cached p ≡ false  -- a page asked for is not cached
+  pub V5 : (a v : ℕ) → rd a ≡ some v → (seen a ≤ last) × (v ≡ Hist archive (seen a) a)  -- so is what was read
 
 abbrev pub ValidatedAt : List Rec → Server → (ℕ → Station) → (ℕ → List Up) → (ℕ → List Down) → ℕ → Type 0
 ValidatedAt archive s t u d i =
     locking (t i .kind) ≡ false
-    → Validated archive (s .last) (t i .cached) (t i .cver) (t i .copy) (t i .unav) (t i .rd) (t i .wr) (t i .wait) (s .queue i) (u i) (d i)
+    → Validated archive (s .last) (t i .cached) (t i .cver) (t i .copy) (t i .rd) (t i .wr) (t i .seen) (s .queue i) (u i) (d i)
 
 -- 7. GHOST AND GOALS
 

@@ -12,7 +12,7 @@ use Rattle.line.specs.All.{All, all-map}
 use Rattle.line.specs.Messages.{pageOf, address, locking, lastNumber, Work, Up, ReadRequest, WriteRequest, Commit, Abort, Purge, Busy, Done, WrittenSet, Lock, NoLock, ObjectLock, WholeLock, Down, Page, Deescalate, Callback, Committed, Aborted, Invalidate, AbortedFor}
 use Rattle.line.specs.Station.{Station, Did, does, setKept, Wait, Idle, ForRead, ForWrite, ForCommit, forRead, forWrite, requested, live, usedAt, usedPage, drops, dropPages, mark, recordRead, writeLocal, doCallback, closed, close, undo, readLocal, readAsk, writeAsk, arrive, takeLock, onDeescalate, onCommitted, onAborted, stationStep, workOf}
 use Rattle.line.specs.Station as S
-use Rattle.line.specs.Server.{ByCommit, ByCause, Server, Serving, send, onServer, setQueue, setListed, setAsked, setOl, setWl, valuesOn, unavailable, wrotePage, Waiter, waiterPend, waiterCalled, Want, NoWant, WantRead, WantWrite, WantCommit, waits, unexpected, notice, finish, join, leave, sendPage, abort, write, archive, install, serveNow, joinRead, joinWrite, joinCommit, commitNow, unlist, markBusy, answered, loosen, accept, ask, serveRead, concerned, call, grantPage, grantObject, installWaiter, start}
+use Rattle.line.specs.Server.{ByCommit, ByCause, Server, Serving, send, onServer, setQueue, setAsked, setOl, setWl, valuesOn, unavailable, Waiter, waiterPend, waiterCalled, Want, NoWant, WantRead, WantWrite, WantCommit, waits, unexpected, notice, finish, join, leave, sendPage, abort, write, archive, install, serveNow, joinRead, joinWrite, joinCommit, commitNow, unlist, markBusy, answered, loosen, accept, ask, serveRead, concerned, call, grantPage, grantObject, installWaiter, start}
 use Rattle.line.specs.Line.{Op, Call, fresh, run, perform, sentTo}
 use Rattle.line.specs.Pass.{Atomic, if-keeps, step-keeps}
 use Rattle.line.specs.Runs.{Moves, run-keeps}
@@ -436,7 +436,7 @@ module _ (st : ℕ → Station) (u : ℕ → List Up) (d : ℕ → List Down) wh
   unfolding sendPage
   page-sent l i a v x n h =
       let s : Server = x .server in
-      let m : Down = Page l a (s .latest i) (s .ver (pageOf a)) v (valuesOn (pageOf a) (s .val)) in
+      let m : Down = Page l a (s .latest i) (valuesOn (pageOf a) (s .ver)) v (valuesOn (pageOf a) (s .val)) in
       record {
         kinds = h .kinds;
         cover = λ j k.
@@ -465,8 +465,7 @@ module _ (st : ℕ → Station) (u : ℕ → List Up) (d : ℕ → List Down) wh
       installs InCover i w
       (λ j z e c.
       let v : locking (st j .kind) ≡ false = rw (c .kinds j) at (not-yes (locking (z .server .kind j)) (and-r (not (eqb j i)) _ (and-l (not (eqb j i) && not (locking (z .server .kind j))) _ e))) in
-      send-cover j (Invalidate (wrotePage w)) (onServer z (setListed (z .server) (λ k p. cond (eqb k j) (z .server .listed k p && not (wrotePage w p)) (z .server .listed k p)))) (λ p. refl)
-      (record { kinds = c .kinds; cover = λ k l. byEq k j (λ f. both (locking (st j .kind)) (rw (eqb-yes k j f) at l) v) (λ f. let c′ = c .cover k l in record { page = λ p. rw f (c′ .page p); C3 = c′ .C3 }) }))
+      send-cover j (Invalidate (λ a. has (w .writes a))) z (λ p. refl) c)
       x
       (send-cover i (Committed (w .transaction) (y .server .last)) y (λ p. refl) (record { kinds = g .kinds; cover = g .cover }))
 

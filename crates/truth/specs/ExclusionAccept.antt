@@ -36,8 +36,7 @@ module _ (t : ℕ → Station) (u : ℕ → List Up) (e : ℕ → List Down) whe
   pub install-keeps : (i : ℕ) (w : Work) (x : Serving) → During x → During (install i w x)
   unfolding finish archive write leave
   install-keeps i w x h =
-      installs During i w
-      (λ j y o g. tell-keeps e (y .sent) (listed-keeps g _ (λ k a b c q r n. byEq k j (λ p. rw (p, n) refl) (λ p. rw (p, n) refl))) j _ (λ a. refl))
+      installs During i w (λ j y o g. tell-keeps e (y .sent) g j _ (λ a. refl))
       x (tell-keeps e (x .sent) (finish-keeps (leave-keeps h i) i) i _ (λ a. refl))
 
   -- a new transaction of a station that does not wait

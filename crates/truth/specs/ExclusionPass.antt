@@ -97,7 +97,7 @@ module _ (s : Server) (t : ℕ → Station) (u : ℕ → List Up) (d : ℕ → L
   module _ (a : ℕ) (c : a < 256) (wn : wants s i a ≡ true) (wt : waits s i ≡ true) (un : blocked s i ≡ false) (e : ℕ → List Down) (q : List Sent) where
     pub page-keeps : {ol wl : ℕ → ℕ} → Exclusive t u ol wl (s .listed) (s .latest) (s .queue) (λ j. e j ++ sentTo j q)
         → ((x : ℕ) → other (ol x) i ≡ true → other (s .ol x) i ≡ true) → other (wl (pageOf a)) i ≡ false
-        → (l : Lock) (n v : ℕ) (y : ℕ → ℕ)
+        → (l : Lock) (n : ℕ) (v y : ℕ → ℕ)
         → Exclusive t u ol wl (upd2 (s .listed) i (pageOf a) true) (s .latest) (upd (s .queue) i noWaiter) (λ j. e j ++ sentTo j (snoc q (To i (Page l a n v (unavailable s i a) y))))
     page-keeps h f g l n v y =
         send-keeps e q

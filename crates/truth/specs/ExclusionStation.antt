@@ -80,9 +80,13 @@ pub drop-less : (d : ℕ → Bool) (s : Station) → Less s (dropPages d s)
 unfolding dropPages
 drop-less d s = record { kind = refl; shows = dropped-less d s; rd = λ a e. e }
 
-drop-kept : (d : ℕ → Bool) (s : Station) → (dropPages d s) .kept ≡ s .kept
-unfolding dropPages
-drop-kept d s = refl
+mark-less : (d : ℕ → Bool) (s : Station) → Less s (mark d s)
+unfolding mark
+mark-less d s = record { kind = refl; shows = marked-less d s; rd = λ a e. e }
+
+mark-kept : (d : ℕ → Bool) (s : Station) → (mark d s) .kept ≡ s .kept
+unfolding mark
+mark-kept d s = refl
 
 abbrev pub NoDone : List Up → Type 0
 NoDone m = (r t : ℕ) → count (doneOf r t) m ≡ 0
@@ -282,7 +286,7 @@ module _ (s : Server) (t : ℕ → Station) (u : ℕ → List Up) (d : ℕ → L
     fine-tail m q k c n = fine-less k l c n (tail-none m q) (tail-behind m q)
 
     -- a page arrives for address a: what the message hides the copy hides, and a itself was not hidden [B2]
-    module _ (o : Lock) (a n v : ℕ) (x : ℕ → Bool) (y : ℕ → ℕ) (q : d i ≡ Page o a n v x y ∷ l) where
+    module _ (o : Lock) (a n : ℕ) (v : ℕ → ℕ) (x : ℕ → Bool) (y : ℕ → ℕ) (q : d i ≡ Page o a n v x y ∷ l) where
       arrive-hidden : (c : ℕ) {cached unav : Bool} → Hidden c cached unav (Page o a n v x y ∷ l)
           → Hidden c (cond (eqb (pageOf c) (pageOf a)) true cached) (cond (eqb (pageOf c) (pageOf a)) (x c) unav) l
       arrive-hidden c hid =
@@ -366,13 +370,13 @@ module _ (s : Server) (t : ℕ → Station) (u : ℕ → List Up) (d : ℕ → L
         let z : count (tokenDown old) (d i) ≤ 1 = omega (arith, h .tokens i b .S1a) in
         token-none (t i .kind) (t i .num) (t i .opened) k a m l e (rw q at z)
 
-    page-write : (o : Lock) (a n v : ℕ) (x : ℕ → Bool) (y : ℕ → ℕ) (z : ℕ) → d i ≡ Page o a n v x y ∷ l → Fine s i (u i) l (does Written (writeLocal a z (arrived o a v x y (t i))) [])
+    page-write : (o : Lock) (a n : ℕ) (v : ℕ → ℕ) (x : ℕ → Bool) (y : ℕ → ℕ) (z : ℕ) → d i ≡ Page o a n v x y ∷ l → Fine s i (u i) l (does Written (writeLocal a z (arrived o a v x y (t i))) [])
     unfolding arrive takeLock writeLocal
     page-write NoLock a n v x y z q = fine-arrives NoLock a n v x y q _ refl (λ p. refl) (λ c. refl) (λ c e f. f) refl
     page-write ObjectLock a n v x y z q = fine-arrives ObjectLock a n v x y q _ refl (λ p. refl) (λ c. refl) (λ c e f. f) refl
     page-write WholeLock a n v x y z q = fine-arrives WholeLock a n v x y q _ refl (λ p. refl) (λ c. refl) (λ c e f. f) refl
 
-    page-read : (a n v : ℕ) (x : ℕ → Bool) (y : ℕ → ℕ) → d i ≡ Page NoLock a n v x y ∷ l
+    page-read : (a n : ℕ) (v : ℕ → ℕ) (x : ℕ → Bool) (y : ℕ → ℕ) → d i ≡ Page NoLock a n v x y ∷ l
         → Fine s i (u i) l (does (Value ((arrived NoLock a v x y (t i)) .copy a)) (recordRead a (arrived NoLock a v x y (t i))) [])
     unfolding arrive takeLock recordRead
     page-read a n v x y q = fine-arrives NoLock a n v x y q _ refl (λ p. refl) (λ c. refl) (λ c e f. rw e at f) refl
@@ -401,9 +405,9 @@ module _ (s : Server) (t : ℕ → Station) (u : ℕ → List Up) (d : ℕ → L
               commits = λ n c e w q f. fine-end _ l refl (λ a z. z) refl (λ r g. refl) (behind-token _ q refl);
               aborts = λ n c e w q f. fine-end _ l (undone-kind (t i)) (undone-less (t i)) (undone-kept (t i)) (λ r g. refl) (behind-token _ q refl);
               invalid-ends = λ p k e w q f.
-                  fine-end _ l (undone-kind (dropPages p (t i)) ∙ drop-less p (t i) .kind) (λ a z. dropped-less p (t i) a (undone-less (dropPages p (t i)) a z))
-                  (undone-kept (dropPages p (t i)) ∙ drop-kept p (t i)) (λ r g. refl) (λ y. absurd (false≢true (sym k ∙ y)));
-              invalid = λ p k e q f. fine-tail _ q _ (drop-less p (t i)) (λ r g. refl);
+                  fine-end _ l (undone-kind (mark p (t i)) ∙ mark-less p (t i) .kind) (λ a z. marked-less p (t i) a (undone-less (mark p (t i)) a z))
+                  (undone-kept (mark p (t i)) ∙ mark-kept p (t i)) (λ r g. refl) (λ y. absurd (false≢true (sym k ∙ y)));
+              invalid = λ p k e q f. fine-tail _ q _ (mark-less p (t i)) (λ r g. refl);
             }
 
 -- THE WORLD

@@ -6,12 +6,12 @@ use mathlib.Core.List.{List, [], _∷_, _++_}
 use Prim.Native.Nat.{ℕ, zero, suc, _+_, _≤_, _<_}
 use native.Mathlib.Omega.{arith}
 use lib.Dec.{eqb, ltb}
-use Rattle.sets.specs.Base.{upd, snoc, Val, none, some, any, turned}
+use Rattle.sets.specs.Base.{upd, snoc, Val, none, some, has, any, turned}
 use Rattle.sets.specs.Laws.{byB, byEq, eqb-same, eqb-yes, eqb-no, ltb-yes, ltb-no, and-l, and-r, or-yes, or-no, not-yes, not-no}
 use Rattle.line.specs.All.{All, all-append}
 use Rattle.line.specs.Messages.{pageOf, locking, Work, Up, ReadRequest, WriteRequest, Commit, Abort, Purge, Busy, Done, WrittenSet, Lock, NoLock, ObjectLock, WholeLock, Down, Page, Deescalate, Callback, Committed, Aborted, Invalidate, Sent, To, Nothing, Begun, Value, Waits, Written, AbortedFor, Purged, Refused}
-use Rattle.line.specs.Station.{Station, Did, does, didStation, unless, setKept, setNum, setOpened, setWait, Wait, Idle, ForRead, ForWrite, ForCommit, waiting, forRead, forWrite, forCommit, requested, Kept, NotKept, KeptCall, live, usedAt, usedPage, shown, mayWrite, workOf, ended, fits, fitsPage, checkBegin, openThen, checkOpen, longRead, longWrite, checkAddress, checkPurge, dropPages, recordRead, writeLocal, doCallback, doKept, doAllKept, closed, close, undo, ownBegin, readLocal, readAsk, readAs, ownRead, writeAsk, ownWrite, ownCommit, ownAbort, ownPurge, arrive, takeLock, answerWait, onPage, onDeescalate, onCallback, onCommitted, onAborted, onInvalidate, onDown, stationStep, inUse, touched, ignored}
-use Rattle.line.specs.Server.{Server, Serving, onServer, send, setListed, wrotePage, informed, write, archive, inform, informFrom, install, badNumber, unlocked, lockOn, unexpected, notice, finish, leave, serveNow, joinRead, joinWrite, joinCommit, commitNow, unlist, openCall, markBusy, answered, openAsk, loosen, accept, concerned, callsFrom, ByCommit, ByMessage}
+use Rattle.line.specs.Station.{Station, Did, does, didStation, unless, setKept, setNum, setOpened, setWait, Wait, Idle, ForRead, ForWrite, ForCommit, waiting, forRead, forWrite, forCommit, requested, Kept, NotKept, KeptCall, live, usedAt, usedPage, shown, mayWrite, workOf, ended, fits, fitsPage, checkBegin, openThen, checkOpen, longRead, longWrite, checkAddress, checkPurge, dropPages, recordRead, writeLocal, doCallback, doKept, doAllKept, closed, close, undo, ownBegin, readLocal, readAsk, readAs, ownRead, writeAsk, ownWrite, ownCommit, ownAbort, ownPurge, arrive, takeLock, answerWait, onPage, onDeescalate, onCallback, onCommitted, onAborted, onInvalidate, onDown, stationStep, inUse, ignored, mark}
+use Rattle.line.specs.Server.{Server, Serving, send, informed, write, archive, inform, informFrom, install, badNumber, unlocked, lockOn, unexpected, notice, finish, leave, serveNow, joinRead, joinWrite, joinCommit, commitNow, unlist, openCall, markBusy, answered, openAsk, loosen, accept, concerned, callsFrom, ByCommit, ByMessage}
 use Rattle.line.specs.Line.{Op, Begin, Read, Write, Commits, Aborts, Purges, perform, sentTo}
 use Rattle.line.specs.Laws.{sentTo-snoc}
 use Rattle.line.specs.Apart.{good-number}
@@ -279,23 +279,23 @@ isLock NoLock = false
 isLock ObjectLock = true
 isLock WholeLock = true
 
-abbrev pub arrived : Lock → ℕ → ℕ → (ℕ → Bool) → (ℕ → ℕ) → Station → Station
+abbrev pub arrived : Lock → ℕ → (ℕ → ℕ) → (ℕ → Bool) → (ℕ → ℕ) → Station → Station
 arrived l a v u x s = setWait (arrive (pageOf a) v u x (takeLock l a s)) Idle
 
 pub record Takes (s : Station) (P : Down → Did → Type 0) : Type 0 where
   pub refused : (m : Down) → fits m s ≡ false → P m (does (Refused 6) s [])
-  pub old-page : (a t v : ℕ) (u : ℕ → Bool) (x : ℕ → ℕ) → ended s t ≡ true → P (Page NoLock a t v u x) (ignored a v u x s)
-  pub page-read : (a t v : ℕ) (u : ℕ → Bool) (x : ℕ → ℕ) → live s t ≡ true → s .wait ≡ ForRead a
+  pub old-page : (a t : ℕ) (v : ℕ → ℕ) (u : ℕ → Bool) (x : ℕ → ℕ) → ended s t ≡ true → P (Page NoLock a t v u x) (ignored a v u x s)
+  pub page-read : (a t : ℕ) (v : ℕ → ℕ) (u : ℕ → Bool) (x : ℕ → ℕ) → live s t ≡ true → s .wait ≡ ForRead a
       → P (Page NoLock a t v u x) (does (Value ((arrived NoLock a v u x s) .copy a)) (recordRead a (arrived NoLock a v u x s)) [])
-  pub page-write : (l : Lock) (a t v : ℕ) (u : ℕ → Bool) (x : ℕ → ℕ) (y : ℕ) → live s t ≡ true → s .wait ≡ ForWrite a y → locking (s .kind) ≡ isLock l
+  pub page-write : (l : Lock) (a t : ℕ) (v : ℕ → ℕ) (u : ℕ → Bool) (x : ℕ → ℕ) (y : ℕ) → live s t ≡ true → s .wait ≡ ForWrite a y → locking (s .kind) ≡ isLock l
       → P (Page l a t v u x) (does Written (writeLocal a y (arrived l a v u x s)) [])
   pub deescalates : (p t : ℕ) → locking (s .kind) ≡ true → P (Deescalate p t) (onDeescalate p t s)
   pub keeps : (r t : ℕ) (set : ℕ → Bool) → locking (s .kind) ≡ true → inUse set s ≡ true → P (Callback r t set) (does Nothing (setKept s (upd (s .kept) r (KeptCall t set))) (Busy r t ∷ []))
   pub dones : (r t : ℕ) (set : ℕ → Bool) → locking (s .kind) ≡ true → inUse set s ≡ false → P (Callback r t set) (doCallback r t set (does Nothing s []))
   pub commits : (t n : ℕ) → live s t ≡ true → s .wait ≡ ForCommit → P (Committed t n) (onCommitted n s)
   pub aborts : (t c : ℕ) → live s t ≡ true → waiting (s .wait) ≡ true → P (Aborted t c) (onAborted c s)
-  pub invalid-ends : (d : ℕ → Bool) → locking (s .kind) ≡ false → touched d s ≡ true → forCommit (s .wait) ≡ false → P (Invalidate d) (close (does (AbortedFor 2) (undo (dropPages d s)) []))
-  pub invalid : (d : ℕ → Bool) → locking (s .kind) ≡ false → (touched d s && not (forCommit (s .wait))) ≡ false → P (Invalidate d) (does Nothing (dropPages d s) [])
+  pub invalid-ends : (d : ℕ → Bool) → locking (s .kind) ≡ false → inUse d s ≡ true → forCommit (s .wait) ≡ false → P (Invalidate d) (close (does (AbortedFor 2) (undo (mark d s)) []))
+  pub invalid : (d : ℕ → Bool) → locking (s .kind) ≡ false → (inUse d s && not (forCommit (s .wait))) ≡ false → P (Invalidate d) (does Nothing (mark d s) [])
 
 -- which wait it is
 pub for-read : (w : Wait) (a : ℕ) → forRead w a ≡ true → w ≡ ForRead a
@@ -318,11 +318,11 @@ for-commit ForCommit e = refl
 
 module _ (s : Station) (P : Down → Did → Type 0) (k : Takes s P) where
   -- a live page, by the wait
-  page-takes-read : (a t v : ℕ) (u : ℕ → Bool) (x : ℕ → ℕ) → live s t ≡ true → (w : Wait) → w ≡ ForRead a → s .wait ≡ w → P (Page NoLock a t v u x) (answerWait w (arrived NoLock a v u x s))
+  page-takes-read : (a t : ℕ) (v : ℕ → ℕ) (u : ℕ → Bool) (x : ℕ → ℕ) → live s t ≡ true → (w : Wait) → w ≡ ForRead a → s .wait ≡ w → P (Page NoLock a t v u x) (answerWait w (arrived NoLock a v u x s))
   unfolding answerWait
   page-takes-read a t v u x q w e f = rw e (k .page-read a t v u x q (f ∙ e))
 
-  page-takes-write : (l : Lock) (a t v : ℕ) (u : ℕ → Bool) (x : ℕ → ℕ) → live s t ≡ true → (w : Wait) (y : ℕ) → w ≡ ForWrite a y → s .wait ≡ w → locking (s .kind) ≡ isLock l → P (Page l a t v u x) (answerWait w (arrived l a v u x s))
+  page-takes-write : (l : Lock) (a t : ℕ) (v : ℕ → ℕ) (u : ℕ → Bool) (x : ℕ → ℕ) → live s t ≡ true → (w : Wait) (y : ℕ) → w ≡ ForWrite a y → s .wait ≡ w → locking (s .kind) ≡ isLock l → P (Page l a t v u x) (answerWait w (arrived l a v u x s))
   unfolding answerWait
   page-takes-write l a t v u x q w y e f o = rw e (k .page-write l a t v u x y q (f ∙ e) o)
 
@@ -330,7 +330,7 @@ module _ (s : Station) (P : Down → Did → Type 0) (k : Takes s P) where
   live-not : (t : ℕ) → live s t ≡ true → ended s t ≡ false
   live-not t e = rw e (byB (locking (s .kind)) (λ q. rw q refl) (λ q. rw q refl))
 
-  page-takes : (l : Lock) (a t v : ℕ) (u : ℕ → Bool) (x : ℕ → ℕ) → fitsPage l a t s ≡ true → P (Page l a t v u x) (onPage l a t v u x s)
+  page-takes : (l : Lock) (a t : ℕ) (v : ℕ → ℕ) (u : ℕ → Bool) (x : ℕ → ℕ) → fitsPage l a t s ≡ true → P (Page l a t v u x) (onPage l a t v u x s)
   unfolding onPage
   page-takes NoLock a t v u x e =
       if-did (P (Page NoLock a t v u x)) (ended s t) (λ q. k .old-page a t v u x q)
@@ -359,8 +359,8 @@ module _ (s : Station) (P : Down → Did → Type 0) (k : Takes s P) where
   takes-down (Committed t n) e = k .commits t n (and-l (live s t) _ e) (for-commit (s .wait) (and-r (live s t) _ e))
   takes-down (Aborted t c) e = k .aborts t c (and-l (live s t) _ e) (and-r (live s t) _ e)
   takes-down (Invalidate d) e =
-      if-did (P (Invalidate d)) (touched d s && not (forCommit (s .wait)))
-      (λ q. k .invalid-ends d (not-yes (locking (s .kind)) e) (and-l (touched d s) (not (forCommit (s .wait))) q) (not-yes (forCommit (s .wait)) (and-r (touched d s) (not (forCommit (s .wait))) q)))
+      if-did (P (Invalidate d)) (inUse d s && not (forCommit (s .wait)))
+      (λ q. k .invalid-ends d (not-yes (locking (s .kind)) e) (and-l (inUse d s) (not (forCommit (s .wait))) q) (not-yes (forCommit (s .wait)) (and-r (inUse d s) (not (forCommit (s .wait))) q)))
       (λ q. k .invalid d (not-yes (locking (s .kind)) e) q)
 
   pub takes : (m : Down) → P m (stationStep m s)
@@ -408,7 +408,7 @@ accepts i x P k (WrittenSet p t set) u = if-serving (P (WrittenSet p t set)) (op
 -- INSTALL: the 21, then the 23s one by one
 module _ (P : Serving → Type 0) (i : ℕ) (w : Work)
     (k : (j : ℕ) (x : Serving) → informed (x .server) i w j ≡ true → P x
-    → P (send (onServer x (setListed (x .server) (λ h p. cond (eqb h j) (x .server .listed h p && not (wrotePage w p)) (x .server .listed h p)))) j (Invalidate (wrotePage w)))) where
+    → P (send x j (Invalidate (λ a. has (w .writes a))))) where
   inform-keeps : (j : ℕ) (x : Serving) → P x → P (inform i w j x)
   unfolding inform
   inform-keeps j x h = if-serving P (informed (x .server) i w j) (λ e. k j x e h) (λ e. h)

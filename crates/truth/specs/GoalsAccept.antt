@@ -1,16 +1,16 @@
 -- The goals' layer under the server's accept and the seven actions of the pass.
 use mathlib.Core.Path.{_≡_, refl, sym, ap, _∙_}
-use mathlib.Core.Bool.{Bool, true, false, not, _&&_, _||_, false≢true}
+use mathlib.Core.Bool.{Bool, true, false, not, _&&_, false≢true}
 use mathlib.Core.List.{List, [], _∷_, _++_}
-use Prim.Native.Nat.{ℕ, zero, suc, _+_, _%_, _≤_, _<_}
+use Prim.Native.Nat.{ℕ, zero, suc, _+_, _≤_, _<_}
 use native.Mathlib.Omega.{arith}
 use lib.Dec.{eqb, ltb}
 use lib.ListN.{take}
 use Rattle.sets.specs.Base.{Val, none, some, has, zeros, turned}
-use Rattle.sets.specs.Laws.{byB, eqb-yes, ltb-yes, ltb-no, and-l, not-yes, not-no, any-no, any-yes}
+use Rattle.sets.specs.Laws.{byB, eqb-yes, ltb-yes, ltb-no, and-l, not-yes, not-no, any-no, or-no}
 use Rattle.line.specs.All.{All}
-use Rattle.line.specs.Messages.{pageOf, address, lastNumber, locking, Work, Up, Commit, Down, Page, Deescalate, To, Rec}
-use Rattle.line.specs.Server.{Server, Serving, WantCommit, waits, usedPage, stale, locked, fault, notice, finish, join, leave, sendPage, abort, archive, install, serveNow, joinRead, joinWrite, joinCommit, commitNow, unlist, markBusy, answered, loosen, accept, ask, serveRead, concerned, callsFrom, call, grantPage, grantObject, installWaiter, start, unexpected}
+use Rattle.line.specs.Messages.{lastNumber, locking, Work, Up, Commit, Down, Page, Deescalate, To, Rec}
+use Rattle.line.specs.Server.{Server, Serving, WantCommit, waits, stale, locked, fault, notice, finish, join, leave, sendPage, abort, archive, install, serveNow, joinRead, joinWrite, joinCommit, commitNow, unlist, markBusy, answered, loosen, accept, ask, serveRead, concerned, callsFrom, call, grantPage, grantObject, installWaiter, start, unexpected, staleAt}
 use Rattle.line.specs.Line.{World, sentTo, carryDown}
 use Rattle.line.specs.Truth.{count, left}
 use Rattle.truth.specs.Clauses.{tokens, Hist}
@@ -26,20 +26,16 @@ calls-quiet : (n j : ℕ) (s : Server) (i : ℕ) → All Quiet (callsFrom n j s 
 calls-quiet zero j s i = tt
 calls-quiet (suc n) j s i = let rest = calls-quiet n (suc j) s i in byB (concerned s i j) (λ e. rw e (refl, rest)) (λ e. rw e rest)
 
--- no used page has another version
+-- no used object has another version
 unstale : (a b c : Bool) → turned a 4 (turned b 2 (turned c 3 0)) ≡ 0 → b ≡ false
 unstale true b c e = absurd (omega (arith, e))
 unstale false true c e = absurd (omega (arith, e))
 unstale false false c e = refl
 
-same-version : (s : Server) (k : Work) (a v : ℕ) → stale s k ≡ false → a < 256 → k .reads a ≡ some v → k .versions (pageOf a) ≡ s .ver (pageOf a)
+same-version : (s : Server) (k : Work) (a v : ℕ) → stale s k ≡ false → a < 256 → k .reads a ≡ some v → k .readVersions a ≡ s .ver a
 same-version s k a v e b q =
-    let p : pageOf a < 32 = omega arith in
-    let at : address (pageOf a) (a % 8) ≡ a = omega arith in
-    let used : usedPage k (pageOf a) ≡ true =
-    any-yes 8 (λ o. has (k .reads (address (pageOf a) o)) || has (k .writes (address (pageOf a) o))) (a % 8) (omega arith) (rw (at, q) refl) in
-    let f = any-no 32 (λ g. usedPage k g && not (eqb (k .versions g) (s .ver g))) e (pageOf a) p in
-    eqb-yes (k .versions (pageOf a)) (s .ver (pageOf a)) (not-no (eqb (k .versions (pageOf a)) (s .ver (pageOf a))) (rw used at f))
+    let f = or-no (has (k .reads a) && not (eqb (k .readVersions a) (s .ver a))) _ (any-no 256 (staleAt s k) e a b) .0 in
+    eqb-yes (k .readVersions a) (s .ver a) (not-no (eqb (k .readVersions a) (s .ver a)) (rw q at f))
 
 -- what is read is in range
 in-range : (rd wr : ℕ → Val) (a v : ℕ) → ((b : ℕ) → 256 ≤ b → (rd b ≡ none) × (wr b ≡ none)) → rd a ≡ some v → a < 256
@@ -64,9 +60,9 @@ module _ (w : World) where
       let now = same-version s k a v (unstale (eqb (s .last) lastNumber) (stale s k) (locked s i) f) below q in
       let arch : List Rec = w .archive ++ x .recs in
       let z = h .validated .versions in
-      let kept : Hist arch (s .last) a ≡ Hist arch (s .ver (pageOf a)) a = z .V0 (s .last) a (z .V0-last (pageOf a)) (omega arith) in
+      let kept : Hist arch (s .last) a ≡ Hist arch (s .ver a) a = z .V0 (s .last) a (z .V0-last a) (omega arith) in
       let whole : Hist arch (s .last) a ≡ left arch zeros a = ap (λ l. left l zeros a) (ap (λ n. take n arch) (sym (h .goals .archived .all)) ∙ take-all arch) in
-      let then : v ≡ Hist arch (s .ver (pageOf a)) a = rw (← now) (true-then .1) in
+      let then : v ≡ Hist arch (s .ver a) a = rw (← now) (true-then .1) in
       then ∙ (sym kept ∙ (whole ∙ h .goals .archived .T1-pages a))
 
   aborts-keep : (i c : ℕ) (x : Serving) → i < 8 → waits (x .server) i ≡ true → Inv (carryDown x w) → GoalsOf (carryDown (abort i c x) w)

@@ -1,13 +1,13 @@
 -- The goals' layer under the station's moves.
 use mathlib.Core.Path.{_≡_, refl, sym, _∙_}
-use mathlib.Core.Bool.{Bool, true, false, _&&_, _||_, cond, false≢true}
+use mathlib.Core.Bool.{Bool, true, false, _&&_, cond, false≢true}
 use mathlib.Core.List.{List, _∷_}
 use Prim.Native.Nat.{ℕ, _+_, _≤_, _<_}
 use native.Mathlib.Omega.{arith}
-use Rattle.sets.specs.Base.{upd, none, has, any}
+use Rattle.sets.specs.Base.{upd, none}
 use Rattle.sets.specs.Laws.{byB, eqb-same, eqb-yes, and-l, and-r, any-some}
-use Rattle.line.specs.Messages.{address, Lock, NoLock, ObjectLock, WholeLock, Up, Down, Page, Deescalate, Callback, Committed, Aborted, Invalidate, CommittedAs, AbortedFor}
-use Rattle.line.specs.Station.{Station, Did, Idle, forCommit, live, usedAt, usedPage, dropPages, recordRead, writeLocal, mark, doCallback, loosen, arrive, takeLock, onDeescalate, onCommitted, onAborted, stationStep}
+use Rattle.line.specs.Messages.{Lock, NoLock, ObjectLock, WholeLock, Up, Down, Page, Deescalate, Callback, Committed, Aborted, Invalidate, CommittedAs, AbortedFor}
+use Rattle.line.specs.Station.{Station, Did, Idle, forCommit, live, usedAt, dropPages, recordRead, writeLocal, mark, doCallback, loosen, arrive, takeLock, onDeescalate, onCommitted, onAborted, stationStep, inUse}
 use Rattle.line.specs.Server.{Want, isWant}
 use Rattle.line.specs.Line.{World, worldDown, Read, Write, ToldCommit, tell, carryUp, isRefused}
 use Rattle.line.specs.Truth.{count}
@@ -38,14 +38,13 @@ alone old v U m D e h =
     none-committed D (no-answer old D (let z : count (tokenUp old) U + cond {A = ℕ} (isWant v) 1 0 + (1 + count (tokenDown old) D) ≤ 1 = rw e at h in omega arith))
 
 -- a station that has used something has its transaction open
-used-open : (s : Station) (d : ℕ → Bool) → (s .opened ≡ false → (a : ℕ) → (s .rd a ≡ none) × (s .wr a ≡ none)) → any 32 (λ p. d p && usedPage s p) ≡ true → s .opened ≡ true
+used-open : (s : Station) (d : ℕ → Bool) → (s .opened ≡ false → (a : ℕ) → (s .rd a ≡ none) × (s .wr a ≡ none)) → inUse d s ≡ true → s .opened ≡ true
 used-open s d h e =
-    let p = any-some 32 (λ q. d q && usedPage s q) e in
-    let o = any-some 8 (λ n. usedAt s (address (p .0) n)) (and-r (d (p .0)) _ (p .2)) in
+    let o = any-some 256 (λ a. d a && usedAt s a) e in
     byB (s .opened) (λ q. q)
     (λ q.
-    let z = h q (address (p .0) (o .0)) in
-    let u : (has (s .rd (address (p .0) (o .0))) || has (s .wr (address (p .0) (o .0)))) ≡ true = o .2 in
+    let z = h q (o .0) in
+    let u : usedAt s (o .0) ≡ true = and-r (d (o .0)) _ (o .2) in
     absurd (false≢true (rw (z .0, z .1) at u)))
 
 -- the world whose down line i has lost its head
@@ -140,7 +139,7 @@ module _ (i : ℕ) (l : List Down) (w : World) (b8 : i < 8) (h : Inv w) where
             λ d f u c q e.
             let z = none-behind (Invalidate d) q c in
             let o : s .opened ≡ true = used-open s d (λ y. h .tokens i .S6 y .0) u in
-            ended-goals (restOf i l w) i (w .asked i) 2 _ (close-ends (s .num) (AbortedFor 2) _ (undo-num (dropPages d s)) refl) (g .archived)
+            ended-goals (restOf i l w) i (w .asked i) 2 _ (close-ends (s .num) (AbortedFor 2) _ (undo-num (mark d s)) refl) (g .archived)
             (λ b rd wr. rw (eqb-same i) (takes-next (Invalidate d) tt (told-abort (next _ q b) o z 2 rd wr)))
             (λ j b y. rw y (g .owned j b));
         invalid =

@@ -6,13 +6,13 @@ use mathlib.Core.List.{List, [], _∷_, _++_}
 use Prim.Native.Nat.{ℕ, suc, _+_, _≤_, _<_}
 use native.Mathlib.Omega.{arith}
 use lib.Dec.{eqb}
-use Rattle.sets.specs.Base.{upd, upd2, snoc, nowhere, Val, none, noneAt}
+use Rattle.sets.specs.Base.{upd, upd2, snoc, nowhere, Val, none, has, noneAt}
 use Rattle.sets.specs.Laws.{byB, byEq, eqb-same, eqb-yes, and-l, and-r, or-yes, not-no}
 use Rattle.line.specs.All.{All, all-map}
 use Rattle.line.specs.Messages.{pageOf, locking, lastNumber, Work, Up, ReadRequest, WriteRequest, Commit, Abort, Purge, Busy, Done, WrittenSet, Lock, NoLock, ObjectLock, WholeLock, Down, Page, Deescalate, Callback, Committed, Aborted, Invalidate, AbortedFor, Written}
 use Rattle.line.specs.Station.{Station, Did, does, Wait, Idle, ForRead, ForWrite, ForCommit, waiting, forRead, forWrite, forCommit, live, dropPages, mark, recordRead, writeLocal, doCallback, closed, close, undo, readLocal, readAsk, writeAsk, arrive, takeLock, onDeescalate, onCommitted, onAborted, stationStep, workOf}
 use Rattle.line.specs.Station as S
-use Rattle.line.specs.Server.{End, ByCommit, ByCause, ByMessage, Server, Serving, send, onServer, setListed, setAsked, setOl, setWl, valuesOn, unavailable, wrotePage, Waiter, noWaiter, waiterPend, waiterCalled, waiterBusy, Want, NoWant, WantRead, WantWrite, WantCommit, isWant, waits, badNumber, unexpected, notice, finish, join, leave, sendPage, abort, write, archive, install, readWaiter, writeWaiter, commitWaiter, serveNow, joinRead, joinWrite, joinCommit, commitNow, unlist, openCall, markBusy, answered, loosen, accept, ask, serveRead, concerned, call, grantPage, grantObject, installWaiter, start}
+use Rattle.line.specs.Server.{End, ByCommit, ByCause, ByMessage, Server, Serving, send, onServer, setListed, setAsked, setOl, setWl, valuesOn, unavailable, Waiter, noWaiter, waiterPend, waiterCalled, waiterBusy, Want, NoWant, WantRead, WantWrite, WantCommit, isWant, waits, badNumber, unexpected, notice, finish, join, leave, sendPage, abort, write, archive, install, readWaiter, writeWaiter, commitWaiter, serveNow, joinRead, joinWrite, joinCommit, commitNow, unlist, openCall, markBusy, answered, loosen, accept, ask, serveRead, concerned, call, grantPage, grantObject, installWaiter, start}
 use Rattle.line.specs.Line.{Op, Call, fresh, run, perform, sentTo}
 use Rattle.line.specs.Pass.{Atomic, if-keeps, step-keeps}
 use Rattle.line.specs.Apart.{good-number}
@@ -531,7 +531,7 @@ module _ (skind : ℕ) (q : Waiter) (latest : ℕ) (fin : Bool) (U : List Up) (D
     pub shut-taken : (m : Down) → tokenDown (stale (s .kind) (s .num) (s .opened)) m ≡ true → Before skind q latest fin U (m ∷ D) s → Quiet skind (s .kind) (s .num) false q U D
     shut-taken m e h = quiet-on (s .num) false (omega arith) (λ t b f. closed-old (s .kind) (s .num) (s .opened) t f) (took-down m e h)
 
-    written : (l : Lock) (a t v : ℕ) (u : ℕ → Bool) (x : ℕ → ℕ) (y : ℕ) → live s t ≡ true → s .wait ≡ ForWrite a y → Taken (Page l a t v u x) (does Written (writeLocal a y (arrived l a v u x s)) [])
+    written : (l : Lock) (a t : ℕ) (v : ℕ → ℕ) (u : ℕ → Bool) (x : ℕ → ℕ) (y : ℕ) → live s t ≡ true → s .wait ≡ ForWrite a y → Taken (Page l a t v u x) (does Written (writeLocal a y (arrived l a v u x s)) [])
     unfolding writeLocal arrive takeLock
     written NoLock a t v u x y e f h =
         let b : a < 256 = h .range-wait a (rw (f, eqb-same a) refl) in
@@ -560,7 +560,7 @@ module _ (skind : ℕ) (q : Waiter) (latest : ℕ) (fin : Bool) (U : List Up) (D
           dones = λ r t set e f h. add-up (Done r t _) refl tt tt (pop-down (Callback r t set) h);
           commits = λ t n e f h. closing _ (rw (append-nil U) (shut-taken (Committed t n) refl h));
           aborts = λ t c e f h. closing _ (rw (append-nil U, undo-kind s, undo-num s) (shut-taken (Aborted t c) refl h));
-          invalid-ends = λ d l e f h. closing _ (rw (append-nil U, undo-kind (dropPages d s), undo-num (dropPages d s)) (paging-quiet l f (pop-down (Invalidate d) h)));
+          invalid-ends = λ d l e f h. closing _ (rw (append-nil U, undo-kind (mark d s), undo-num (mark d s)) (paging-quiet l f (pop-down (Invalidate d) h)));
           invalid = λ d l e h. silent s (pop-down (Invalidate d) h);
         }
 
@@ -608,7 +608,7 @@ module _ {skind kind num : ℕ} {opened : Bool} {rd wr : ℕ → Val} {w : Wait}
       record { kinds = h .kinds; S1a = h .S1a; S1b-up = h .S1b-up; S1b-waiter = rw z tt; S1b-down = h .S1b-down; S3-up = h .S3-up; S3-waiter = rw z tt; S4 = λ f. both (isWant (q .want)) f e; S5 = h .S5; S6 = h .S6; S7 = h .S7; range-wait = h .range-wait; range-used = h .range-used }
 
 -- a 1 answered by a 16 at once: stale or not, the one token for the other
-pub answered-now : {skind kind num : ℕ} {opened : Bool} {rd wr : ℕ → Val} {w : Wait} {q : Waiter} {latest : ℕ} {fin : Bool} {U : List Up} {D : List Down} (a t t′ v : ℕ) (u : ℕ → Bool) (x : ℕ → ℕ) → t′ ≡ t
+pub answered-now : {skind kind num : ℕ} {opened : Bool} {rd wr : ℕ → Val} {w : Wait} {q : Waiter} {latest : ℕ} {fin : Bool} {U : List Up} {D : List Down} (a t t′ : ℕ) (v : ℕ → ℕ) (u : ℕ → Bool) (x : ℕ → ℕ) → t′ ≡ t
     → Tokens skind kind num opened rd wr w q latest fin (ReadRequest a t ∷ U) D → Tokens skind kind num opened rd wr w q latest fin U (snoc D (Page NoLock a t′ v u x))
 answered-now {skind} {kind} {num} {opened} {rd} {wr} {w} {q} {latest} {fin} {U} {D} a t t′ v u x e h =
     let g = pop-up (ReadRequest a t) h in
@@ -686,11 +686,11 @@ module _ (st : ℕ → Station) (u : ℕ → List Up) (d : ℕ → List Down) wh
       (λ e. rw (eqb-yes j i e, send-own i (d i) (x .sent) m) (token-down m f (g .mine) (g .here)))
       (λ e. rw (send-far i j (d j) (x .sent) m e) (g .far j e))
 
-  page-back : (l : Lock) (i a : ℕ) (v : ℕ → Bool) (x : Serving) → ((n : ℕ) (y : ℕ → ℕ) → FitDown (st i .kind) (st i .num) (st i .opened) (st i .wait) (Page l a (x .server .latest i) n v y)) → Gone i x → InStep (sendPage l i a v x)
+  page-back : (l : Lock) (i a : ℕ) (v : ℕ → Bool) (x : Serving) → ((n y : ℕ → ℕ) → FitDown (st i .kind) (st i .num) (st i .opened) (st i .wait) (Page l a (x .server .latest i) n v y)) → Gone i x → InStep (sendPage l i a v x)
   unfolding sendPage
   page-back l i a v x f g =
       let s : Server = x .server in
-      let n : ℕ = s .ver (pageOf a) in
+      let n : ℕ → ℕ = valuesOn (pageOf a) (s .ver) in
       let y : ℕ → ℕ = valuesOn (pageOf a) (s .val) in
       send-back i (Page l a (s .latest i) n v y) (onServer x (setListed s (upd2 (s .listed) i (pageOf a) true))) (f n y) (record { far = g .far; here = g .here; mine = g .mine })
 
@@ -711,7 +711,7 @@ module _ (st : ℕ → Station) (u : ℕ → List Up) (d : ℕ → List Down) wh
   install-back i w x f g =
       let y : Serving = archive i w (write w (leave i x)) in
       installs InStep i w
-      (λ j z e h. send-plain j (Invalidate (wrotePage w)) (onServer z (setListed (z .server) (λ k p. cond (eqb k j) (z .server .listed k p && not (wrotePage w p)) (z .server .listed k p)))) (λ old. refl) (λ kind num opened v. tt) h) x
+      (λ j z e h. send-plain j (Invalidate (λ a. has (w .writes a))) z (λ old. refl) (λ kind num opened v. tt) h) x
       (send-back i (Committed (w .transaction) ((finish i ByCommit y) .server .last)) (finish i ByCommit y) f (finish-gone i ByCommit y (record { far = g .far; here = g .here; mine = g .mine })))
 
   -- a waiter of a locking station; its page
@@ -860,12 +860,12 @@ module _ (i : ℕ) (l : List Up) (s : Server) (st : ℕ → Station) (u : ℕ �
   page-now a t b g j =
       let x : Serving = start s in
       let y : Serving = notice i t x in
-      let m : Down = Page NoLock a (y .server .latest i) (y .server .ver (pageOf a)) nowhere (valuesOn (pageOf a) (y .server .val)) in
+      let m : Down = Page NoLock a (y .server .latest i) (valuesOn (pageOf a) (y .server .ver)) nowhere (valuesOn (pageOf a) (y .server .val)) in
       byEq j i
       (λ e.
       rw (eqb-yes j i e, send-own i (d i) (y .sent) m)
       (rw (noticed-kind i t x, noticed-queue i t x, noticed-sent i t x, eqb-same i, append-nil (d i))
-      (renumbered (answered-now a t (y .server .latest i) (y .server .ver (pageOf a)) nowhere (valuesOn (pageOf a) (y .server .val)) (noticed-own i t x) g) (y .server .latest i) (y .server .fin i) (idle t b))))
+      (renumbered (answered-now a t (y .server .latest i) (valuesOn (pageOf a) (y .server .ver)) nowhere (valuesOn (pageOf a) (y .server .val)) (noticed-own i t x) g) (y .server .latest i) (y .server .fin i) (idle t b))))
       (λ e. rw (send-far i j (d j) (y .sent) m e) (notice-far t b j e))
 
   abort-taken : (t : ℕ) → badNumber s i t ≡ false → Head (Abort t) → Then (finish i ByMessage (notice i t (start s)))

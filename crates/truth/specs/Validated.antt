@@ -1,25 +1,23 @@
--- The layer of the validating stations: V0 to V8 hold in a fresh line and after every move from a world with the whole invariant.
+-- The layer of the validating stations: V0 to V5 hold in a fresh line and after every move from a world with the whole invariant.
 use mathlib.Core.Path.{_≡_, refl, sym, ap, _∙_}
-use mathlib.Core.Bool.{Bool, true, false, not, _&&_, _||_, false≢true}
+use mathlib.Core.Bool.{Bool, true, false, false≢true}
 use mathlib.Core.List.{List, [], _∷_, _++_}
 use Prim.Native.Nat.{ℕ, suc, _+_, _<_}
 use native.Mathlib.Omega.{arith}
 use lib.Dec.{eqb, ltb}
 use lib.ListN.{length}
-use Rattle.sets.specs.Base.{upd, snoc, Val, none, some, has, valOr, zeros, turned}
-use Rattle.sets.specs.Laws.{byB, byEq, eqb-same, eqb-yes, ltb-yes, ltb-no, and-l, not-no, any-no}
+use Rattle.sets.specs.Base.{upd, Val, some, has}
+use Rattle.sets.specs.Laws.{byB, byEq, eqb-same, eqb-yes, ltb-yes, ltb-no, and-l}
 use Rattle.line.specs.All.{All}
-use Rattle.line.specs.Messages.{pageOf, locking, lastNumber, Work, Up, NoLock, ObjectLock, WholeLock, Down, Committed, Answer, Nothing, Begun, Value, Waits, Written, CommittedAs, AbortedFor, Purged, Refused, Empty, Rec}
+use Rattle.line.specs.Messages.{pageOf, locking, Up, NoLock, ObjectLock, WholeLock, Down, Answer, Nothing, Begun, Value, Waits, Written, CommittedAs, AbortedFor, Purged, Refused, Empty}
 use Rattle.line.specs.Station.{Station, Did, stationStep}
-use Rattle.line.specs.Server.{Server, Serving, onServer, setOl, setWl, setAsked, Waiter, WantRead, WantWrite, WantCommit, waits, usedPage, stale, locked, fault, unavailable, leave, serveRead, grantObject, grantPage, installWaiter, unexpected, accept, start}
+use Rattle.line.specs.Server.{Serving, onServer, setOl, setWl, setAsked, Waiter, WantRead, WantWrite, unavailable, leave, serveRead, grantObject, grantPage, installWaiter, unexpected, accept, start}
 use Rattle.line.specs.Line.{World, worldDown, Op, perform, tell, carryUp, carryDown, isRefused, fresh, sentTo}
-use Rattle.line.specs.Truth.{left}
-use Rattle.truth.specs.Clauses.{Tokens, TokensAt, A2At, Hist, Versions, Installed, ValidatedAt}
+use Rattle.truth.specs.Clauses.{Tokens, TokensAt, Hist, Versions, RecordedDown, ValidatedAt}
 use Rattle.truth.specs.Frame.{append-nil}
 use Rattle.truth.specs.Inv.{Inv, ValidatedOf, Acts, Layer, afterOwner, afterStation, taken}
-use Rattle.truth.specs.ValidatedHist.{hist-all, hist-more, NumberBelow, numbers-below}
+use Rattle.truth.specs.ValidatedHist.{NumberBelow, numbers-below, written-by}
 use Rattle.truth.specs.ValidatedEvents.{takenUp}
-use Rattle.truth.specs.ValidatedPages.{page-yes}
 use Rattle.truth.specs.ValidatedStation.{AtStation}
 use Rattle.truth.specs.ValidatedMoves.{perform-kind, step-kind, owner-valid, step-valid}
 use Rattle.truth.specs.ValidatedServer.{Within, sends-page, leaves, aborts, asks, calls, install-within}
@@ -29,21 +27,15 @@ use Rattle.truth.specs.ValidatedAccept.{accept-within}
 pub validated-begins : (kinds : ℕ → ℕ) → ValidatedOf (fresh kinds)
 validated-begins kinds =
     record {
-      versions = record { V0-last = λ p. omega arith; V0 = λ n a x y. let z : n ≡ 0 = omega arith in ap (λ m. Hist [] m a) z };
+      versions = record { V0-last = λ a. omega arith; V0 = λ n a x y. let z : n ≡ 0 = omega arith in ap (λ m. Hist [] m a) z };
       validated = λ i b f.
           record {
-            V1-last = λ p c. absurd (false≢true c);
+            V1-last = λ a c. absurd (false≢true c);
             V1 = λ a c n. absurd (false≢true c);
             V2 = tt;
             V3-up = tt;
             V3-waiter = tt;
-            V4 = tt;
-            V5 = λ o a v r. absurd (false≢true (ap has r));
-            V6-up = tt;
-            V6-waiter = tt;
-            V7 = λ a. refl;
-            V7-down = tt;
-            V8 = λ p r. absurd (false≢true r);
+            V5 = λ a v r. absurd (false≢true (ap has r));
           };
     }
 
@@ -81,6 +73,12 @@ numbers-given w h j b =
     let g = h .goals .archived in
     numbers-below j (w .server .last) (w .archive) (w .station j .rd) (w .station j .wr) (w .down j) (g .order) (g .all) (h .goals .owned j b .T6)
 
+-- an own write stands in the copy
+own-copy : (w : World) → Inv w → (j : ℕ) → j < 8 → (a v : ℕ) → w .station j .wr a ≡ some v → w .station j .cached (pageOf a) ≡ true → w .station j .copy a ≡ v
+own-copy w h j b a v e c =
+    let inside : a < 256 = byB (ltb a 256) (λ t. ltb-yes a 256 t) (λ t. absurd (false≢true (ap has (sym (h .tokens j .range-used a (ltb-no a 256 t) .1) ∙ e)))) in
+    h .values .A2 j a b inside v e c
+
 pub validated-owner : (i : ℕ) (op : Op) (w : World) → i < 8 → Inv w → ValidatedOf (afterOwner i op w)
 validated-owner i op w b h =
     let s : Station = w .station i in
@@ -88,20 +86,20 @@ validated-owner i op w b h =
     (carried-valid i (perform op s) w (h .validated .versions) (λ j c e. h .validated .validated j c)
     (λ g.
     let f : locking (s .kind) ≡ false = rw (perform-kind op s) at g in
-    owner-valid (w .archive) (w .server .last) s (w .server .queue i) (w .up i) (w .down i) f (h .tokens i .S1b-down) (h .validated .validated i b f) op))
+    owner-valid (w .archive) (w .server .last) s (w .server .queue i) (w .up i) (w .down i) f (h .validated .validated i b f) op))
 
 pub validated-station : (i : ℕ) (m : Down) (l : List Down) (w : World) → i < 8 → w .down i ≡ m ∷ l → isRefused ((stationStep m (w .station i)) .answer) ≡ false → Inv w → ValidatedOf (afterStation i m l w)
 validated-station i m l w b e r h =
     let s : Station = w .station i in
-    let k = h .tokens i in
     tell-valid i (w .asked i) _ _
     (carried-valid i (stationStep m s) (worldDown w (upd (w .down) i l)) (h .validated .versions) (λ j c n. rw n (h .validated .validated j c))
     (λ g.
     let f : locking (s .kind) ≡ false = rw (step-kind m s) at g in
     let n : All (NumberBelow (w .server .last)) (m ∷ l) = rw e at (numbers-given w h i b) in
+    let k : All (RecordedDown i (w .archive) (s .rd) (s .wr)) (m ∷ l) = rw e at (h .goals .owned i b .T6) in
     rw (eqb-same i)
-    (step-valid (w .archive) (w .server .last) s (w .server .queue i) (w .up i) l f (k .S5) (k .range-used) m r
-    (record { valid = rw e at (h .validated .validated i b f); S1a = rw e at (k .S1a); number = n .0 }))))
+    (step-valid (w .archive) (w .server .last) s (w .server .queue i) (w .up i) l f (h .tokens i .S5) (own-copy w h i b) m r
+    (record { valid = rw e at (h .validated .validated i b f); number = n .0; written = written-by i (w .archive) (s .rd) (s .wr) m (h .goals .archived .order) (k .0) }))))
 
 -- THE SERVER
 
@@ -114,75 +112,17 @@ within-layer x w h = record { versions = h .versions; validated = h .validated }
 record Before (w : World) (x : Serving) : Type 0 where
   within : Within (w .archive) (w .station) (w .up) (w .down) x
   len : length (w .archive ++ x .recs) ≡ x .server .last
-  numbers : (j : ℕ) → j < 8 → All (NumberBelow (x .server .last)) (w .down j ++ sentTo j (x .sent))
   tokens : (j : ℕ) → TokensAt (x .server) (w .station) (w .up) (λ k. w .down k ++ sentTo k (x .sent)) j
-  A2 : (j a : ℕ) → j < 8 → a < 256 → A2At (w .station) j a
 
 before : (x : Serving) (w : World) → Inv (carryDown x w) → Before w x
 unfolding carryDown
-before x w h =
-    record {
-      within = record { versions = h .validated .versions; validated = h .validated .validated };
-      len = h .goals .archived .all;
-      numbers = numbers-given (carryDown x w) h;
-      tokens = h .tokens;
-      A2 = h .values .A2;
-    }
+before x w h = record { within = record { versions = h .validated .versions; validated = h .validated .validated }; len = h .goals .archived .all; tokens = h .tokens }
 
 -- a read or a write that waits is a locking station's
 waits-lock : {skind kind num : ℕ} {opened : Bool} {rd wr : ℕ → Val} {latest : ℕ} {fin : Bool} (w : _) (q : Waiter) (U : List Up) (D : List Down) → Tokens skind kind num opened rd wr w q latest fin U D
     → (q .want ≡ WantRead → locking kind ≡ true) × (q .want ≡ WantWrite → locking kind ≡ true)
 waits-lock {kind} w q U D k =
     (λ e. and-l (locking kind) _ ((rw e at (k .S1b-waiter)) .waits refl), λ e. and-l (locking kind) _ ((rw e at (k .S1b-waiter)) .waits refl))
-
--- no fault, so no used page has another version
-module _ (s : Server) (i : ℕ) (k : Work) where
-  no-fault : turned (eqb (s .last) lastNumber) 4 (turned (stale s k) 2 (turned (locked s i) 3 0)) ≡ 0 → stale s k ≡ false
-  no-fault e =
-      byB (eqb (s .last) lastNumber) (λ t. let z : 4 ≡ 0 = rw t at e in absurd (omega arith))
-      (λ t. byB (stale s k) (λ o. let z : 2 ≡ 0 = rw (t, o) at e in absurd (omega arith)) (λ o. o))
-
-  same-version : stale s k ≡ false → (b : ℕ) → b < 256 → has (k .writes b) ≡ true → k .versions (pageOf b) ≡ s .ver (pageOf b)
-  same-version e b c n =
-      let p : ℕ = pageOf b in
-      let here : (usedPage k p && not (eqb (k .versions p) (s .ver p))) ≡ false = any-no 32 (λ o. usedPage k o && not (eqb (k .versions o) (s .ver o))) e p (omega arith) in
-      let used : usedPage k p ≡ true = page-yes (λ a. has (k .reads a) || has (k .writes a)) b (byB (has (k .reads b)) (λ r. rw r refl) (λ r. rw (r, n) refl)) in
-      let same : not (eqb (k .versions p) (s .ver p)) ≡ false = rw used at here in
-      eqb-yes (k .versions p) (s .ver p) (not-no _ same)
-
--- V4 of a commit that is installed: off the writes the copy was of the server's version, on them it has the values written
-module _ (w : World) (x : Serving) (h : Before w x) (i : ℕ) (c : i < 8) (e : x .server .queue i .want ≡ WantCommit) (o : fault (x .server) i ≡ 0) (f : locking (w .station i .kind) ≡ false) where
-  own-copy : (r : Rec) → r .writes ≡ x .server .queue i .work .writes
-      → Installed (snoc (w .archive ++ x .recs) r) (w .station i .cached) (w .station i .copy) (w .station i .wr) (Committed (x .server .queue i .work .transaction) (x .server .last + 1))
-  own-copy r q a b n p z =
-      value (w .station i .wr a) refl ∙ ap (λ g. valOr (g a) (left A zeros a)) (sym writes ∙ sym q) ∙ sym (hist-more A r (x .server .last) a (h .len))
-    where
-      A : List Rec
-      A = w .archive ++ x .recs
-
-      v : ValidatedAt A (x .server) (w .station) (w .up) (λ j. w .down j ++ sentTo j (x .sent)) i
-      v = h .within .validated i c
-
-      writes : x .server .queue i .work .writes ≡ w .station i .wr
-      writes = (rw e at (h .tokens i .S3-waiter)) .2
-
-      inside : b < 256
-      inside = byB (ltb b 256) (λ t. ltb-yes b 256 t) (λ t. absurd (false≢true (ap has (sym (h .tokens i .range-used b (ltb-no b 256 t) .1)) ∙ n)))
-
-      written : has (x .server .queue i .work .writes b) ≡ true
-      written = ap (λ g. has (g b)) writes ∙ n
-
-      kept : x .server .queue i .work .versions (pageOf b) ≡ w .station i .cver (pageOf b)
-      kept = (rw e at (v f .V6-waiter)) b written (ap (w .station i .cached) p ∙ z)
-
-      current : w .station i .cver (pageOf a) ≡ x .server .ver (pageOf a)
-      current = rw (← p) (sym kept ∙ same-version (x .server) i (x .server .queue i .work) (no-fault (x .server) i (x .server .queue i .work) o) b inside written)
-
-      value : (y : Val) → w .station i .wr a ≡ y → w .station i .copy a ≡ valOr y (left (w .archive ++ x .recs) zeros a)
-      value none s =
-          v f .V1 a z (ap has s) ∙ ap (λ m. Hist (w .archive ++ x .recs) m a) current
-          ∙ sym (h .within .versions .V0 (x .server .last) a (h .within .versions .V0-last (pageOf a)) (omega arith)) ∙ hist-all (w .archive ++ x .recs) (x .server .last) a (h .len)
-      value (some y) s = h .A2 i a c (omega (arith, inside, p)) y s z
 
 -- the seven actions of the pass
 module _ (w : World) where
@@ -218,10 +158,9 @@ module _ (w : World) where
       (onServer (leave i x) (setWl (setAsked ((leave i x) .server) (upd (x .server .asked) (pageOf a) false)) (upd (x .server .wl) (pageOf a) (suc i))))
       (lock-waits i x h e) (record { versions = g .versions; validated = g .validated })
 
-  installs-within : (i : ℕ) (x : Serving) → i < 8 → x .server .queue i .want ≡ WantCommit → fault (x .server) i ≡ 0 → Before w x → Under (installWaiter i x)
+  installs-within : (i : ℕ) (x : Serving) → Before w x → Under (installWaiter i x)
   unfolding installWaiter
-  installs-within i x c e o h =
-      install-within (w .archive) (w .station) (w .up) (w .down) i (x .server .queue i .work) x (h .len) (h .numbers) (λ r q b f. own-copy w x h i c e o f r q) (h .within)
+  installs-within i x h = install-within (w .archive) (w .station) (w .up) (w .down) i (x .server .queue i .work) x (h .len) (h .within)
 
   pub validated-acts : Acts (λ x. Inv (carryDown x w)) (λ x. ValidatedOf (carryDown x w))
   validated-acts =
@@ -232,7 +171,7 @@ module _ (w : World) where
         calls = λ i x b t u n c h. within-layer _ w (calls (w .archive) (w .station) (w .up) (w .down) i x (before x w h .within));
         objects = λ i x b e r h. within-layer _ w (objects-within i x e (before x w h));
         pages = λ i x b e r n h. within-layer _ w (pages-within i x e (before x w h));
-        installs = λ i x b e o r h. within-layer _ w (installs-within i x b e o (before x w h));
+        installs = λ i x b e o r h. within-layer _ w (installs-within i x (before x w h));
       }
 
 -- THE SERVER ACCEPTS the head m of station i's up line
@@ -252,10 +191,8 @@ module _ (i : ℕ) (m : Up) (l : List Up) (w : World) (b : i < 8) (e : w .up i �
   validated-accept n =
       accept-within (w .archive) (w .station) (upd (w .up) i l) (w .down) i (start (w .server)) (h .tokens i .kinds)
       (rw (append-nil (w .archive)) (h .goals .archived .all)) (λ a. rw (append-nil (w .archive)) (h .goals .archived .T1-pages a))
-      (λ j c. rw (append-nil (w .down j)) (numbers-given w h j c)) start-within m n
-      (λ c f.
-      let v = h .validated .validated i b f in
-      record { reads = rw (append-nil (w .archive)) ((rw e at (v .V3-up)) .0); versions = (rw e at (v .V6-up)) .0 })
+      start-within m n
+      (λ c f. rw (append-nil (w .archive)) ((rw e at (h .validated .validated i b f .V3-up)) .0))
 
 pub validated-accepted : (i : ℕ) (m : Up) (l : List Up) (w : World) → i < 8 → w .up i ≡ m ∷ l → unexpected i m (w .server) ≡ false → Inv w → ValidatedOf (carryDown (accept i m (start (w .server))) (taken i l w))
 validated-accepted i m l w b e n h = within-layer (accept i m (start (w .server))) (taken i l w) (validated-accept i m l w b e h n)

@@ -6,28 +6,24 @@ use Prim.Native.Nat.{ℕ, _+_, _<_}
 use lib.Dec.{eqb}
 use lib.ListN.{length}
 use Rattle.sets.specs.Base.{zeros}
-use Rattle.line.specs.All.{All}
 use Rattle.line.specs.Messages.{locking, lastNumber, Work, Up, Commit, Down, Rec}
 use Rattle.line.specs.Station.{Station}
 use Rattle.line.specs.Server.{ByMessage, Serving, readWaiter, writeWaiter, commitWaiter, notice, serveNow, joinRead, joinWrite, joinCommit, commitNow, unlist, unexpected, accept}
-use Rattle.line.specs.Line.{sentTo}
 use Rattle.line.specs.Truth.{left}
-use Rattle.truth.specs.Clauses.{TrueReads, SameVersions, WorkUp}
-use Rattle.truth.specs.Frame.{accepts, if-serving, noticed-val, noticed-last, noticed-sent, noticed-recs}
-use Rattle.truth.specs.ValidatedHist.{NumberBelow}
+use Rattle.truth.specs.Clauses.{TrueReads, WorkUp}
+use Rattle.truth.specs.Frame.{accepts, if-serving, noticed-val, noticed-last, noticed-recs}
 use Rattle.truth.specs.ValidatedServer.{Within, serves-now, notices, finishes, joins, unlists, marks, answers, loosens, aborts, install-within}
 
 -- x is the server before the message of station i
 module _ (A : List Rec) (t : ℕ → Station) (u : ℕ → List Up) (d : ℕ → List Down) (i : ℕ) (x : Serving) (kinds : x .server .kind i ≡ t i .kind)
     (len : length (A ++ x .recs) ≡ x .server .last) (pages : (b : ℕ) → left (A ++ x .recs) zeros b ≡ x .server .val b)
-    (numbers : (j : ℕ) → j < 8 → All (NumberBelow (x .server .last)) (d j ++ sentTo j (x .sent))) (h : Within A t u d x) where
+    (h : Within A t u d x) where
   abbrev In : Serving → Type 0
   In y = Within A t u d y
 
   -- what is known of a validating station's message
-  pub record HeadUp (m : Up) : Type 0 where
-    pub reads : WorkUp (TrueReads (A ++ x .recs) (x .server .last)) m
-    pub versions : WorkUp (SameVersions (t i .cached) (t i .cver)) m
+  abbrev pub HeadUp : Up → Type 0
+  HeadUp m = WorkUp (TrueReads (A ++ x .recs) (x .server .last)) m
 
   abbrev After : Up → Serving → Type 0
   After m y = (i < 8 → locking (t i .kind) ≡ false → HeadUp m) → In y
@@ -50,7 +46,7 @@ module _ (A : List Rec) (t : ℕ → Station) (u : ℕ → List Up) (d : ℕ →
   unfolding joinCommit
   commits-join k g =
       joins A t u d i (commitWaiter ((notice i (k .transaction) x) .server) k) (notice i (k .transaction) x)
-      (λ b f. record { reads = rw (noticed-recs i (k .transaction) x, noticed-last i (k .transaction) x) (g b f .reads); versions = g b f .versions })
+      (λ b f. rw (noticed-recs i (k .transaction) x, noticed-last i (k .transaction) x) (g b f))
       (noticed (k .transaction))
 
   now : (a n : ℕ) → In (serveNow i a (notice i n x))
@@ -66,8 +62,7 @@ module _ (A : List Rec) (t : ℕ → Station) (u : ℕ → List Up) (d : ℕ →
       if-serving In (eqb (y .server .last) lastNumber)
       (λ o. aborts A t u d i 4 y (noticed n))
       (λ o.
-      install-within A t u d i k y (rw (noticed-recs i n x, noticed-last i n x) len) (λ j b. rw (noticed-sent i n x, noticed-last i n x) (numbers j b))
-      (λ r q b f. absurd (locks e f)) (noticed n))
+      install-within A t u d i k y (rw (noticed-recs i n x, noticed-last i n x) len) (noticed n))
 
   pub accept-within : (m : Up) → unexpected i m (x .server) ≡ false → (i < 8 → locking (t i .kind) ≡ false → HeadUp m) → In (accept i m x)
   accept-within =

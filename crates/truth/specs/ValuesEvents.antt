@@ -90,7 +90,7 @@ values-taken m {D = D} o h =
     }
 
 -- a page comes: at an address on it
-pub values-arrived : {a val : ℕ} {k : Lock} {b t v : ℕ} {u′ : ℕ → Bool} {x′ : ℕ → ℕ} {c u : Bool} {x : ℕ} {rd : Val} (wr : Val) {D : List Down} → eqb (pageOf a) (pageOf b) ≡ true → count isCommitted D ≡ 0
+pub values-arrived : {a val : ℕ} {k : Lock} {b t : ℕ} {v : ℕ → ℕ} {u′ : ℕ → Bool} {x′ : ℕ → ℕ} {c u : Bool} {x : ℕ} {rd : Val} (wr : Val) {D : List Down} → eqb (pageOf a) (pageOf b) ≡ true → count isCommitted D ≡ 0
     → Values a val c u x rd wr (Page k b t v u′ x′ ∷ D) → Values a val true (u′ a) (valOr wr (x′ a)) rd wr D
 values-arrived {a = a} {u′ = u′} {x′ = x′} wr p o h =
     record {

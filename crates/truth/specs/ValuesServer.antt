@@ -33,7 +33,7 @@ module _ (t : ℕ → Station) (dn : ℕ → List Down) where
       (λ e. rw (send-far i j (dn j) l m e) (h j a b c k))
 
   -- a page
-  pub served-page : (val : ℕ → ℕ) (l : List Sent) (i : ℕ) (k : Lock) (a n v : ℕ) (u : ℕ → Bool) → u a ≡ false → Served val t dn l → Served val t dn (snoc l (To i (Page k a n v u (valuesOn (pageOf a) val))))
+  pub served-page : (val : ℕ → ℕ) (l : List Sent) (i : ℕ) (k : Lock) (a n : ℕ) (v : ℕ → ℕ) (u : ℕ → Bool) → u a ≡ false → Served val t dn l → Served val t dn (snoc l (To i (Page k a n v u (valuesOn (pageOf a) val))))
   served-page val l i k a n v u o h = served-sent val l i (Page k a n v u (valuesOn (pageOf a) val)) refl (λ b e f. rw e refl) o h
 
   -- a commit's values and its 21

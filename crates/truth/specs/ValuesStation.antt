@@ -84,7 +84,7 @@ module _ (val : ℕ → ℕ) (D : List Down) where
 
 module _ (val : ℕ → ℕ) where
   -- a page comes
-  arrived-own : (k : Lock) (a t v : ℕ) (u : ℕ → Bool) (x : ℕ → ℕ) (s : Station) (D : List Down) → count isCommitted D ≡ 0 → Own val s (Page k a t v u x ∷ D) → Own val (arrive (pageOf a) v u x s) D
+  arrived-own : (k : Lock) (a t : ℕ) (v : ℕ → ℕ) (u : ℕ → Bool) (x : ℕ → ℕ) (s : Station) (D : List Down) → count isCommitted D ≡ 0 → Own val s (Page k a t v u x ∷ D) → Own val (arrive (pageOf a) v u x s) D
   unfolding arrive
   arrived-own k a t v u x s D o h =
       record {
@@ -150,20 +150,20 @@ module _ (val : ℕ → ℕ) (s : Station) (D : List Down) where
   none-behind m w q e n = no-commit (s .kind) (s .num) (s .opened) (s .wait) (rw q e) D (n .fit .1)
 
   -- the page as it stands in the station, the wait over
-  page-own : (k : Lock) (a t v : ℕ) (u : ℕ → Bool) (x : ℕ → ℕ) → count isCommitted D ≡ 0 → Own val s (Page k a t v u x ∷ D) → Own val (arrived k a v u x s) D
+  page-own : (k : Lock) (a t : ℕ) (v : ℕ → ℕ) (u : ℕ → Bool) (x : ℕ → ℕ) → count isCommitted D ≡ 0 → Own val s (Page k a t v u x ∷ D) → Own val (arrived k a v u x s) D
   page-own k a t v u x o h =
       let g = arrived-own val k a t v u x (takeLock k a s) D o (locked-own val k a s (Page k a t v u x ∷ D) h) in
       record { written = g .written; values = g .values }
 
   -- the value read is the server's
-  read-true : (a t v : ℕ) (u : ℕ → Bool) (x : ℕ → ℕ) → s .wait ≡ ForRead a → Known s (Page NoLock a t v u x ∷ D) → Own val s (Page NoLock a t v u x ∷ D)
+  read-true : (a t : ℕ) (v : ℕ → ℕ) (u : ℕ → Bool) (x : ℕ → ℕ) → s .wait ≡ ForRead a → Known s (Page NoLock a t v u x ∷ D) → Own val s (Page NoLock a t v u x ∷ D)
       → a < 256 → locking (s .kind) ≡ true → (arrived NoLock a v u x s) .copy a ≡ val a
   unfolding arrive takeLock
   read-true a t v u x q n h b k =
       let l = h .values a b k in
       rw (eqb-same (pageOf a)) (ap (λ r. valOr r (x a)) (n .unwritten a q) ∙ l .B .0 (eqb-same (pageOf a)) (l .B2 .0))
 
-  page-kind : (a v : ℕ) (u : ℕ → Bool) (x : ℕ → ℕ) → (arrived NoLock a v u x s) .kind ≡ s .kind
+  page-kind : (a : ℕ) (v : ℕ → ℕ) (u : ℕ → Bool) (x : ℕ → ℕ) → (arrived NoLock a v u x s) .kind ≡ s .kind
   unfolding arrive takeLock
   page-kind a v u x = refl
 
@@ -185,8 +185,8 @@ module _ (val : ℕ → ℕ) (s : Station) (D : List Down) where
         dones = λ c t set e q n h r. called-own val D c t set _ (taken-own val (Callback c t set) s D refl h);
         commits = λ t c e q n h r. closes-own val D _ (record { written = λ a b. A2-none; values = λ a b k. values-committed (h .values a b k) });
         aborts = λ t c e q n h r. aborted-own val D _ s refl (taken-own val (Aborted t c) s D refl h);
-        invalid-ends = λ d e q f n h r. aborted-own val D _ (dropPages d s) refl (dropped-own val D d s (taken-own val (Invalidate d) s D refl h));
-        invalid = λ d e q n h r. dropped-own val D d s (taken-own val (Invalidate d) s D refl h);
+        invalid-ends = λ d e q f n h r. aborted-own val D _ (mark d s) refl (marked-own val D d s (taken-own val (Invalidate d) s D refl h));
+        invalid = λ d e q n h r. marked-own val D d s (taken-own val (Invalidate d) s D refl h);
       }
 
   pub delivery-own : (m : Down) → Known s (m ∷ D) → Own val s (m ∷ D) → isRefused ((stationStep m s) .answer) ≡ false → Own val ((stationStep m s) .station) D

@@ -9,10 +9,10 @@ use Rattle.message.proofs.pages_of.Statement.{statement}
 use Rattle.message.proofs.pages_of.Tie as tie
 
 abbrev Inv-loop : tie.InvT-loop
-Inv-loop m n pages₀ i₀ pages i = (i ≤ n) × (pages ≡ pagesTo m i)
+Inv-loop m at n pages₀ i₀ pages i = (i ≤ n) × (pages ≡ pagesTo m at i)
 
 abbrev μ-loop : tie.MeasureT-loop
-μ-loop m n pages₀ i₀ pages i = n - i
+μ-loop m at n pages₀ i₀ pages i = n - i
 
 loop-holds : tie.Need-loop-holds Inv-loop μ-loop
 unfolding pagesTo
@@ -41,7 +41,7 @@ unfolding pagesTo
 loop-again c = (search needs, rw (add-one, c .page-bit .ensures, c .before .wide .ensures .0, c .before .before .before .before .loop .inv .1))
 
 returns : tie.Need-returns Inv-loop μ-loop
-returns c = c .before .loop .inv .1 ∙ ap (pagesTo _) (omega arith)
+returns c = c .before .loop .inv .1 ∙ ap (pagesTo _ _) (omega arith)
 
 pub pages-of-spec : {M : Type 1} → statement M
 pages-of-spec =

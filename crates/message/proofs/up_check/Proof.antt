@@ -53,7 +53,7 @@ shared-slice-read-commit-number : tie.Need-shared-slice-read-commit-number
 shared-slice-read-commit-number c = omega (arith, kinds-there (c .before .before .before .before .before .before .before .before .before .before .before .before .before .before .args .kinds .now) (sym (c .before .before .before .before .before .before .before .before .before .before .before .kinds-ok .ensures) ∙ not-false (c .before .before .before .before .before .before .before .before .before .before .before .kinds-ok .result) (c .before .before .before .before .before .before .before .before .before .before .if1 .left)), station-there (c .before .before .before .before .before .before .before .before .before .before .before .before .before .before .args .m .now) (sym (c .before .before .before .before .before .before .before .up-range .ensures) ∙ c .before .before .before .before .before .before .if3 .left))
 
 commit-number-requires : tie.Need-commit-number-requires
-commit-number-requires c κs = omega (arith, commit-there (c .before .before .before .before .before .before .before .before .before .before .before .before .before .before .args .m .now) (sym (c .before .before .before .before .before .before .before .before .before .length-ok .ensures) ∙ not-false (c .before .before .before .before .before .before .before .before .before .length-ok .result) (c .before .before .before .before .before .before .before .before .if2 .left)) (c .before .before .before .before .if4 .left))
+commit-number-requires c κs = let t = commit-there (c .before .before .before .before .before .before .before .before .before .before .before .before .before .before .args .m .now) (sym (c .before .before .before .before .before .before .before .before .before .length-ok .ensures) ∙ not-false (c .before .before .before .before .before .before .before .before .before .length-ok .result) (c .before .before .before .before .before .before .before .before .if2 .left)) (c .before .before .before .before .if4 .left) in (omega (arith, t .whole, t .versions), omega (arith, t .whole, t .versions), omega (arith, t .whole, t .versions))
 
 returns-5 : tie.Need-returns-5
 unfolding upNumber

@@ -10,10 +10,10 @@ use Rattle.message.proofs.versions_ok.Statement.{statement}
 use Rattle.message.proofs.versions_ok.Tie as tie
 
 abbrev Inv-loop : tie.InvT-loop
-Inv-loop kind m ok₀ p₀ ok p = (p ≤ 32) × (ok ≡ allTo (versionOk kind m) p)
+Inv-loop kind m n ok₀ e₀ ok e = (e ≤ n) × (ok ≡ allTo (versionOk kind m) e)
 
 abbrev μ-loop : tie.MeasureT-loop
-μ-loop kind m ok₀ p₀ ok p = 32 - p
+μ-loop kind m n ok₀ e₀ ok e = n - e
 
 loop-holds : tie.Need-loop-holds Inv-loop μ-loop
 unfolding allTo
@@ -22,8 +22,8 @@ loop-holds c = search needs
 version-ok-requires : tie.Need-version-ok-requires Inv-loop μ-loop
 version-ok-requires c κs = search needs
 
-add-p : tie.Need-add-p Inv-loop μ-loop
-add-p c = search needs
+add-e : tie.Need-add-e Inv-loop μ-loop
+add-e c = search needs
 
 loop-less : tie.Need-loop-less Inv-loop μ-loop
 loop-less c = search needs
@@ -38,4 +38,4 @@ returns c = c .before .loop .inv .1 ∙ ap (allTo _) (omega arith)
 pub versions-ok-spec : {M : Type 1} → statement M
 versions-ok-spec =
     tie.close
-    (tie.spec Inv-loop μ-loop loop-holds version-ok-requires add-p loop-less loop-again returns)
+    (tie.spec Inv-loop μ-loop loop-holds version-ok-requires add-e loop-less loop-again returns)

@@ -23,7 +23,7 @@ returns : tie.Need-returns
 returns c = check-up _ _ (c .before .up-check .ensures) (c .if1 .taken)
 
 unexpected-requires : tie.Need-unexpected-requires
-unexpected-requires c κs = let r = readable (kindsOf (c .before .before .before .before .before .args .s .now)) _ (sym (c .before .up-check .ensures) ∙ c .if1 .left) in (c .before .before .before .before .before .pre, r .length-is, r .station, r .kind, λ k. omega (arith, (r .commit k) .entries), r .page)
+unexpected-requires c κs = let r = readable (kindsOf (c .before .before .before .before .before .args .s .now)) _ (sym (c .before .up-check .ensures) ∙ c .if1 .left) in (c .before .before .before .before .before .pre, r .length-is, r .station, r .kind, λ k. ((r .commit k) .front, omega (arith, (r .commit k) .entries)), r .page)
 
 returns-2 : tie.Need-returns-2
 returns-2 c = check-6 _ _ (c .before .before .before .up-check .ensures) (c .before .before .if1 .left) (sym (c .before .unexpected .ensures) ∙ c .if2 .taken)

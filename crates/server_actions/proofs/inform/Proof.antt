@@ -15,10 +15,16 @@ cast-put-message : tie.Need-cast-put-message
 cast-put-message c = search needs
 
 put-message-requires : tie.Need-put-message-requires
-put-message-requires c κs = let h = inform-fits _ _ _ _ _ _ _ (sym (c .before .before .before .has-bit8 .ensures) ∙ c .before .before .if1 .taken) (c .before .before .before .before .before .before .before .pre .2) in search needs
+put-message-requires c κs = let h = inform-fits _ _ _ _ _ _ _ (sym (c .before .before .before .has-bit8 .ensures) ∙ c .before .before .if1 .taken) (c .before .before .before .before .before .before .before .before .pre .3) in search needs
 
-unlist-requires : tie.Need-unlist-requires
-unlist-requires c κs = search needs
+mul-copy-in : tie.Need-mul-copy-in
+mul-copy-in c = search needs
+
+add-copy-in : tie.Need-add-copy-in
+add-copy-in c = search needs
+
+copy-in-requires : tie.Need-copy-in-requires
+copy-in-requires c κs = let h = inform-fits _ _ _ _ _ _ _ (sym (c .before .before .before .before .before .before .before .before .has-bit8 .ensures) ∙ c .before .before .before .before .before .before .before .if1 .taken) (c .before .before .before .before .before .before .before .before .before .before .before .before .before .pre .3) in search needs
 
 one-more-requires : tie.Need-one-more-requires
 one-more-requires c κs = search needs
@@ -26,11 +32,8 @@ one-more-requires c κs = search needs
 same-length : tie.Need-same-length
 same-length c = search needs
 
-same-length-2 : tie.Need-same-length-2
-same-length-2 c = search needs
-
 returns : tie.Need-returns
-returns c = inform-chain _ _ _ _ _ _ _ (sym (c .before .before .before .before .before .before .before .before .before .before .before .has-bit8 .ensures) ∙ c .before .before .before .before .before .before .before .before .before .before .if1 .taken) (c .before .before .before .before .before .before .before .put-message .ensures) (c .before .before .before .unlist .ensures) (c .one-more .ensures)
+returns c = inform-chain _ _ _ _ _ _ _ (c .before .before .before .before .before .before .before .before .before .before .before .before .before .before .before .before .before .pre .1) (sym (c .before .before .before .before .before .before .before .before .before .before .before .before .has-bit8 .ensures) ∙ c .before .before .before .before .before .before .before .before .before .before .before .if1 .taken) (c .before .before .before .before .before .before .before .before .put-message .ensures) (c .before .before .before .copy-in .ensures) (c .one-more .ensures)
 
 returns-2 : tie.Need-returns-2
 returns-2 c = inform-none _ _ _ _ _ _ _ (sym (c .before .has-bit8 .ensures) ∙ c .if1 .left)
@@ -43,9 +46,10 @@ inform-spec =
     mul-put-message
     cast-put-message
     put-message-requires
-    unlist-requires
+    mul-copy-in
+    add-copy-in
+    copy-in-requires
     one-more-requires
     same-length
-    same-length-2
     returns
     returns-2)

@@ -11,10 +11,10 @@ use Rattle.server_actions.proofs.inform_all.Statement.{statement}
 use Rattle.server_actions.proofs.inform_all.Tie as tie
 
 abbrev Inv-loop : tie.InvT-loop
-Inv-loop s₀ o₀ q₀ i d w b₀ j₀ s o q b j = (j ≤ 8) × (length s ≡ length s₀) × (length o ≡ length o₀) × (length q ≡ length q₀) × (posted s o q b ≡ post o₀ q₀ b₀ (informSetTo w d (from s₀) j))
+Inv-loop s₀ o₀ q₀ i d y w b₀ j₀ s o q b j = (j ≤ 8) × (length s ≡ length s₀) × (length o ≡ length o₀) × (length q ≡ length q₀) × (posted s o q b ≡ post o₀ q₀ b₀ (informSetTo w y (from s₀) j))
 
 abbrev μ-loop : tie.MeasureT-loop
-μ-loop s₀ o₀ q₀ i d w b₀ j₀ s o q b j = 8 - j
+μ-loop s₀ o₀ q₀ i d y w b₀ j₀ s o q b j = 8 - j
 
 informed-set-requires : tie.Need-informed-set-requires Inv-loop μ-loop
 informed-set-requires c κs = search needs
@@ -23,7 +23,7 @@ loop-holds : tie.Need-loop-holds Inv-loop μ-loop
 loop-holds c = (search needs, search needs, search needs, search needs, turn-none (turns-set _ _) _ _ _ _)
 
 inform-requires : tie.Need-inform-requires Inv-loop μ-loop
-inform-requires c κs = (search needs, search needs, turn-room (turns-set _ _) _ _ _ _ 8 _ (c .before .before .before .before .loop .inv .4) (search needs) (informs-room _ _ _ _ _ _ (c .before .before .before .before .before .informed-set .ensures) (c .before .before .before .before .before .before .before .before .before .before .pre .2)))
+inform-requires c κs = (search needs, search needs, search needs, turn-room (turns-set _ _) _ _ _ _ 8 _ (c .before .before .before .before .loop .inv .4) (search needs) (informs-room _ _ _ _ _ _ _ (c .before .before .before .before .before .informed-set .ensures) (c .before .before .before .before .before .before .before .before .before .before .before .pre .3)))
 
 add-j : tie.Need-add-j Inv-loop μ-loop
 add-j c = search needs
@@ -44,7 +44,7 @@ same-length-3 : tie.Need-same-length-3 Inv-loop μ-loop
 same-length-3 c = search needs
 
 returns : tie.Need-returns Inv-loop μ-loop
-returns c = informs-post _ _ _ _ _ _ (c .before .before .informed-set .ensures) (turn-end (turns-set _ _) _ _ _ _ 8 _ (c .before .loop .inv .4) (omega arith))
+returns c = informs-post _ _ _ _ _ _ _ (c .before .before .informed-set .ensures) (turn-end (turns-set _ _) _ _ _ _ 8 _ (c .before .loop .inv .4) (omega arith))
 
 pub inform-all-spec : {M : Type 1} → statement M
 inform-all-spec =

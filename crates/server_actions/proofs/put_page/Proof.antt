@@ -1,4 +1,4 @@
--- `server_actions::put_page` meets its contract.
+-- `server_actions::put_page` meets its contract. The calls are the definition by one law (`page-put`).
 use Rattle.server_actions.specs.Stores.{page-put}
 use borrow.Author.Needs.{needs}
 use Rattle.server_actions.proofs.put_page.Statement.{statement}
@@ -12,15 +12,6 @@ add-get-u32 c = search needs
 
 get-u32-requires : tie.Need-get-u32-requires
 get-u32-requires c κs = search needs
-
-mul-get-u32-2 : tie.Need-mul-get-u32-2
-mul-get-u32-2 c = search needs
-
-add-get-u32-2 : tie.Need-add-get-u32-2
-add-get-u32-2 c = search needs
-
-get-u32-requires-2 : tie.Need-get-u32-requires-2
-get-u32-requires-2 c κs = search needs
 
 cast-put-message : tie.Need-cast-put-message
 cast-put-message c = search needs
@@ -52,11 +43,23 @@ add-copy-in-2 c = search needs
 copy-in-requires : tie.Need-copy-in-requires
 copy-in-requires c κs = search needs
 
+add-copy-in-3 : tie.Need-add-copy-in-3
+add-copy-in-3 c = search needs
+
+mul-copy-in-2 : tie.Need-mul-copy-in-2
+mul-copy-in-2 c = search needs
+
+add-copy-in-4 : tie.Need-add-copy-in-4
+add-copy-in-4 c = search needs
+
+copy-in-requires-2 : tie.Need-copy-in-requires-2
+copy-in-requires-2 c κs = search needs
+
 same-length : tie.Need-same-length
 same-length c = search needs
 
 returns : tie.Need-returns
-returns c = page-put _ _ _ (c .before .before .before .before .before .before .before .before .before .before .before .before .before .before .before .before .pre .0) _ _ _ _ (c .before .before .before .before .before .before .before .before .before .before .before .before .before .before .before .before .pre .2) (c .before .before .before .before .before .before .before .before .before .before .before .before .before .get-u32 .ensures) (c .before .before .before .before .before .before .before .before .before .before .before .before .get-u322 .ensures) (c .before .before .before .before .before .before .before .before .before .before .put-message .ensures) (c .before .before .before .before .before .before .put-u8 .ensures) (c .before .before .copy-in .ensures)
+returns c = page-put _ _ _ (c .before .before .before .before .before .before .before .before .before .before .before .before .before .before .before .before .before .before .before .pre .0) _ _ _ _ (c .before .before .before .before .before .before .before .before .before .before .before .before .before .before .before .before .before .before .before .pre .2) (c .before .before .before .before .before .before .before .before .before .before .before .before .before .before .before .before .get-u32 .ensures) (c .before .before .before .before .before .before .before .before .before .before .before .before .before .before .put-message .ensures) (c .before .before .before .before .before .before .before .before .before .before .put-u8 .ensures) (c .before .before .before .before .before .before .copy-in .ensures) (c .before .before .copy-in2 .ensures)
 
 pub put-page-spec : {M : Type 1} → statement M
 put-page-spec =
@@ -65,9 +68,6 @@ put-page-spec =
     mul-get-u32
     add-get-u32
     get-u32-requires
-    mul-get-u32-2
-    add-get-u32-2
-    get-u32-requires-2
     cast-put-message
     cast-put-message-2
     cast-put-message-3
@@ -78,5 +78,9 @@ put-page-spec =
     mul-copy-in
     add-copy-in-2
     copy-in-requires
+    add-copy-in-3
+    mul-copy-in-2
+    add-copy-in-4
+    copy-in-requires-2
     same-length
     returns)

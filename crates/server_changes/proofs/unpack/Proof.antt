@@ -10,10 +10,10 @@ use Rattle.server_changes.proofs.unpack.Statement.{statement}
 use Rattle.server_changes.proofs.unpack.Tie as tie
 
 abbrev Inv-loop : tie.InvT-loop
-Inv-loop s₀ m at from first n k₀ s k = (k ≤ n) × (length s ≡ length s₀) × (s ≡ unpackTo m s₀ at from first k)
+Inv-loop s₀ m at from seen first n k₀ s k = (k ≤ n) × (length s ≡ length s₀) × (s ≡ unpackTo m s₀ at from seen first k)
 
 abbrev μ-loop : tie.MeasureT-loop
-μ-loop s₀ m at from first n k₀ s k = n - k
+μ-loop s₀ m at from seen first n k₀ s k = n - k
 
 loop-holds : tie.Need-loop-holds Inv-loop μ-loop
 unfolding unpackTo
@@ -39,7 +39,7 @@ same-length : tie.Need-same-length Inv-loop μ-loop
 same-length c = search needs
 
 returns : tie.Need-returns Inv-loop μ-loop
-returns c = c .before .loop .inv .2 ∙ ap (unpackTo _ _ _ _ _) (omega arith)
+returns c = c .before .loop .inv .2 ∙ ap (unpackTo _ _ _ _ _ _) (omega arith)
 
 pub unpack-spec : {M : Type 1} → statement M
 unpack-spec =

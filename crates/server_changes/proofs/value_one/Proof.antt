@@ -38,12 +38,21 @@ add-put-u64 c = search needs
 put-u64-requires : tie.Need-put-u64-requires
 put-u64-requires c κs = search needs
 
+mul-put-u32 : tie.Need-mul-put-u32
+mul-put-u32 c = search needs
+
+add-put-u32 : tie.Need-add-put-u32
+add-put-u32 c = search needs
+
+put-u32-requires : tie.Need-put-u32-requires
+put-u32-requires c κs = search needs
+
 same-length : tie.Need-same-length
 same-length c = search needs
 
 returns : tie.Need-returns
 unfolding valueOneB
-returns c = simp (sym (c .before .before .before .before .before .before .before .member .ensures), c .before .before .before .before .before .before .if1 .taken, sym (c .before .before .before .before .get-u64 .ensures)) (c .before .before .put-u64 .ensures)
+returns c = simp (sym (c .before .before .before .before .before .before .before .before .before .before .before .member .ensures), c .before .before .before .before .before .before .before .before .before .before .if1 .taken, sym (c .before .before .before .before .before .before .before .before .get-u64 .ensures), sym (c .before .before .before .before .before .before .put-u64 .ensures)) (c .before .before .put-u32 .ensures)
 
 same-length-2 : tie.Need-same-length-2
 same-length-2 c = search needs
@@ -67,6 +76,9 @@ value-one-spec =
     mul-put-u64
     add-put-u64
     put-u64-requires
+    mul-put-u32
+    add-put-u32
+    put-u32-requires
     same-length
     returns
     same-length-2

@@ -10,10 +10,10 @@ use Rattle.server_changes.proofs.values.Statement.{statement}
 use Rattle.server_changes.proofs.values.Tie as tie
 
 abbrev Inv-loop : tie.InvT-loop
-Inv-loop s₀ i a₀ s a = (a ≤ 256) × (length s ≡ length s₀) × (s ≡ valuesTo i s₀ a)
+Inv-loop s₀ i n a₀ s a = (a ≤ 256) × (length s ≡ length s₀) × (s ≡ valuesTo i n s₀ a)
 
 abbrev μ-loop : tie.MeasureT-loop
-μ-loop s₀ i a₀ s a = 256 - a
+μ-loop s₀ i n a₀ s a = 256 - a
 
 loop-holds : tie.Need-loop-holds Inv-loop μ-loop
 unfolding valuesTo
@@ -36,7 +36,7 @@ same-length : tie.Need-same-length Inv-loop μ-loop
 same-length c = search needs
 
 returns : tie.Need-returns Inv-loop μ-loop
-returns c = c .before .loop .inv .2 ∙ ap (valuesTo _ _) (omega arith)
+returns c = c .before .loop .inv .2 ∙ ap (valuesTo _ _ _) (omega arith)
 
 pub values-spec : {M : Type 1} → statement M
 values-spec =

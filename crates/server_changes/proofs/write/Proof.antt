@@ -13,9 +13,6 @@ add-n c = search needs
 put-u32-requires : tie.Need-put-u32-requires
 put-u32-requires c κs = search needs
 
-versions-requires : tie.Need-versions-requires
-versions-requires c κs = search needs
-
 values-requires : tie.Need-values-requires
 values-requires c κs = search needs
 
@@ -33,7 +30,6 @@ write-spec =
     get-u32-requires
     add-n
     put-u32-requires
-    versions-requires
     values-requires
     same-length
     returns)

@@ -4,13 +4,13 @@ use mathlib.Core.Path.{_≡_, ap, _∙_}
 use native.Mathlib.Numerals.{add-one}
 use native.Mathlib.Omega.{arith}
 use borrow.Author.Needs.{needs}
-use Rattle.server_tests.specs.Tests.{staleAt, staleB}
+use Rattle.server_tests.specs.Tests.{staleOnB, staleB}
 use Rattle.cells.specs.Loops.{anyTo}
 use Rattle.server_tests.proofs.stale.Statement.{statement}
 use Rattle.server_tests.proofs.stale.Tie as tie
 
 abbrev Inv-loop : tie.InvT-loop
-Inv-loop s i r₀ p₀ r p = (p ≤ 32) × (r ≡ anyTo (staleAt s i) p)
+Inv-loop s i r₀ p₀ r p = (p ≤ 32) × (r ≡ anyTo (staleOnB s i) p)
 
 abbrev μ-loop : tie.MeasureT-loop
 μ-loop s i r₀ p₀ r p = 32 - p
@@ -19,8 +19,8 @@ loop-holds : tie.Need-loop-holds Inv-loop μ-loop
 unfolding anyTo
 loop-holds c = search needs
 
-stale-at-requires : tie.Need-stale-at-requires Inv-loop μ-loop
-stale-at-requires c κs = search needs
+stale-on-requires : tie.Need-stale-on-requires Inv-loop μ-loop
+stale-on-requires c κs = search needs
 
 add-p : tie.Need-add-p Inv-loop μ-loop
 add-p c = search needs
@@ -39,4 +39,4 @@ returns c = c .before .loop .inv .1 ∙ ap (anyTo _) (omega arith)
 pub stale-spec : {M : Type 1} → statement M
 stale-spec =
     tie.close
-    (tie.spec Inv-loop μ-loop loop-holds stale-at-requires add-p loop-less loop-again returns)
+    (tie.spec Inv-loop μ-loop loop-holds stale-on-requires add-p loop-less loop-again returns)

@@ -1,51 +1,79 @@
 -- `server_tests::stale_at` meets its contract.
-use Rattle.server_tests.specs.Tests.{staleAt}
+use Rattle.server_tests.specs.Tests.{staleAtB}
 use borrow.Author.Needs.{needs}
 use Rattle.server_tests.proofs.stale_at.Statement.{statement}
 use Rattle.server_tests.proofs.stale_at.Tie as tie
 
-wanted-requires : tie.Need-wanted-requires
-wanted-requires c κs = search needs
+mul-has-bit8 : tie.Need-mul-has-bit8
+mul-has-bit8 c = search needs
 
-mul-get-u32 : tie.Need-mul-get-u32
-mul-get-u32 c = search needs
+add-has-bit8 : tie.Need-add-has-bit8
+add-has-bit8 c = search needs
 
-add-get-u32 : tie.Need-add-get-u32
-add-get-u32 c = search needs
+add-has-bit8-2 : tie.Need-add-has-bit8-2
+add-has-bit8-2 c = search needs
 
-mul-get-u32-2 : tie.Need-mul-get-u32-2
-mul-get-u32-2 c = search needs
+shared-slice-read-has-bit8 : tie.Need-shared-slice-read-has-bit8
+shared-slice-read-has-bit8 c = search needs
 
-add-get-u32-2 : tie.Need-add-get-u32-2
-add-get-u32-2 c = search needs
+has-bit8-requires : tie.Need-has-bit8-requires
+has-bit8-requires c κs = search needs
 
-get-u32-requires : tie.Need-get-u32-requires
-get-u32-requires c κs = search needs
+mul-other-version : tie.Need-mul-other-version
+mul-other-version c = search needs
 
-mul-get-u32-3 : tie.Need-mul-get-u32-3
-mul-get-u32-3 c = search needs
+add-other-version : tie.Need-add-other-version
+add-other-version c = search needs
 
-add-get-u32-3 : tie.Need-add-get-u32-3
-add-get-u32-3 c = search needs
+other-version-requires : tie.Need-other-version-requires
+other-version-requires c κs = search needs
 
-get-u32-requires-2 : tie.Need-get-u32-requires-2
-get-u32-requires-2 c κs = search needs
+mul-has-bit8-2 : tie.Need-mul-has-bit8-2
+mul-has-bit8-2 c = search needs
+
+add-has-bit8-3 : tie.Need-add-has-bit8-3
+add-has-bit8-3 c = search needs
+
+add-has-bit8-4 : tie.Need-add-has-bit8-4
+add-has-bit8-4 c = search needs
+
+shared-slice-read-has-bit8-2 : tie.Need-shared-slice-read-has-bit8-2
+shared-slice-read-has-bit8-2 c = search needs
+
+has-bit8-requires-2 : tie.Need-has-bit8-requires-2
+has-bit8-requires-2 c κs = search needs
+
+mul-other-version-2 : tie.Need-mul-other-version-2
+mul-other-version-2 c = search needs
+
+add-other-version-2 : tie.Need-add-other-version-2
+add-other-version-2 c = search needs
+
+other-version-requires-2 : tie.Need-other-version-requires-2
+other-version-requires-2 c κs = search needs
 
 returns : tie.Need-returns
-unfolding staleAt
+unfolding staleAtB
 returns c = cc
 
 pub stale-at-spec : {M : Type 1} → statement M
 stale-at-spec =
     tie.close
     (tie.spec
-    wanted-requires
-    mul-get-u32
-    add-get-u32
-    mul-get-u32-2
-    add-get-u32-2
-    get-u32-requires
-    mul-get-u32-3
-    add-get-u32-3
-    get-u32-requires-2
+    mul-has-bit8
+    add-has-bit8
+    add-has-bit8-2
+    shared-slice-read-has-bit8
+    has-bit8-requires
+    mul-other-version
+    add-other-version
+    other-version-requires
+    mul-has-bit8-2
+    add-has-bit8-3
+    add-has-bit8-4
+    shared-slice-read-has-bit8-2
+    has-bit8-requires-2
+    mul-other-version-2
+    add-other-version-2
+    other-version-requires-2
     returns)

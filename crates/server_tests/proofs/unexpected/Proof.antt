@@ -31,7 +31,7 @@ bad-number-requires-3 : tie.Need-bad-number-requires-3
 bad-number-requires-3 c κs = search needs
 
 unlocked-requires : tie.Need-unlocked-requires
-unlocked-requires c κs = (search needs, search needs, c .before .before .before .before .before .before .before .before .pre .4 (c .before .match .keys3))
+unlocked-requires c κs = let p = c .before .before .before .before .before .before .before .before .pre .4 (c .before .match .keys3) in (search needs, search needs, p .0, p .1)
 
 bad-number-requires-4 : tie.Need-bad-number-requires-4
 bad-number-requires-4 c κs = search needs

@@ -4,25 +4,20 @@ use mathlib.Core.Path.{_≡_}
 use native.Mathlib.Numerals.{add-one}
 use native.Mathlib.Omega.{arith}
 use borrow.Author.Needs.{needs}
-use Rattle.message.specs.Commit.{recordAt}
-use Rattle.record.specs.Check.{writeCountFrom}
+use Rattle.message.specs.Commit.{sentWrites}
 use Rattle.server_tests.specs.Tests.{unlockedAt, unlockedB}
 use Rattle.cells.specs.Loops.{anyTo}
-use Rattle.le.specs.Le.{u16At}
 use Rattle.server_tests.proofs.unlocked.Statement.{statement}
 use Rattle.server_tests.proofs.unlocked.Tie as tie
 
 abbrev Inv-loop : tie.InvT-loop
-Inv-loop s i m n r₀ k₀ r k = (k ≤ u16At m (recordAt + writeCountFrom)) × (r ≡ anyTo (unlockedAt s i m) k)
+Inv-loop s i m n r₀ k₀ r k = (k ≤ sentWrites m) × (r ≡ anyTo (unlockedAt s i m) k)
 
 abbrev μ-loop : tie.MeasureT-loop
-μ-loop s i m n r₀ k₀ r k = u16At m (recordAt + writeCountFrom) - k
+μ-loop s i m n r₀ k₀ r k = sentWrites m - k
 
-get-u16-requires : tie.Need-get-u16-requires Inv-loop μ-loop
-get-u16-requires c κs = search needs
-
-index-requires : tie.Need-index-requires Inv-loop μ-loop
-index-requires c κs = search needs
+sent-writes-requires : tie.Need-sent-writes-requires Inv-loop μ-loop
+sent-writes-requires c κs = search needs
 
 loop-holds : tie.Need-loop-holds Inv-loop μ-loop
 unfolding anyTo
@@ -49,7 +44,7 @@ shared-slice-read-result c = search needs
 
 returns : tie.Need-returns Inv-loop μ-loop
 unfolding unlockedB
-returns c = let e : c .before .before .loop .k ≡ u16At (c .before .before .before .before .before .before .before .args .m .now) (recordAt + writeCountFrom) = omega arith in cc
+returns c = let e : c .before .before .loop .k ≡ sentWrites (c .before .before .before .before .before .before .args .m .now) = omega arith in cc
 
 pub unlocked-spec : {M : Type 1} → statement M
 unlocked-spec =
@@ -57,8 +52,7 @@ unlocked-spec =
     (tie.spec
     Inv-loop
     μ-loop
-    get-u16-requires
-    index-requires
+    sent-writes-requires
     loop-holds
     unlocked-at-requires
     add-k

@@ -5,23 +5,26 @@ use borrow.Author.Needs.{needs}
 use Rattle.server_tests.proofs.unlocked_at.Statement.{statement}
 use Rattle.server_tests.proofs.unlocked_at.Tie as tie
 
-get-u16-requires : tie.Need-get-u16-requires
-get-u16-requires c κs = search needs
-
-index-requires : tie.Need-index-requires
-index-requires c κs = search needs
+record-at-requires : tie.Need-record-at-requires
+record-at-requires c κs = search needs
 
 add-byte : tie.Need-add-byte
 add-byte c = search needs
 
+sent-reads-requires : tie.Need-sent-reads-requires
+sent-reads-requires c κs = search needs
+
 add-byte-2 : tie.Need-add-byte-2
 add-byte-2 c = search needs
+
+add-byte-3 : tie.Need-add-byte-3
+add-byte-3 c = search needs
 
 byte-requires : tie.Need-byte-requires
 byte-requires c κs = search needs
 
-add-byte-3 : tie.Need-add-byte-3
-add-byte-3 c = omega (arith, c .byte .ensures .1)
+add-byte-4 : tie.Need-add-byte-4
+add-byte-4 c = omega (arith, c .byte .ensures .1)
 
 byte-requires-2 : tie.Need-byte-requires-2
 byte-requires-2 c κs = omega (arith, c .byte .ensures .1)
@@ -29,8 +32,8 @@ byte-requires-2 c κs = omega (arith, c .byte .ensures .1)
 add-result : tie.Need-add-result
 add-result c = search needs
 
-add-byte-4 : tie.Need-add-byte-4
-add-byte-4 c = search needs
+add-byte-5 : tie.Need-add-byte-5
+add-byte-5 c = search needs
 
 byte-requires-3 : tie.Need-byte-requires-3
 byte-requires-3 c κs = omega (arith, c .before .byte .ensures .1)
@@ -46,15 +49,16 @@ pub unlocked-at-spec : {M : Type 1} → statement M
 unlocked-at-spec =
     tie.close
     (tie.spec
-    get-u16-requires
-    index-requires
+    record-at-requires
     add-byte
+    sent-reads-requires
     add-byte-2
-    byte-requires
     add-byte-3
+    byte-requires
+    add-byte-4
     byte-requires-2
     add-result
-    add-byte-4
+    add-byte-5
     byte-requires-3
     add-result-2
     returns)

@@ -1,7 +1,7 @@
 -- `station_commit::put_commit` meets its contract. Each call is a run of stores, and `commit-filled` joins them.
-use borrow.Author.Needs.{needs}
 use native.Mathlib.Omega.{arith}
 use Rattle.station_commit.specs.Filled.{commit-filled, commit-parts, record-fits}
+use borrow.Author.Needs.{needs}
 use Rattle.station_commit.proofs.put_commit.Statement.{statement}
 use Rattle.station_commit.proofs.put_commit.Tie as tie
 
@@ -32,11 +32,17 @@ shared-slice-read-wide-2 c = search needs
 wide-requires-2 : tie.Need-wide-requires-2
 wide-requires-2 c κs = search needs
 
+mul-at : tie.Need-mul-at
+mul-at c = let front = commit-parts (c .before .before .before .before .before .before .before .before .before .before .before .before .before .before .before .before .before .args .s .now) _ (c .before .before .before .before .before .before .before .before .before .before .before .before .before .before .before .before .before .pre .1) in omega (arith, front, c .before .before .before .before .before .before .put-versions .ensures .1)
+
+add-at : tie.Need-add-at
+add-at c = let front = commit-parts (c .before .before .before .before .before .before .before .before .before .before .before .before .before .before .before .before .before .args .s .now) _ (c .before .before .before .before .before .before .before .before .before .before .before .before .before .before .before .before .before .pre .1) in omega (arith, front, c .before .before .before .before .before .before .put-versions .ensures .1)
+
 put-record-requires : tie.Need-put-record-requires
-put-record-requires c κs = let fits = record-fits _ _ (c .before .before .before .before .before .before .before .before .before .before .before .before .before .before .before .get-u32 .ensures) (c .before .before .before .wide .ensures .0) (c .before .wide2 .ensures .0) (c .before .before .before .before .before .before .before .before .before .before .before .before .before .before .before .before .before .before .pre .1) in (search needs, search needs, search needs, search needs, omega (arith, fits), search needs, search needs)
+put-record-requires c κs = let fits = record-fits _ _ (c .before .before .before .before .before .before .before .before .before .before .before .before .before .before .before .get-u32 .ensures) (c .before .before .before .wide .ensures .0) (c .before .wide2 .ensures .0) (c .before .before .before .before .before .before .before .put-versions .ensures .1) (c .before .before .before .before .before .before .before .before .before .before .before .before .before .before .before .before .before .before .pre .1) in (search needs, search needs, search needs, search needs, omega (arith, fits), search needs, search needs)
 
 add-result : tie.Need-add-result
-add-result c = search needs
+add-result c = let front = commit-parts (c .before .before .before .before .before .before .before .before .before .before .before .before .before .before .before .before .before .before .before .before .before .args .s .now) _ (c .before .before .before .before .before .before .before .before .before .before .before .before .before .before .before .before .before .before .before .before .before .pre .1) in omega (arith, front, c .before .before .before .before .before .before .before .before .before .before .put-versions .ensures .1)
 
 same-length : tie.Need-same-length
 same-length c = search needs
@@ -57,6 +63,8 @@ put-commit-spec =
     wide-requires
     shared-slice-read-wide-2
     wide-requires-2
+    mul-at
+    add-at
     put-record-requires
     add-result
     same-length

@@ -1,65 +1,60 @@
--- `station_commit::put_versions` meets its contract. The loop's invariant: the bytes are the definition's at the count of pages passed.
-use Prim.Native.Nat.{_≤_, _-_}
-use mathlib.Core.Path.{_≡_, ap, _∙_}
-use native.Mathlib.Numerals.{add-one}
+-- `station_commit::put_versions` meets its contract. The list has the addresses of the record's entries (`both-listed`).
 use native.Mathlib.Omega.{arith}
+use mathlib.Core.Path.{ap, _∙_}
+use mathlib.Core.List.{List}
+use Prim.Native.Nat.{ℕ}
+use lib.ListN.{length-take}
+use lib.Seq.{sets}
+use Rattle.message.specs.Commit.{versionsAt}
+use Rattle.station_state.specs.Layout.{readSetFrom, readValueFrom, writtenSetFrom, writtenValueFrom, number, station, kind}
+use Rattle.set_record.specs.Filled.{both-listed}
+use Rattle.station_commit.specs.Commit.{versionsFor}
+use Rattle.station_commit.specs.Filled.{listed-sent}
 use borrow.Author.Needs.{needs}
-use lib.ListN.{length}
-use Rattle.station_commit.specs.Stores.{versionsTo}
 use Rattle.station_commit.proofs.put_versions.Statement.{statement}
 use Rattle.station_commit.proofs.put_versions.Tie as tie
 
-abbrev Inv-loop : tie.InvT-loop
-Inv-loop c₀ s p₀ c p = (p ≤ 32) × (length c ≡ length c₀) × (c ≡ versionsTo c₀ s p)
+slice-aggregate-list-set : tie.Need-slice-aggregate-list-set
+slice-aggregate-list-set c = search needs
 
-abbrev μ-loop : tie.MeasureT-loop
-μ-loop c₀ s p₀ c p = 32 - p
+list-set-requires : tie.Need-list-set-requires
+list-set-requires c κs = search needs
 
-loop-holds : tie.Need-loop-holds Inv-loop μ-loop
-unfolding versionsTo
-loop-holds c = search needs
+slice-aggregate-list-set-2 : tie.Need-slice-aggregate-list-set-2
+slice-aggregate-list-set-2 c = search needs
 
-version-sent-requires : tie.Need-version-sent-requires Inv-loop μ-loop
-version-sent-requires c κs = search needs
+list-set-requires-2 : tie.Need-list-set-requires-2
+list-set-requires-2 c κs = search needs
 
-mul-put-u32 : tie.Need-mul-put-u32 Inv-loop μ-loop
-mul-put-u32 c = search needs
+sub-addresses : tie.Need-sub-addresses
+sub-addresses c = search needs
 
-add-put-u32 : tie.Need-add-put-u32 Inv-loop μ-loop
-add-put-u32 c = search needs
+part-addresses-start : tie.Need-part-addresses-start
+part-addresses-start c = search needs
 
-put-u32-requires : tie.Need-put-u32-requires Inv-loop μ-loop
-put-u32-requires c κs = search needs
+part-addresses-end : tie.Need-part-addresses-end
+part-addresses-end c = search needs
 
-add-p : tie.Need-add-p Inv-loop μ-loop
-add-p c = search needs
+put-each-requires : tie.Need-put-each-requires
+put-each-requires c κs = let n = listed-sent (c .before .before .before .before .before .before .before .before .before .before .before .args .s .now) _ _ (c .before .before .before .before .before .before .before .list-set .ensures .1) (c .before .before .before .before .list-set2 .ensures .1) in (search needs, simp length-take (omega (arith, n)))
 
-loop-less : tie.Need-loop-less Inv-loop μ-loop
-loop-less c = search needs
-
-loop-again : tie.Need-loop-again Inv-loop μ-loop
-unfolding versionsTo
-loop-again c = (search needs, search needs, rw add-one (cc))
-
-same-length : tie.Need-same-length Inv-loop μ-loop
+same-length : tie.Need-same-length
 same-length c = search needs
 
-returns : tie.Need-returns Inv-loop μ-loop
-returns c = c .before .loop .inv .2 ∙ ap (versionsTo _ _) (omega arith)
+returns : tie.Need-returns
+returns c = let s = c .before .before .before .before .before .before .before .before .before .before .before .before .before .before .args .s .now in let en = c .before .before .before .before .before .before .before .before .before .before .list-set .ensures .1 in let ek = c .before .before .before .before .before .before .before .list-set2 .ensures .1 in let all = both-listed s readSetFrom readValueFrom writtenSetFrom writtenValueFrom 0 (number s) (station s) (kind s) _ _ en ek _ (c .before .before .before .before .before .before .before .before .before .before .list-set .ensures .0) (c .before .before .before .before .before .before .before .list-set2 .ensures .0) (omega arith) in (c .before .before .put-each .ensures ∙ ap (λ (l : List ℕ). sets (c .before .before .before .before .before .before .before .before .before .before .before .before .before .before .args .c .now) versionsAt (versionsFor s l)) all, listed-sent s _ _ en ek)
 
 pub put-versions-spec : {M : Type 1} → statement M
 put-versions-spec =
     tie.close
     (tie.spec
-    Inv-loop
-    μ-loop
-    loop-holds
-    version-sent-requires
-    mul-put-u32
-    add-put-u32
-    put-u32-requires
-    add-p
-    loop-less
-    loop-again
+    slice-aggregate-list-set
+    list-set-requires
+    slice-aggregate-list-set-2
+    list-set-requires-2
+    sub-addresses
+    part-addresses-start
+    part-addresses-end
+    put-each-requires
     same-length
     returns)

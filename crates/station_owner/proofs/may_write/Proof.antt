@@ -22,15 +22,12 @@ returns : tie.Need-returns
 unfolding mayWriteB
 returns c = simp (eq-eqb _ _ (c .before .before .before .if1 .taken), sym (c .before .before .member .ensures), sym (c .before .get-u32 .ensures), sym (c .has-bit32 .ensures))
 
-get-u32-requires-2 : tie.Need-get-u32-requires-2
-get-u32-requires-2 c κs = search needs
-
-has-bit32-requires-2 : tie.Need-has-bit32-requires-2
-has-bit32-requires-2 c κs = search needs
+shown-requires : tie.Need-shown-requires
+shown-requires c κs = search needs
 
 returns-2 : tie.Need-returns-2
 unfolding mayWriteB
-returns-2 c = simp (ne-eqb _ _ (c .before .before .if1 .left), sym (c .before .get-u322 .ensures), sym (c .has-bit322 .ensures))
+returns-2 c = simp (ne-eqb _ _ (c .before .if1 .left)) (c .shown .ensures)
 
 pub may-write-spec : {M : Type 1} → statement M
 may-write-spec =
@@ -41,6 +38,5 @@ may-write-spec =
     get-u32-requires
     has-bit32-requires
     returns
-    get-u32-requires-2
-    has-bit32-requires-2
+    shown-requires
     returns-2)

@@ -7,17 +7,8 @@ use Rattle.station_pages.proofs.arrive.Tie as tie
 arrive-values-requires : tie.Need-arrive-values-requires
 arrive-values-requires c κs = search needs
 
-mul-put-u32 : tie.Need-mul-put-u32
-mul-put-u32 c = search needs
-
-add-put-u32 : tie.Need-add-put-u32
-add-put-u32 c = search needs
-
-get-u32-requires : tie.Need-get-u32-requires
-get-u32-requires c κs = search needs
-
-put-u32-requires : tie.Need-put-u32-requires
-put-u32-requires c κs = search needs
+arrive-versions-requires : tie.Need-arrive-versions-requires
+arrive-versions-requires c κs = search needs
 
 add-put-u8 : tie.Need-add-put-u8
 add-put-u8 c = search needs
@@ -43,10 +34,7 @@ arrive-spec =
     tie.close
     (tie.spec
     arrive-values-requires
-    mul-put-u32
-    add-put-u32
-    get-u32-requires
-    put-u32-requires
+    arrive-versions-requires
     add-put-u8
     shared-slice-read-put-u8
     put-u8-requires

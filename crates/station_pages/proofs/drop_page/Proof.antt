@@ -7,14 +7,8 @@ use Rattle.station_pages.proofs.drop_page.Tie as tie
 blank-requires : tie.Need-blank-requires
 blank-requires c κs = search needs
 
-mul-put-u32 : tie.Need-mul-put-u32
-mul-put-u32 c = search needs
-
-add-put-u32 : tie.Need-add-put-u32
-add-put-u32 c = search needs
-
-put-u32-requires : tie.Need-put-u32-requires
-put-u32-requires c κs = search needs
+unversion-requires : tie.Need-unversion-requires
+unversion-requires c κs = search needs
 
 add-put-u8 : tie.Need-add-put-u8
 add-put-u8 c = search needs
@@ -34,9 +28,7 @@ drop-page-spec =
     tie.close
     (tie.spec
     blank-requires
-    mul-put-u32
-    add-put-u32
-    put-u32-requires
+    unversion-requires
     add-put-u8
     put-u8-requires
     same-length

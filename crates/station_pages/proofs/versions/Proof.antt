@@ -19,8 +19,8 @@ loop-holds : tie.Need-loop-holds Inv-loop μ-loop
 unfolding versionsTo
 loop-holds c = search needs
 
-version-one-requires : tie.Need-version-one-requires Inv-loop μ-loop
-version-one-requires c κs = search needs
+version-page-requires : tie.Need-version-page-requires Inv-loop μ-loop
+version-page-requires c κs = search needs
 
 add-p : tie.Need-add-p Inv-loop μ-loop
 add-p c = search needs
@@ -46,7 +46,7 @@ versions-spec =
     Inv-loop
     μ-loop
     loop-holds
-    version-one-requires
+    version-page-requires
     add-p
     loop-less
     loop-again

@@ -1,8 +1,11 @@
--- `station_state::write_local` meets its contract.
-use Rattle.station_state.specs.Changes.{writeLocalB}
+-- `station_state::write_local` meets its contract. The calls are the definition by one law (`write-stores`).
+use Rattle.station_state.specs.Stores.{write-stores}
 use borrow.Author.Needs.{needs}
 use Rattle.station_state.proofs.write_local.Statement.{statement}
 use Rattle.station_state.proofs.write_local.Tie as tie
+
+first-use-requires : tie.Need-first-use-requires
+first-use-requires c κs = search needs
 
 add-to-requires : tie.Need-add-to-requires
 add-to-requires c κs = search needs
@@ -29,13 +32,13 @@ same-length : tie.Need-same-length
 same-length c = search needs
 
 returns : tie.Need-returns
-unfolding writeLocalB
-returns c = cc
+returns c = write-stores _ _ _ (c .before .before .before .before .before .before .before .before .before .before .before .before .before .before .first-use .ensures) (c .before .before .before .before .before .before .before .before .before .before .add-to .ensures) (c .before .before .before .before .before .before .put-u64 .ensures) (c .before .before .put-u642 .ensures)
 
 pub write-local-spec : {M : Type 1} → statement M
 write-local-spec =
     tie.close
     (tie.spec
+    first-use-requires
     add-to-requires
     mul-put-u64
     add-put-u64
