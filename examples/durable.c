@@ -1,6 +1,6 @@
 /*
  * A host that survives a power failure. What a call leaves is a function of the state lent and of the call: so an end need not
- * save its state at every call, 37 KB for the server, but only what it was called with. Each end keeps
+ * save its state at every call, 53 KB for the server, but only what it was called with. Each end keeps
  *
  *   a journal    the calls since the last snapshot, one entry each; an entry is synced before anything that the call left is sent
  *                or told. At start they are made again, and leave what they left

@@ -83,13 +83,14 @@ static void put_message(uint8_t *message, uint8_t kind, uint8_t page, uint8_t ob
     put_number(message + 4, 4, transaction);
 }
 
-/* Kinds 16 to 18: also the page's version and its eight values; no object is unavailable. */
-static void put_page(uint8_t *message, uint8_t kind, uint32_t transaction, uint32_t version, const uint64_t *values)
+/* Kinds 16 to 18: also values and versions of the page's eight objects; no object is unavailable. */
+static void put_page(uint8_t *message, uint8_t kind, uint32_t transaction, const uint64_t *values, const uint32_t *versions)
 {
     put_message(message, kind, PAGE, OBJECT, transaction);
-    put_number(message + 12, 4, version);
-    for (size_t i = 0; i < 8; i++)
+    for (size_t i = 0; i < 8; i++) {
         put_number(message + 48 + 8 * i, 8, values[i]);
+        put_number(message + 112 + 4 * i, 4, versions[i]);
+    }
 }
 
 /* Kind 21: also the commit number. */
@@ -124,8 +125,8 @@ static void expect_commit(const char *call, size_t length)
     uint8_t record[sizeof c12];
 
     stop_unless(server_check(lent.commit, length) == WAX_OK, call, "a commit that the server refuses");
-    stop_unless(length == WAX_COMMIT_HEAD + sizeof record, call, "a commit of another length");
-    memcpy(record, lent.commit + WAX_COMMIT_HEAD, sizeof record);
+    stop_unless(length == WAX_COMMIT_HEAD(1, 1) + sizeof record, call, "a commit of another length");
+    memcpy(record, lent.commit + WAX_COMMIT_HEAD(1, 1), sizeof record);
     put_number(record + 4, 4, 1);
     stop_unless(memcmp(record, c12, sizeof c12) == 0, call, "another record");
     printf("    to the server: a commit of %zu bytes, %zu of them its record\n", length, sizeof record);
@@ -144,6 +145,7 @@ static void print_state(void)
 int main(void)
 {
     static const uint64_t values[8] = { 0 };
+    static const uint32_t versions[8] = { 0 };
     static struct lent before;
     uint8_t message[WAX_MESSAGE_LENGTH];
     uint32_t transaction;
@@ -159,21 +161,21 @@ int main(void)
 
     before = lent;
     expect_refused("owner writes while the read is out", wax_station_write(ADDRESS, 1, LENT), WAX_WAITING, &before);
-    put_page(message, PAGE_SENT, transaction + 1, 0, values);
+    put_page(message, PAGE_SENT, transaction + 1, values, versions);
     expect_refused("a page of another transaction (16)", wax_station_step(message, sizeof message, LENT),
                    WAX_UNEXPECTED, &before);
 
-    put_page(message, PAGE_SENT, transaction, 0, values);
+    put_page(message, PAGE_SENT, transaction, values, versions);
     expect("the page arrives (16)", wax_station_step(message, sizeof message, LENT), WAX_VALUE, 0, 0, 0);
 
     /* A locking station writes under a lock, and has none: it asks, and the step that takes the lock writes. */
     expect("owner writes 1 to address 8", wax_station_write(ADDRESS, 1, LENT), WAX_WAITS, 0, 1, 0);
     expect_request("owner writes 1 to address 8", WRITE_REQUEST, transaction);
-    put_page(message, PAGE_LOCKED_WHOLE, transaction, 0, values);
+    put_page(message, PAGE_LOCKED_WHOLE, transaction, values, versions);
     expect("the page arrives, locked whole (18)", wax_station_step(message, sizeof message, LENT), WAX_WRITTEN, 0, 0, 0);
     expect("owner reads address 8 again", wax_station_read(ADDRESS, LENT), WAX_VALUE, 1, 0, 0);
 
-    expect("owner commits", wax_station_commit(LENT), WAX_WAITS, 0, 0, WAX_COMMIT_HEAD + WAX_RECORD_LENGTH(1, 1));
+    expect("owner commits", wax_station_commit(LENT), WAX_WAITS, 0, 0, WAX_COMMIT_HEAD(1, 1) + WAX_RECORD_LENGTH(1, 1));
     expect_commit("owner commits", (size_t)lent.told[WAX_TOLD_COMMIT]);
     put_committed(message, transaction, 1);
     expect("the commit is installed (21)", wax_station_step(message, sizeof message, LENT), WAX_COMMITTED, 1, 0, 0);

@@ -45,9 +45,9 @@ extern "C" {
 #endif
 
 /* Of this header; the library has no number of its own. waxwingrack.pc has the same. */
-#define WAX_VERSION       "1.10.0"
+#define WAX_VERSION       "1.11.0"
 #define WAX_VERSION_MAJOR 1
-#define WAX_VERSION_MINOR 10
+#define WAX_VERSION_MINOR 11
 #define WAX_VERSION_PATCH 0
 
 /* Stack that the deepest call takes, its own frame and those below it, in bytes, and the deepest call of a station or the server;
@@ -367,7 +367,8 @@ uint32_t wax_counts_entry(const uint8_t *file, size_t length, size_t at, uint32_
  * STATIONS
  *
  * A station's state is WAX_STATION_LENGTH bytes that the host keeps and lends to every call (docs/STATE.md has their meaning).
- * Bytes that no call can leave and that a rule would trip over are no state: WAX_BUFFER. What is taken stays so.
+ * Bytes that no call can leave and that a rule would trip over are no state: WAX_BUFFER. What is taken stays so. A state of a
+ * version before 1.11.0 has another length, and is none; a message of then, of 112 bytes, is WAX_LENGTH.
  * Each call takes two more buffers and the place for what it tells:
  *
  *   messages  at least WAX_STATION_MESSAGES bytes: messages of WAX_MESSAGE_LENGTH bytes for the server, one behind the other
@@ -396,11 +397,10 @@ uint32_t wax_counts_entry(const uint8_t *file, size_t length, size_t at, uint32_
 #define WAX_LOCKING_ADDS     40
 #define WAX_VALIDATING_ADDS  8
 
-#define WAX_MESSAGE_LENGTH   112
-#define WAX_COMMIT_HEAD      240  /* message and 32 versions; the record comes behind */
-#define WAX_COMMIT_LENGTH    1120 /* of the longest: WAX_COMMIT_HEAD + WAX_LONGEST_SENT */
-#define WAX_STATION_LENGTH   6713
-#define WAX_STATION_MESSAGES 896  /* 8 messages */
+#define WAX_MESSAGE_LENGTH   144
+#define WAX_COMMIT_LENGTH    1408 /* of the longest: WAX_COMMIT_LENGTH_OF(WAX_LIMIT, WAX_LIMIT) */
+#define WAX_STATION_LENGTH   8633
+#define WAX_STATION_MESSAGES 1152 /* 8 messages */
 
 /* Where every message has its kind and the station on whose line it goes. The other bytes are the library's own business. */
 #define WAX_AT_KIND    0
@@ -425,22 +425,15 @@ uint32_t wax_counts_entry(const uint8_t *file, size_t length, size_t at, uint32_
 #define WAX_DOWN_INVALIDATE   23
 
 /*
- * Length in bytes of a commit with so many reads and writes in its record; and of a message to the server by its first bytes, for
- * a line that carries a stream: all but a commit have WAX_MESSAGE_LENGTH, and a commit's first WAX_UP_FIRST bytes tell its length.
+ * Where the record of a commit starts that has so many reads and writes, behind the message and a version for each; and the length
+ * of such a commit. Every other message has WAX_MESSAGE_LENGTH.
  *
- *   read_all(line, message, WAX_MESSAGE_LENGTH);
- *   if (message[WAX_AT_KIND] == WAX_UP_COMMIT)
- *       read_all(line, message + WAX_MESSAGE_LENGTH, WAX_UP_FIRST - WAX_MESSAGE_LENGTH);
- *   ... WAX_UP_LENGTH_OF(message) bytes in all; a length above WAX_COMMIT_LENGTH is none that a station sends
+ * The bytes of a commit do not tell its length, for its record is found by it. Carry the length beside the message, as
+ * told[WAX_TOLD_COMMIT] gives it: a line that carries a stream puts it in front of each commit. A length that is not the commit's
+ * is WAX_LENGTH at the server; one above WAX_COMMIT_LENGTH is none that a station sends.
  */
-#define WAX_VERSIONS_LENGTH (WAX_COMMIT_HEAD - WAX_MESSAGE_LENGTH)
-#define WAX_COMMIT_LENGTH_OF(reads, writes) \
-    ((size_t)WAX_MESSAGE_LENGTH + (size_t)WAX_VERSIONS_LENGTH + WAX_RECORD_LENGTH(reads, writes))
-#define WAX_UP_FIRST (WAX_MESSAGE_LENGTH + WAX_VERSIONS_LENGTH + 4)
-#define WAX_UP_LENGTH_OF(message) \
-    ((message)[WAX_AT_KIND] != WAX_UP_COMMIT ? (size_t)WAX_MESSAGE_LENGTH \
-     : (size_t)WAX_MESSAGE_LENGTH + (size_t)WAX_VERSIONS_LENGTH \
-       + WAX_RECORD_LENGTH_OF((message) + WAX_MESSAGE_LENGTH + WAX_VERSIONS_LENGTH))
+#define WAX_COMMIT_HEAD(reads, writes) ((size_t)WAX_MESSAGE_LENGTH + 4 * ((size_t)(reads) + (size_t)(writes)))
+#define WAX_COMMIT_LENGTH_OF(reads, writes) (WAX_COMMIT_HEAD(reads, writes) + WAX_RECORD_LENGTH(reads, writes))
 
 #define WAX_TOLD          4
 #define WAX_TOLD_ANSWER   0
@@ -618,8 +611,8 @@ uint32_t wax_up_check(const uint8_t *kinds, size_t kinds_length, const uint8_t *
  *
  * Bytes of messages and records behind what is given stay as they are. Any answer but WAX_OK changes nothing at all.
  */
-#define WAX_SERVER_LENGTH   37080
-#define WAX_SERVER_MESSAGES 14336 /* 128 messages */
+#define WAX_SERVER_LENGTH   53336
+#define WAX_SERVER_MESSAGES 18432 /* 128 messages */
 #define WAX_SERVER_RECORDS  7040  /* 8 records of WAX_LONGEST_SENT */
 
 #define WAX_SERVED          2
@@ -638,7 +631,7 @@ uint32_t wax_up_check(const uint8_t *kinds, size_t kinds_length, const uint8_t *
 uint32_t wax_server_fresh(const uint8_t *kinds, size_t kinds_length, uint8_t *state, size_t length);
 
 /*
- * The server's step on one message from a station; a commit is lent whole, its versions and record behind its 112 bytes.
+ * The server's step on one message from a station; a commit is lent whole, its versions and record behind its 144 bytes.
  *
  *   WAX_BUFFER      the state is not one, or messages, records or served is too short
  *   WAX_LENGTH, WAX_KIND, WAX_RANGE, WAX_RECORD

@@ -2,6 +2,7 @@
 
 use second::line::counts::Counts;
 use second::line::hot::{self, Hot};
+use second::line::neighbours;
 use second::line::runs;
 use second::line::shorten::shorten;
 
@@ -36,7 +37,20 @@ fn beaten_in_a_row() {
         forgotten.join(hot::forgotten(seed, 20_000));
         kept.join(hot::kept(seed, 20_000));
     }
-    assert!(forgotten.panel.beaten > 100 && kept.panel.beaten > 100);
-    assert!(kept.panel.most_in_a_row < forgotten.panel.most_in_a_row);
-    assert!(kept.heads.most_in_a_row < forgotten.heads.most_in_a_row);
+    assert!(forgotten.panel().beaten > 100 && kept.panel().beaten > 100);
+    assert!(kept.panel().most_in_a_row < forgotten.panel().most_in_a_row);
+    assert!(kept.heads().most_in_a_row < forgotten.heads().most_in_a_row);
+}
+
+/// Document 02, wish 6: heads on neighbouring objects abort each other where versions are those of pages, and never where they
+/// are those of objects.
+#[test]
+fn neighbours_abort_nobody() {
+    for heads in [2, 8] {
+        let by_page = neighbours::by_page(heads, 1, 20_000);
+        let by_object = neighbours::by_object(heads, 1, 20_000);
+        assert!(by_page.aborts > by_page.commits / 2);
+        assert_eq!(by_object.aborts, 0);
+        assert!(by_object.commits > by_page.commits);
+    }
 }

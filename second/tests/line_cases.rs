@@ -183,13 +183,15 @@ fn c7_invalidated() {
     line.call("station 1", "value 0", &[]);
     let record = record(1, 0, 0).reads(&[(8, 0)]).writes(&[(8, 5)]);
     line.call("commit 0", "waits", &[commit(PAGE_1, &[], &record)]);
-    let messages = [committed(0, 1, 1), invalidate(1, PAGE_1)];
+    let messages = [committed(0, 1, 1), invalidate(1, &[(1, 1)])];
     line.archives("server 0", "none", &messages, &[record]);
     line.call("station 1", "aborted 2", &[]);
     line.replies("read 1 8", "refused 8");
     line.call("begin 1", "begun 2", &[]);
     line.call("read 1 8", "waits", &[read(1, 1, 0, 2)]);
-    let fetched = page(16, 1, 1, 0, 2).version(1).values(&[(0, 5)]);
+    let fetched = page(16, 1, 1, 0, 2)
+        .page_versions(&[(0, 1)])
+        .values(&[(0, 5)]);
     line.call("server 1", "none", &[fetched]);
     line.call("station 1", "value 5", &[]);
 }
@@ -242,14 +244,20 @@ fn c8_in_use_aborts() {
     line.call("station 1", "committed 1", &[]);
 }
 
-/// Versions are those of pages: 0's commit makes 1's stale.
+/// Versions are those of objects: 0's commit of 8 leaves 1's of 9 as it was.
 #[test]
 fn c8_in_use_commits() {
-    let (mut line, _) = c8_in_use();
+    let (mut line, waiting) = c8_in_use();
     let first = record(1, 0, 0).reads(&[(8, 0), (9, 0)]).writes(&[(8, 5)]);
     line.call("commit 0", "waits", &[commit(PAGE_1, &[], &first)]);
-    let messages = [committed(0, 1, 1), invalidate(1, PAGE_1), aborted(1, 1, 2)];
+    let messages = [committed(0, 1, 1), invalidate(1, &[(1, 1)])];
     line.archives("server 0", "none", &messages, &[first]);
+    line.call("station 0", "committed 1", &[done(0, 1, 1, PAGE_1)]);
+    let second = Record {
+        commit: 2,
+        ..waiting
+    };
+    line.archives("server 0", "none", &[committed(1, 1, 2)], &[second]);
 }
 
 /// 0 has written 9: cause 3 once its 8 says so.
@@ -280,4 +288,155 @@ fn c9_de_escalation() {
     line.call("write 0 8 6", "written", &[]);
     line.call("write 0 10 6", "waits", &[write(0, 1, 2, 1)]);
     line.call("server 0", "none", &[callback(2, 0, 1, &[(1, 4)])]);
+}
+
+/// Document 02, wish 6: stations 1 and 3 are validating heads that count on objects of page 1.
+const HEADS: &str = "01010000";
+
+/// Station `head` has read the object as 0 and counts 1 there; its record.
+fn counts(line: &mut Line, head: u8, object: u8) -> Record {
+    let address = 8 + object;
+    line.call(&format!("begin {head}"), "begun 1", &[]);
+    let request = read(head, 1, object, 1);
+    line.call(&format!("read {head} {address}"), "waits", &[request]);
+    let fetched = page(16, head, 1, object, 1);
+    line.call(&format!("server {head}"), "none", &[fetched]);
+    line.call(&format!("station {head}"), "value 0", &[]);
+    line.call(&format!("write {head} {address} 1"), "written", &[]);
+    record(0, head, 1)
+        .reads(&[(address, 0)])
+        .writes(&[(address, 1)])
+}
+
+fn commits(line: &mut Line, head: u8, record: &Record) {
+    let message = commit(PAGE_1, &[], record);
+    line.call(&format!("commit {head}"), "waits", &[message]);
+}
+
+/// 1 counts on 8 and 3 on 9.
+fn neighbours() -> Line {
+    let mut line = Line::fresh(HEADS);
+    let first = counts(&mut line, 1, 0);
+    let second = counts(&mut line, 3, 1);
+    commits(&mut line, 1, &first);
+    let messages = [committed(1, 1, 1), invalidate(3, &[(1, 1)])];
+    let archived = Record { commit: 1, ..first };
+    line.archives("server 1", "none", &messages, &[archived]);
+    line.call("station 3", "none", &[]);
+    commits(&mut line, 3, &second);
+    let messages = [committed(3, 1, 2), invalidate(1, &[(1, 2)])];
+    let archived = Record {
+        commit: 2,
+        ..second
+    };
+    line.archives("server 3", "none", &messages, &[archived]);
+    line.call("station 1", "committed 1", &[]);
+    line.call("station 3", "committed 2", &[]);
+    line.call("station 1", "none", &[]);
+    line
+}
+
+/// "It writes locally only on available objects."
+#[test]
+fn neighbours_commit() {
+    let mut line = neighbours();
+    line.call("begin 3", "begun 2", &[]);
+    line.call("write 3 9 2", "written", &[]);
+    line.call("write 3 8 2", "waits", &[read(3, 1, 0, 2)]);
+}
+
+/// A page that arrives over objects already read: each entry carries its own object's version.
+#[test]
+fn arrives_over_a_read() {
+    let mut line = neighbours();
+    line.call("begin 1", "begun 2", &[]);
+    line.call("read 1 8", "value 1", &[]);
+    line.call("read 1 9", "waits", &[read(1, 1, 1, 2)]);
+    let fetched = page(16, 1, 1, 1, 2)
+        .page_versions(&[(0, 1), (1, 2)])
+        .values(&[(0, 1), (1, 1)]);
+    line.call("server 1", "none", &[fetched]);
+    line.call("station 1", "value 1", &[]);
+    line.call("write 1 8 2", "written", &[]);
+    let both = Record {
+        transaction: 2,
+        ..record(0, 1, 1).reads(&[(8, 1), (9, 1)]).writes(&[(8, 2)])
+    };
+    let versions = [(0, 1), (1, 2), (2, 1)];
+    line.call("commit 1", "waits", &[commit(PAGE_1, &versions, &both)]);
+    let messages = [committed(1, 2, 3), invalidate(3, &[(1, 1)])];
+    let archived = Record { commit: 3, ..both };
+    line.archives("server 1", "none", &messages, &[archived]);
+}
+
+/// "Cause 2 is given for a used object with another version."
+#[test]
+fn same_object() {
+    let mut line = Line::fresh(HEADS);
+    let first = counts(&mut line, 1, 0);
+    let second = counts(&mut line, 3, 0);
+    commits(&mut line, 1, &first);
+    commits(&mut line, 3, &second);
+    let messages = [committed(1, 1, 1), invalidate(3, &[(1, 1)])];
+    let archived = Record { commit: 1, ..first };
+    line.archives("server 1", "none", &messages, &[archived]);
+    line.call("server 3", "none", &[aborted(3, 1, 2)]);
+    line.call("station 3", "none", &[]);
+    line.call("station 3", "aborted 2", &[]);
+}
+
+/// A 23 that names a used and an unused object.
+#[test]
+fn used_and_unused() {
+    let mut line = Line::fresh(HEADS);
+    let first = counts(&mut line, 1, 0).writes(&[(8, 1), (9, 1)]);
+    line.call("write 1 9 1", "written", &[]);
+    counts(&mut line, 3, 1);
+    commits(&mut line, 1, &first);
+    let messages = [committed(1, 1, 1), invalidate(3, &[(1, 3)])];
+    let archived = Record { commit: 1, ..first };
+    line.archives("server 1", "none", &messages, &[archived]);
+    line.call("station 3", "aborted 2", &[]);
+}
+
+/// "The station marks those objects unavailable, and its transaction, if no commit is out, ends if it used one."
+#[test]
+fn marked_with_a_commit_out() {
+    let mut line = Line::fresh(HEADS);
+    let first = counts(&mut line, 1, 0);
+    let second = counts(&mut line, 3, 1);
+    commits(&mut line, 1, &first);
+    let messages = [committed(1, 1, 1), invalidate(3, &[(1, 1)])];
+    let archived = Record { commit: 1, ..first };
+    line.archives("server 1", "none", &messages, &[archived]);
+    commits(&mut line, 3, &second);
+    line.call("station 3", "none", &[]);
+    let messages = [committed(3, 1, 2), invalidate(1, &[(1, 2)])];
+    let archived = Record {
+        commit: 2,
+        ..second
+    };
+    line.archives("server 3", "none", &messages, &[archived]);
+    line.call("station 3", "committed 2", &[]);
+    line.call("begin 3", "begun 2", &[]);
+    line.call("read 3 9", "value 1", &[]);
+    line.call("read 3 8", "waits", &[read(3, 1, 0, 2)]);
+}
+
+/// Used is what was written too, also unread.
+#[test]
+fn written_unread() {
+    let mut line = Line::fresh(HEADS);
+    line.call("begin 1", "begun 1", &[]);
+    line.call("write 1 8 7", "waits", &[read(1, 1, 0, 1)]);
+    line.call("server 1", "none", &[page(16, 1, 1, 0, 1)]);
+    line.call("station 1", "written", &[]);
+    let unread = record(0, 1, 1).writes(&[(8, 7)]);
+    line.call("commit 1", "waits", &[commit(PAGE_1, &[], &unread)]);
+    let first = counts(&mut line, 3, 0);
+    commits(&mut line, 3, &first);
+    let messages = [committed(3, 1, 1), invalidate(1, &[(1, 1)])];
+    let archived = Record { commit: 1, ..first };
+    line.archives("server 3", "none", &messages, &[archived]);
+    line.call("server 1", "none", &[aborted(1, 1, 2)]);
 }

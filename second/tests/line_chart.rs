@@ -122,13 +122,13 @@ commit 1
 server 1
 ");
     for label in [
-        "16 page 1 (t1), version 0",
+        "16 page 1 (t1), versions 0",
         "19 de-escalate page 1 (t1)",
         "8 written on page 1 (t1): {8}",
         "16 page 1 (t1), unavailable {8}",
         "4 abort (t1)",
         "5 purge page 1",
-        "23 invalidate page 1",
+        "23 invalidate {8}",
         "3 commit (t2)",
         "21 committed (t2), number 2",
     ] {
@@ -143,7 +143,7 @@ server 1
 
 #[test]
 fn raw_messages() {
-    let purge = format!("050201{}", "00".repeat(109));
+    let purge = format!("050201{}", "00".repeat(141));
     let svg = svg(&format!(
         "fresh 00000000\nbegin 2\nserverraw {purge}\nserverraw 05\nstationraw 2 {purge}\n"
     ));

@@ -10,8 +10,8 @@ fn samples() -> Vec<(Message, Vec<usize>)> {
     let page_places: Vec<usize> = [1, 2, 3]
         .into_iter()
         .chain(4..8)
-        .chain(12..17)
-        .chain(48..112)
+        .chain(16..17)
+        .chain(48..144)
         .collect();
     let on_object: Vec<usize> = (1..8).collect();
     let transaction: Vec<usize> = [1].into_iter().chain(4..8).collect();
@@ -34,7 +34,7 @@ fn samples() -> Vec<(Message, Vec<usize>)> {
         (callback(2, 1, 1, &[]), with(&second, 16..48)),
         (committed(2, 1, 1), with(&transaction, 12..16)),
         (aborted(2, 1, 1), with(&transaction, 3..4)),
-        (invalidate(2, 1), with(&[1], 8..12)),
+        (invalidate(2, &[]), with(&[1], 16..48)),
     ]
 }
 
@@ -65,7 +65,7 @@ fn number(command: &str) -> u32 {
 #[test]
 fn in_range_unless_an_unnamed_byte_is_set() {
     for (message, named) in samples() {
-        for at in 1..112 {
+        for at in 1..144 {
             let number = number(&command(&message, &with_byte(&message, at, 1)));
             let expected = if named.contains(&at) { [0, 6] } else { [4, 4] };
             assert!(
@@ -128,7 +128,9 @@ fn lengths_and_kinds() {
     for (message, _) in samples() {
         let hex = message.hex();
         assert_eq!(number(&command(&message, &hex[2..])), 2);
-        assert_eq!(number(&command(&message, &hex[..222])), 2);
+        assert_eq!(number(&command(&message, &hex[..286])), 2);
+        // 112 bytes up to version 1.10.0
+        assert_eq!(number(&command(&message, &hex[..224])), 2);
         assert_eq!(number(&command(&message, &format!("{hex}00"))), 2);
         let other_end = match message.kind {
             1..=8 => format!("stationraw 2 {hex}"),
@@ -164,7 +166,10 @@ fn commits() {
     assert_eq!(number(&format!("stationraw 2 {hex}")), 3);
     assert_eq!(number(&format!("serverraw {}", &hex[..hex.len() - 2])), 2);
     assert_eq!(number(&format!("serverraw {hex}00")), 2);
-    assert_eq!(number(&format!("serverraw {}", &hex[..510])), 2);
+    assert_eq!(number(&format!("serverraw {}", &hex[..318])), 2);
+    // a version too few, with the record as it is
+    let cut = format!("{}{}", &hex[..288], &hex[296..]);
+    assert_eq!(number(&format!("serverraw {cut}")), 2);
     // 4 before 5
     let both = Message {
         station: 8,
@@ -172,25 +177,25 @@ fn commits() {
         ..good.clone()
     };
     assert_eq!(commit_number(&both), 4);
-    for at in [2, 3, 12, 15, 16, 17, 47, 48, 111] {
+    for at in [2, 3, 12, 15, 16, 17, 47, 48, 111, 112, 143] {
         assert_eq!(number(&format!("serverraw {}", with_byte(&good, at, 1))), 4);
     }
     // versions, then the record's header: number, transaction, station, kind, zero bytes, addresses
     for (at, byte) in [
-        (112, 1),
-        (116, 1),
-        (239, 1),
-        (244, 1),
-        (248, 2),
-        (252, 3),
-        (252, 8),
-        (253, 1),
-        (253, 2),
-        (254, 1),
-        (255, 1),
-        (256, 16),
-        (257, 8),
-        (257, 24),
+        (144, 1),
+        (148, 1),
+        (151, 1),
+        (156, 1),
+        (160, 2),
+        (164, 3),
+        (164, 8),
+        (165, 1),
+        (165, 2),
+        (166, 1),
+        (167, 1),
+        (168, 16),
+        (169, 8),
+        (169, 24),
     ] {
         let number = number(&format!("serverraw {}", with_byte(&good, at, byte)));
         assert_eq!(number, 5, "{at} {byte}");
@@ -204,7 +209,7 @@ fn commits() {
     }
     // values are not compared
     assert_eq!(
-        number(&format!("serverraw {}", with_byte(&good, 258, 9))),
+        number(&format!("serverraw {}", with_byte(&good, 170, 9))),
         0
     );
 }
@@ -213,7 +218,6 @@ fn commits() {
 fn validating_versions() {
     let mut line = Line::fresh("01000000");
     let reads = record(0, 1, 1).reads(&[(8, 0)]);
-    line.server_refuses(&commit(2, &[(2, 1)], &reads), 5);
     line.server_refuses(
         &commit(
             2,
@@ -225,7 +229,7 @@ fn validating_versions() {
         ),
         5,
     );
-    line.server_takes(&commit(2, &[(1, 1)], &reads), &[aborted(1, 1, 2)]);
+    line.server_takes(&commit(2, &[(0, 1)], &reads), &[aborted(1, 1, 2)]);
 }
 
 /// Document 02, wish 1: "The server gives number 5 to n or m above 48", so to C10's 256 and 257 inside a commit too.
@@ -234,7 +238,7 @@ fn longest_commit() {
     let first = |n: u16| (0..n).map(|address| (address as u8, 0)).collect::<Vec<_>>();
     let (most, more) = (first(48), first(49));
     let longest = commit(0x3F, &[], &record(0, 2, 0).reads(&most).writes(&most));
-    assert_eq!(longest.hex().len(), 2 * 1_120);
+    assert_eq!(longest.hex().len(), 2 * 1_408);
     // number 6, behind 5: a locking station writes what it has not locked
     assert_eq!(commit_number(&longest), 6);
     let reads = commit(0x3F, &[], &record(0, 2, 0).reads(&most));

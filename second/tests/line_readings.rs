@@ -69,7 +69,7 @@ fn unexpected_at_the_server() {
 #[test]
 fn unexpected_at_a_station() {
     let mut line = Line::fresh(MIXED);
-    line.station_refuses(&invalidate(0, 1), 6);
+    line.station_refuses(&invalidate(0, &[(0, 1)]), 6);
     line.station_refuses(&page(17, 1, 1, 0, 1), 6);
     line.station_refuses(&de_escalate(1, 1, 1), 6);
     line.station_refuses(&callback(1, 0, 1, &[]), 6);
@@ -191,11 +191,10 @@ fn arriving_page() {
     line.run("begin 0; write 0 8 5; server 0; station 0; read 0 9");
     line.station_takes(&callback(0, 2, 1, &[(1, 4)]), "none", &[done(0, 2, 1, 0)]);
     line.call("read 0 10", "waits", &[read(0, 1, 2, 1)]);
-    let arriving =
-        page(16, 0, 1, 2, 1)
-            .version(3)
-            .unavailable(1)
-            .values(&[(0, 70), (1, 71), (2, 72)]);
+    let arriving = page(16, 0, 1, 2, 1)
+        .page_versions(&[(0, 3), (1, 3), (2, 3)])
+        .unavailable(1)
+        .values(&[(0, 70), (1, 71), (2, 72)]);
     line.station_takes(&arriving, "value 72", &[]);
     line.call("read 0 8", "value 5", &[]);
     line.call("read 0 9", "value 0", &[]);
@@ -218,19 +217,20 @@ fn invalidated_with_a_commit_out() {
     line.replies("purge 1 1", "refused 10");
     line.call("server 1", "none", &[aborted(1, 1, 2)]);
     line.call("station 1", "aborted 2", &[]);
-    line.replies("purge 1 1", "refused 10");
+    // marked, not dropped: the page is still cached
+    line.call("purge 1 1", "purged", &[purge(1, 1)]);
 }
 
-/// Reading 21: the page of a waiting request is not used.
+/// Reading 21: the object of a waiting request is not used; nor is a neighbour of one that is.
 #[test]
 fn invalidated_while_requested() {
     let mut line = Line::fresh(VALIDATING);
     line.run("begin 1; read 1 8");
-    line.station_takes(&invalidate(1, 2), "none", &[]);
+    line.station_takes(&invalidate(1, &[(1, 1)]), "none", &[]);
     line.run("server 1");
     line.call("station 1", "value 0", &[]);
-    line.station_takes(&invalidate(1, 4), "none", &[]);
-    line.station_takes(&invalidate(1, 2), "aborted 2", &[]);
+    line.station_takes(&invalidate(1, &[(1, 254), (2, 255)]), "none", &[]);
+    line.station_takes(&invalidate(1, &[(1, 1)]), "aborted 2", &[]);
 }
 
 /// Reading 22: versions after a commit, and in the next commit.
@@ -249,7 +249,7 @@ fn versions() {
         transaction: 2,
         ..record(2, 1, 1).reads(&[(8, 5), (16, 0)])
     };
-    line.call("commit 1", "waits", &[commit(6, &[(1, 1)], &second)]);
+    line.call("commit 1", "waits", &[commit(6, &[(0, 1)], &second)]);
     line.archives("server 1", "none", &[committed(1, 2, 2)], &[second]);
 }
 
@@ -335,7 +335,11 @@ fn waiting_commit_goes_stale() {
     line.run("begin 0; write 0 8 5; server 0; station 3; server 3; station 0");
     line.run("commit 1; server 1; commit 0");
     let installed = record(1, 0, 0).writes(&[(8, 5)]);
-    let messages = [committed(0, 1, 1), invalidate(1, 2), aborted(1, 1, 2)];
+    let messages = [
+        committed(0, 1, 1),
+        invalidate(1, &[(1, 1)]),
+        aborted(1, 1, 2),
+    ];
     line.archives("server 0", "none", &messages, &[installed]);
 }
 
@@ -491,22 +495,30 @@ fn requested_object_is_available() {
     line.call("server 0", "none", &messages);
 }
 
-/// Reading 35: 23 unlists the written pages.
+/// "A listed copy remains listed after 23 unless purged."
 #[test]
-fn invalidated_once() {
+fn invalidated_again() {
     let mut line = Line::fresh(MIXED);
     line.run("begin 1; read 1 8; server 1; station 1");
     line.run("begin 0; write 0 8 5; server 0; station 0; write 0 16 5; server 0; station 0");
     let first = record(1, 0, 0).writes(&[(8, 5), (16, 5)]);
     line.run("commit 0");
-    let messages = [committed(0, 1, 1), invalidate(1, 6)];
+    let messages = [committed(0, 1, 1), invalidate(1, &[(1, 1), (2, 1)])];
     line.archives("server 0", "none", &messages, &[first]);
     line.run("station 0; begin 0; write 0 8 6; server 0; station 0; commit 0");
     let second = Record {
         transaction: 2,
         ..record(2, 0, 0).writes(&[(8, 6)])
     };
-    line.archives("server 0", "none", &[committed(0, 2, 2)], &[second]);
+    let messages = [committed(0, 2, 2), invalidate(1, &[(1, 1)])];
+    line.archives("server 0", "none", &messages, &[second]);
+    line.run("station 1; station 1; purge 1 1; server 1");
+    line.run("station 0; begin 0; write 0 8 7; server 0; station 0; commit 0");
+    let third = Record {
+        transaction: 3,
+        ..record(3, 0, 0).writes(&[(8, 7)])
+    };
+    line.archives("server 0", "none", &[committed(0, 3, 3)], &[third]);
 }
 
 /// "send 19, once for each 18, pages rising": one step asks for all 32 pages.

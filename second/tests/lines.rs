@@ -48,8 +48,8 @@ impl Compiled {
 }
 
 /// Page 1, object 0, transaction 1 of station 0.
-fn request(kind: u8) -> [u8; 112] {
-    let mut message = [0; 112];
+fn request(kind: u8) -> [u8; 144] {
+    let mut message = [0; 144];
     message[..5].copy_from_slice(&[kind, 0, 1, 0, 1]);
     message
 }
@@ -59,8 +59,8 @@ fn c1_and_c2() {
     let mut server = Compiled::fresh(&[0; 8]);
     assert_eq!(server.serves(&request(1)), [1, 0]);
     assert_eq!(server.messages[..5], [16, 0, 1, 0, 1]);
-    assert_eq!(server.messages[5..112], [0; 107]);
-    assert_eq!(server.messages[112..], [0xFF; MESSAGES - 112]);
+    assert_eq!(server.messages[5..144], [0; 139]);
+    assert_eq!(server.messages[144..], [0xFF; MESSAGES - 144]);
     assert_eq!(server.records, [0xFF; RECORDS]);
     assert_eq!(Field::Listed.word(&server.state, 0), 0b10);
     assert_eq!(server.serves(&request(2)), [1, 0]);
@@ -68,7 +68,7 @@ fn c1_and_c2() {
     assert_eq!(Field::Whole.byte_of(&server.state, 1), 1);
     // a purge of a locked page, a kind of the other way, a message cut
     let state = server.state.clone();
-    let mut purge = [0; 112];
+    let mut purge = [0; 144];
     purge[..3].copy_from_slice(&[5, 0, 1]);
     assert_eq!(server.number(&purge), 6);
     assert_eq!(server.number(&request(16)), 3);
@@ -82,9 +82,9 @@ fn c1_and_c2() {
 #[test]
 fn a_record() {
     let mut server = Compiled::fresh(&[0; 8]);
-    let mut commit = vec![0; 256];
+    let mut commit = vec![0; 160];
     commit[..5].copy_from_slice(&[3, 0, 0, 0, 1]);
-    commit[240 + 8] = 1;
+    commit[144 + 8] = 1;
     assert_eq!(server.serves(&commit), [1, 16]);
     assert_eq!(
         server.messages[..16],
@@ -169,7 +169,7 @@ fn a_request_outside_its_set() {
     for (field, at, byte) in fields {
         server.state[field.start() + at] = byte;
     }
-    let mut purge = [0; 112];
+    let mut purge = [0; 144];
     purge[..3].copy_from_slice(&[5, 2, 31]);
     assert_eq!(server.number(&purge), 1);
     server.state[Field::WrittenSet.start() + 2] = 0;

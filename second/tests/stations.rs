@@ -44,8 +44,8 @@ impl Compiled {
 }
 
 /// A page message for address 8, transaction 1, all values 0.
-fn page(kind: u8) -> [u8; 112] {
-    let mut message = [0; 112];
+fn page(kind: u8) -> [u8; 144] {
+    let mut message = [0; 144];
     message[..5].copy_from_slice(&[kind, 0, 1, 0, 1]);
     message
 }
@@ -58,8 +58,8 @@ fn c1_and_c2() {
     assert_eq!(station.number(proved::begin), 9);
     assert_eq!(station.tells(|lent| proved::read(8, lent)), [3, 0, 1, 0]);
     assert_eq!(station.messages[..5], [1, 0, 1, 0, 1]);
-    assert_eq!(station.messages[5..112], [0; 107]);
-    assert_eq!(station.messages[112..], [0xFF; MESSAGES - 112]);
+    assert_eq!(station.messages[5..144], [0; 139]);
+    assert_eq!(station.messages[144..], [0xFF; MESSAGES - 144]);
     assert_eq!(station.number(|lent| proved::read(9, lent)), 7);
     let step = |kind| move |lent: &mut Lent| proved::step(&page(kind), lent);
     assert_eq!(station.number(step(18)), 6);
@@ -72,8 +72,8 @@ fn c1_and_c2() {
     assert_eq!(station.tells(|lent| proved::read(8, lent)), [2, 5, 0, 0]);
     assert_eq!(station.number(|lent| proved::purge(1, lent)), 10);
     assert_eq!(station.number(|lent| proved::purge(32, lent)), 4);
-    // one read, one write: 240 and 34 bytes
-    assert_eq!(station.tells(proved::commit), [3, 0, 0, 274]);
+    // one read, one write: 144 bytes, two versions and a record of 34
+    assert_eq!(station.tells(proved::commit), [3, 0, 0, 186]);
     assert_eq!(station.commit[..12], [3, 0, 0, 0, 1, 0, 0, 0, 2, 0, 0, 0]);
     assert_eq!(station.number(proved::abort), 7);
 }

@@ -2,6 +2,7 @@
 
 use second::line::counts::Counts;
 use second::line::hot::{self, Hot};
+use second::line::neighbours::{self, Tally};
 use second::line::runs::{self, Failed};
 use second::options::Options;
 use std::panic;
@@ -9,13 +10,15 @@ use std::process;
 use std::sync::atomic::{AtomicU64, Ordering};
 use std::time::{Duration, Instant};
 
-const USAGE: &str = "line_runs [--seed N|random] [--runs N] [--seconds N] [--calls N] [--hot]
+const USAGE: &str = "line_runs [--seed N|random] [--runs N] [--seconds N] [--calls N] [--hot | --neighbours]
   --seed     of the first run; each next run's is one more
   --runs     how many, 10000 if nothing is said; with --seconds no end but the time's
   --seconds  stop after so long
   --calls    calls of a run before it is drained, 300 if nothing is said
   --hot      instead, hot counters: how often the same station is beaten in a row, without and with kept ages;
-             100 runs of 20000 calls if nothing is said";
+             100 runs of 20000 calls if nothing is said
+  --neighbours  instead, validating heads on neighbouring objects: aborts, messages and bytes for each commit, with versions
+             of pages and of objects; as many runs and calls";
 
 /// Of the run being made.
 static SEED: AtomicU64 = AtomicU64::new(0);
@@ -25,13 +28,13 @@ struct Settings {
     runs: u64,
     time: Duration,
     calls: usize,
-    hot: bool,
+    figures: Option<fn(&Settings)>,
 }
 
 fn main() {
     let settings = settings();
-    if settings.hot {
-        return hot_counters(&settings);
+    if let Some(figures) = settings.figures {
+        return figures(&settings);
     }
     let start = Instant::now();
     let mut counts = Counts::default();
@@ -56,39 +59,66 @@ fn settings() -> Settings {
     let options = Options::read(
         USAGE,
         &["--seed", "--runs", "--seconds", "--calls"],
-        &["--hot"],
+        &["--hot", "--neighbours"],
     );
     let options = options.without_words();
     let timed = options.has("--seconds");
-    let hot = options.has("--hot");
-    let runs = match (timed, hot) {
+    let figures: Option<fn(&Settings)> = match (options.has("--hot"), options.has("--neighbours")) {
+        (true, _) => Some(hot_counters),
+        (_, true) => Some(neighbours),
+        _ => None,
+    };
+    let runs = match (timed, figures.is_some()) {
         (true, _) => u64::MAX,
         (_, true) => 100,
         _ => 10_000,
     };
+    let calls = if figures.is_some() { 20_000 } else { 300 };
     Settings {
         seed: options.seed("--seed", 1),
         runs: options.number("--runs", runs),
         time: Duration::from_secs(options.number("--seconds", u64::MAX)),
-        calls: options.number("--calls", if hot { 20_000 } else { 300 }) as usize,
-        hot,
+        calls: options.number("--calls", calls) as usize,
+        figures,
     }
+}
+
+/// So many runs, each by its seed; tells how many.
+fn each_run(settings: &Settings, mut run: impl FnMut(u64)) -> u64 {
+    let start = Instant::now();
+    let mut runs = 0;
+    while runs < settings.runs && start.elapsed() < settings.time {
+        run(settings.seed.wrapping_add(runs));
+        runs += 1;
+    }
+    runs
 }
 
 /// The same owners and the same chance under both rules.
 fn hot_counters(settings: &Settings) {
-    let start = Instant::now();
     let [mut forgotten, mut kept] = [Hot::default(); 2];
-    let mut runs = 0;
-    while runs < settings.runs && start.elapsed() < settings.time {
-        let seed = settings.seed.wrapping_add(runs);
+    let runs = each_run(settings, |seed| {
         forgotten.join(hot::forgotten(seed, settings.calls));
         kept.join(hot::kept(seed, settings.calls));
-        runs += 1;
-    }
+    });
     println!("{runs} runs of {} calls", settings.calls);
     println!("without kept ages: {forgotten}");
     println!("with kept ages:    {kept}");
+}
+
+/// The same, of two heads and of eight.
+fn neighbours(settings: &Settings) {
+    for heads in [2, 8] {
+        let mut by_page = Tally::default();
+        let mut by_object = Tally::default();
+        let runs = each_run(settings, |seed| {
+            by_page.join(neighbours::by_page(heads, seed, settings.calls));
+            by_object.join(neighbours::by_object(heads, seed, settings.calls));
+        });
+        println!("{heads} heads, {runs} runs of {} calls", settings.calls);
+        println!("versions of pages:   {by_page}");
+        println!("versions of objects: {by_object}");
+    }
 }
 
 /// A panic that unwinds is caught and shortened like any failure; one that aborts can only be named.

@@ -26,9 +26,9 @@ pub fn server(
             notes.push(words::archived(&record));
         }
     }
-    for (page, version) in after.versions().iter().enumerate() {
-        if before.versions()[page] != *version {
-            notes.push(format!("page {page}: version {version}"));
+    for (address, version) in after.versions().iter().enumerate() {
+        if before.versions()[address] != *version {
+            notes.push(format!("{address}: version {version}"));
         }
     }
     for station in 0..STATIONS as u8 {

@@ -69,7 +69,7 @@ pub fn down(message: &Down, kind: Kind) -> String {
         Down::Aborted { transaction, cause } => {
             format!("22 aborted (t{transaction}), cause {}", *cause as u8)
         }
-        Down::Invalidate { pages } => format!("23 invalidate {}", pages_or_nothing(*pages)),
+        Down::Invalidate { objects } => format!("23 invalidate {}", braces(objects)),
     }
 }
 
@@ -82,7 +82,7 @@ fn page_message(message: &PageMessage, kind: Kind) -> String {
         Grant::Whole => String::from(", whole lock"),
     };
     let version = match kind {
-        Kind::Validating => format!(", version {}", message.version),
+        Kind::Validating => format!(", versions {}", versions(message)),
         Kind::Locking => String::new(),
     };
     let mut set = Addresses::default();
@@ -95,6 +95,20 @@ fn page_message(message: &PageMessage, kind: Kind) -> String {
     format!("{number} page {page} (t{transaction}){lock}{version}{unavailable}")
 }
 
+/// Those that are not 0, by address; 0 where all are.
+fn versions(message: &PageMessage) -> String {
+    let page = page_of(message.address);
+    let told: Vec<String> = (0..)
+        .zip(message.versions)
+        .filter(|(_, version)| *version != 0)
+        .map(|(object, version)| format!("{} v{version}", address(page, object)))
+        .collect();
+    match told.len() {
+        0 => String::from("0"),
+        _ => told.join(" "),
+    }
+}
+
 fn committing(commit: &Commit, kind: Kind) -> String {
     let mut parts = Vec::new();
     if !commit.record.reads.is_empty() {
@@ -104,9 +118,14 @@ fn committing(commit: &Commit, kind: Kind) -> String {
         parts.push(format!("wrote {}", addresses(&commit.record.writes)));
     }
     if kind == Kind::Validating {
-        for page in rising(commit.used) {
-            parts.push(format!("page {page} v{}", commit.versions[page as usize]));
+        let mut told = Vec::new();
+        for (address, version) in commit.versioned() {
+            let part = format!("{address} v{version}");
+            if !told.contains(&part) {
+                told.push(part);
+            }
         }
+        parts.extend(told);
     }
     let transaction = commit.record.transaction;
     match parts.len() {

@@ -5,19 +5,19 @@ use super::counts::Counts;
 use super::message::{Down, Field, Up};
 use super::places::Place;
 use super::server::{state, Server, Step, Victim, WaitsFor};
-use super::sets::{page_of, rising, StationSet, STATIONS};
+use super::sets::{rising, StationSet, STATIONS};
 use super::station::Station;
 use super::truth::{self, Ended};
 use super::waits;
 use super::world::{Outcome, Reply, World};
 use super::{Kind, Number};
 
-/// "128 messages ... (server), 8 messages ... (station)"; the readings count 104. Document 02, wish 1: "a commit and the
-/// station's buffer for it 1,120, and the server's record buffer 7,040".
+/// "128 messages ... (server), 8 messages ... (station)"; the readings count 104. Document 02: "the server's record buffer
+/// 7,040" (wish 1), a commit "at most 1,408, the station's buffer too" (wish 6).
 const MOST_BY_SERVER: usize = 104;
 const MOST_RECORDS: usize = 8;
 const MOST_BY_STATION: usize = 8;
-const MOST_COMMIT_BYTES: usize = 1_120;
+const MOST_COMMIT_BYTES: usize = 1_408;
 const MOST_RECORD_BYTES: usize = 7_040;
 
 /// A check that failed.
@@ -362,7 +362,7 @@ impl<'a> Watched<'a> {
         for (number, station) in self.world.stations.iter().enumerate() {
             let validating = station.kind() == Kind::Validating;
             for (address, version, value) in station.copies() {
-                let current = server.versions()[page_of(address) as usize];
+                let current = server.versions()[address as usize];
                 let stale = validating && version != current;
                 if value != server.values()[address as usize] || stale {
                     let detail = format!("station {number}, address {address}: {value}");

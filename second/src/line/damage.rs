@@ -1,13 +1,14 @@
 //! Raw messages that no rule-keeping end would send, or not now: stale, changed, of a wrong length, or invented.
 
 use super::call::Call;
-use super::message::{self, Commit, Down, Grant, PageMessage, Up, BEFORE_RECORD, LENGTH};
+use super::message::{self, Commit, Down, Grant, PageMessage, Up};
+use super::message::{commit_length, record_place, LENGTH, SHORTEST_COMMIT};
 use super::places::Place;
-use super::sets::{page_bit, page_of, Addresses, STATIONS};
+use super::sets::{page_bit, page_of, Addresses, PAGES, STATIONS};
 use super::world::World;
 use super::{Cause, Kind};
 use crate::random::Random;
-use crate::record::{Record, ENTRY, HEADER};
+use crate::record::Record;
 
 /// Messages seen on the lines, the last ones only.
 #[derive(Default)]
@@ -102,13 +103,14 @@ pub fn changed(random: &mut Random, mut bytes: Vec<u8>) -> Vec<u8> {
 
 /// A commit's versions, or its record's header and addresses.
 fn record_changed(random: &mut Random, bytes: &mut [u8]) {
-    if bytes.len() <= BEFORE_RECORD {
+    if bytes.len() < SHORTEST_COMMIT {
         return;
     }
-    let at = if random.one_in(4) {
-        LENGTH + random.below(BEFORE_RECORD - LENGTH)
+    let record = record_place(bytes.len());
+    let at = if random.one_in(4) && record > LENGTH {
+        LENGTH + random.below(record - LENGTH)
     } else {
-        BEFORE_RECORD + random.below((bytes.len() - BEFORE_RECORD).min(24))
+        record + random.below((bytes.len() - record).min(24))
     };
     bytes[at] = bytes[at].wrapping_add(random.pick(&[1, 255, 8]));
 }
@@ -131,10 +133,9 @@ fn noise(random: &mut Random) -> Vec<u8> {
         LENGTH,
         LENGTH,
         LENGTH + 1,
-        BEFORE_RECORD,
-        BEFORE_RECORD + HEADER - 1,
-        BEFORE_RECORD + HEADER,
-        BEFORE_RECORD + HEADER + ENTRY,
+        SHORTEST_COMMIT - 1,
+        SHORTEST_COMMIT,
+        commit_length(1),
         400,
     ]);
     let mut bytes = random.bytes(length);
@@ -219,8 +220,9 @@ fn commit(random: &mut Random, field: &Field, station: u8, kind: Kind, transacti
         kind: kind as u8,
     });
     if kind == Kind::Validating && random.one_in(3) {
-        let page = page_of(random.pick(field.addresses));
-        commit.versions[page as usize] = random.below(4) as u32;
+        if let Some(version) = commit.versions.last_mut() {
+            *version = random.below(4) as u32;
+        }
     }
     commit
 }
@@ -250,7 +252,7 @@ fn down(
             grant: [Grant::Page, Grant::Object, Grant::Whole][grant],
             address,
             transaction,
-            version: random.below(4) as u32,
+            versions: std::array::from_fn(|_| random.below(4) as u32),
             unavailable: random.byte() & random.byte(),
             values: std::array::from_fn(|_| random.number()),
         }),
@@ -271,7 +273,11 @@ fn down(
             cause: random.pick(&[Cause::Cycle, Cause::Version, Cause::Locked, Cause::Spent]),
         },
         _ => Down::Invalidate {
-            pages: random.pick(&[0, page_bit(page), u32::MAX]),
+            objects: random.pick(&[
+                Addresses::default(),
+                Addresses::one(address),
+                Addresses([255; PAGES]),
+            ]),
         },
     }
 }

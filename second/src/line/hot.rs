@@ -1,11 +1,11 @@
 //! Hot counters: heads that add to them in pairs and a panel that sums them all up, each repeating what was aborted; how
 //! often the same station is beaten (22, cause 1) in a row, with ages kept and, as document 01 alone had it, without.
 
-use super::call::Call;
+use super::repeats::{Line, Owners, Plan};
 use super::server::{Server, Step};
 use super::sets::STATIONS;
 use super::station::Station;
-use super::world::{Reply, ServerEnd, World};
+use super::world::ServerEnd;
 use super::{Answer, Cause, Kind, Number};
 use crate::random::Random;
 use std::fmt::{self, Display, Formatter};
@@ -64,14 +64,28 @@ impl Tally {
 /// What panel and heads came to.
 #[derive(Clone, Copy, Debug, Default, PartialEq, Eq)]
 pub struct Hot {
-    pub panel: Tally,
-    pub heads: Tally,
+    tallies: [Tally; STATIONS],
 }
 
 impl Hot {
     pub fn join(&mut self, other: Hot) {
-        self.panel.join(other.panel);
-        self.heads.join(other.heads);
+        for (tally, other) in self.tallies.iter_mut().zip(other.tallies) {
+            tally.join(other);
+        }
+    }
+
+    pub fn panel(&self) -> Tally {
+        self.tallies[PANEL]
+    }
+
+    pub fn heads(&self) -> Tally {
+        let mut heads = Tally::default();
+        for (station, tally) in self.tallies.into_iter().enumerate() {
+            if station != PANEL {
+                heads.join(tally);
+            }
+        }
+        heads
     }
 }
 
@@ -83,140 +97,46 @@ impl Display for Hot {
                 tally.commits, tally.beaten, tally.most_in_a_row
             )
         };
-        write!(f, "panel: {}; heads: {}", row(self.panel), row(self.heads))
+        write!(
+            f,
+            "panel: {}; heads: {}",
+            row(self.panel()),
+            row(self.heads())
+        )
     }
 }
 
 /// A run with ages kept.
 pub fn kept(seed: u64, calls: usize) -> Hot {
-    Line::<Server>::new(seed).run(calls)
+    run::<Server>(seed, calls)
 }
 
 /// The same owners and the same chance where no age is kept.
 pub fn forgotten(seed: u64, calls: usize) -> Hot {
-    Line::<Forgetful>::new(seed).run(calls)
+    run::<Forgetful>(seed, calls)
 }
 
-/// What an owner does next in its transaction.
-#[derive(Clone, Debug, Default)]
-struct Plan {
-    /// Counters to read, then a sum or each of them plus one to write.
-    counters: Vec<u8>,
-    read: Vec<u64>,
-    written: usize,
+fn run<S: ServerEnd>(seed: u64, calls: usize) -> Hot {
+    let owners = Hot::default();
+    Line::<S, Station, Hot>::new(Kind::Locking, STATIONS, owners, seed).run(calls)
 }
 
-struct Line<S> {
-    world: World<S, Station>,
-    random: Random,
-    plans: [Plan; STATIONS],
-    open: [bool; STATIONS],
-    waits: [bool; STATIONS],
-    tallies: [Tally; STATIONS],
-}
-
-impl<S: ServerEnd> Line<S> {
-    fn new(seed: u64) -> Line<S> {
-        Line {
-            world: World::with_ends([Kind::Locking; STATIONS]),
-            random: Random::new(seed),
-            plans: Default::default(),
-            open: [false; STATIONS],
-            waits: [false; STATIONS],
-            tallies: Default::default(),
+impl Owners for Hot {
+    fn plan(&mut self, station: usize, random: &mut Random) -> Plan {
+        if station == PANEL {
+            return Plan::sums(COUNTERS.to_vec(), TOTAL);
         }
+        let first = random.below(COUNTERS.len());
+        let second = (first + 1 + random.below(COUNTERS.len() - 1)) % COUNTERS.len();
+        Plan::counts(vec![COUNTERS[first], COUNTERS[second]])
     }
 
-    fn run(mut self, calls: usize) -> Hot {
-        for _ in 0..calls {
-            self.some_call();
-        }
-        let mut hot = Hot::default();
-        for (station, tally) in self.tallies.into_iter().enumerate() {
-            match station {
-                PANEL => hot.panel.join(tally),
-                _ => hot.heads.join(tally),
-            }
-        }
-        hot
-    }
-
-    /// A station by chance: its next message up or down, or its owner's next operation.
-    fn some_call(&mut self) {
-        let station = self.random.below(STATIONS);
-        let number = station as u8;
-        let call = match self.random.below(3) {
-            0 => Call::Server(number),
-            1 => Call::Station(number),
-            _ if self.waits[station] => return,
-            _ => self.next(station),
-        };
-        match self.world.call(&call) {
-            Reply::Accepted(outcome) if !matches!(call, Call::Server(_)) => {
-                self.heard(station, outcome.answer)
-            }
-            Reply::Refused(refused) => panic!("{call}: {refused:?}"),
+    fn ended(&mut self, station: usize, answer: Answer) {
+        let tally = &mut self.tallies[station];
+        match answer {
+            Answer::Committed(_) => tally.committed(),
+            Answer::Aborted(Cause::Cycle) => tally.beaten(),
             _ => (),
         }
-    }
-
-    fn next(&mut self, station: usize) -> Call {
-        let number = station as u8;
-        if !self.open[station] {
-            return Call::Begin(number);
-        }
-        let Plan {
-            counters,
-            read,
-            written,
-        } = &self.plans[station];
-        if let Some(counter) = counters.get(read.len()) {
-            return Call::Read(number, *counter);
-        }
-        match (station, *written) {
-            (PANEL, 0) => Call::Write(number, TOTAL, read.iter().sum()),
-            (PANEL, _) => Call::Commit(number),
-            (_, written) => match counters.get(written) {
-                Some(counter) => Call::Write(number, *counter, read[written] + 1),
-                None => Call::Commit(number),
-            },
-        }
-    }
-
-    fn heard(&mut self, station: usize, answer: Answer) {
-        self.waits[station] &= answer == Answer::Nothing;
-        match answer {
-            Answer::Begun(_) => self.begun(station),
-            Answer::Value(value) => self.plans[station].read.push(value),
-            Answer::Waits => self.waits[station] = true,
-            Answer::Written => self.plans[station].written += 1,
-            Answer::Committed(_) => {
-                self.open[station] = false;
-                self.tallies[station].committed();
-            }
-            Answer::Aborted(cause) => {
-                self.open[station] = false;
-                if cause == Cause::Cycle {
-                    self.tallies[station].beaten();
-                }
-            }
-            Answer::Dropped | Answer::Purged | Answer::Nothing => (),
-        }
-    }
-
-    fn begun(&mut self, station: usize) {
-        self.open[station] = true;
-        let counters = match station {
-            PANEL => COUNTERS.to_vec(),
-            _ => {
-                let first = self.random.below(COUNTERS.len());
-                let second = (first + 1 + self.random.below(COUNTERS.len() - 1)) % COUNTERS.len();
-                vec![COUNTERS[first], COUNTERS[second]]
-            }
-        };
-        self.plans[station] = Plan {
-            counters,
-            ..Plan::default()
-        };
     }
 }

@@ -1,16 +1,16 @@
 //! The stations in the shape of the C interface: numbers for answers, lent buffers for results.
 
 use super::call::Call;
-use super::message::{self, BEFORE_RECORD};
+use super::message;
 use super::station::state;
 use super::station::{Done, Station};
 use super::world::World;
-use super::{Answer, Number, LONGEST};
+use super::{Answer, Number, LIMIT};
 use crate::numbers::OK;
 
-/// "8 messages", "a commit and the station's buffer for it 1,120"
+/// "8 messages", and a commit of "at most 1,408, the station's buffer too"
 pub const MESSAGES: usize = 8 * message::LENGTH;
-pub const COMMIT: usize = BEFORE_RECORD + LONGEST;
+pub const COMMIT: usize = message::commit_length(2 * LIMIT);
 /// Answer, value, messages, commit bytes.
 pub const TOLD: usize = 4;
 

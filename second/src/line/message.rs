@@ -9,10 +9,25 @@ use crate::record::{self, Record};
 
 pub use super::places::message::{Field, LENGTH};
 
-/// "A commit is followed by 32 versions of 4 bytes": 240 bytes before its record.
-pub const BEFORE_RECORD: usize = LENGTH + WORD * PAGES;
+/// A commit without entries.
+pub const SHORTEST_COMMIT: usize = LENGTH + record::HEADER;
+
+/// What each entry adds: its version, and its address and value in the record.
+const OF_ENTRY: usize = WORD + record::ENTRY;
+
+/// "A commit is then 144 + 4 × (n + m) bytes and the record": its length says where the record stands.
+pub fn record_place(length: usize) -> usize {
+    let entries = length.saturating_sub(SHORTEST_COMMIT) / OF_ENTRY;
+    LENGTH + WORD * entries
+}
+
+/// The length of a commit with so many entries.
+pub const fn commit_length(entries: usize) -> usize {
+    SHORTEST_COMMIT + OF_ENTRY * entries
+}
 
 const COMMIT: u8 = 3;
+pub const INVALIDATE: u8 = 23;
 
 /// What a station sends: "Kinds 1 to 8 go to the server".
 #[derive(Clone, Debug, PartialEq, Eq)]
@@ -48,11 +63,12 @@ pub enum Up {
     },
 }
 
-/// A commit: its page set, versions and record; station and transaction stand in the record.
+/// A commit: its page set, versions and record; station and transaction stand in the record. "A commit carries one version
+/// for each entry of its record, in record order".
 #[derive(Clone, Debug, PartialEq, Eq)]
 pub struct Commit {
     pub used: PageSet,
-    pub versions: [u32; PAGES],
+    pub versions: Vec<u32>,
     pub record: Record,
 }
 
@@ -78,7 +94,7 @@ pub enum Down {
         cause: Cause,
     },
     Invalidate {
-        pages: PageSet,
+        objects: Addresses,
     },
 }
 
@@ -88,7 +104,7 @@ pub struct PageMessage {
     pub grant: Grant,
     pub address: u8,
     pub transaction: u32,
-    pub version: u32,
+    pub versions: [u32; OBJECTS],
     pub unavailable: ObjectSet,
     pub values: [u64; OBJECTS],
 }
@@ -114,6 +130,7 @@ struct Fields {
     number: u32,
     sets: [u8; PAGES],
     values: [u64; OBJECTS],
+    versions: [u32; OBJECTS],
 }
 
 /// Which fields a kind names, and as what.
@@ -122,9 +139,10 @@ struct Names {
     byte_3: Third,
     transaction: bool,
     pages: bool,
-    number: Numbered,
+    commit: bool,
     sets: Sets,
-    values: bool,
+    /// Values and versions.
+    page: bool,
 }
 
 #[derive(PartialEq)]
@@ -142,13 +160,6 @@ enum Third {
 }
 
 #[derive(PartialEq)]
-enum Numbered {
-    Unnamed,
-    Version,
-    Commit,
-}
-
-#[derive(PartialEq)]
 enum Sets {
     Unnamed,
     /// "one set of a single page: byte 16"
@@ -161,9 +172,9 @@ const NOTHING: Names = Names {
     byte_3: Third::Unnamed,
     transaction: false,
     pages: false,
-    number: Numbered::Unnamed,
+    commit: false,
     sets: Sets::Unnamed,
-    values: false,
+    page: false,
 };
 
 const TRANSACTION: Names = Names {
@@ -205,9 +216,8 @@ fn names(kind: u8) -> Option<Names> {
         16..=18 => Names {
             byte_2: Second::Page,
             byte_3: Third::Object,
-            number: Numbered::Version,
             sets: Sets::One,
-            values: true,
+            page: true,
             ..TRANSACTION
         },
         19 => Names {
@@ -220,7 +230,7 @@ fn names(kind: u8) -> Option<Names> {
             ..TRANSACTION
         },
         21 => Names {
-            number: Numbered::Commit,
+            commit: true,
             ..TRANSACTION
         },
         22 => Names {
@@ -228,7 +238,7 @@ fn names(kind: u8) -> Option<Names> {
             ..TRANSACTION
         },
         23 => Names {
-            pages: true,
+            sets: Sets::ByPage,
             ..NOTHING
         },
         _ => return None,
@@ -248,12 +258,6 @@ impl Names {
             Third::Object => usize::from(fields.byte_3) < OBJECTS,
             Third::Cause => Cause::of(fields.byte_3).is_some(),
         };
-        // reading 2: "Version 0 is allowed in 16 to 18"
-        let number = match self.number {
-            Numbered::Unnamed => fields.number == 0,
-            Numbered::Version => true,
-            Numbered::Commit => fields.number != 0,
-        };
         // reading 4: "Bytes 17 to 47 are unnamed, so 0, where a kind names one set of a single page"
         let sets = match self.sets {
             Sets::Unnamed => fields.sets == [0; PAGES],
@@ -265,9 +269,10 @@ impl Names {
             && byte_3
             && (fields.transaction != 0) == self.transaction
             && (self.pages || fields.pages == 0)
-            && number
+            && (fields.number != 0) == self.commit
             && sets
-            && (self.values || fields.values == [0; OBJECTS])
+            // reading 2: version 0 is allowed in 16 to 18
+            && (self.page || fields.values == [0; OBJECTS] && fields.versions == [0; OBJECTS])
     }
 }
 
@@ -280,9 +285,10 @@ impl Fields {
             byte_3: Field::ObjectOrCause.byte(bytes),
             transaction: Field::Transaction.word(bytes, 0),
             pages: Field::Pages.word(bytes, 0),
-            number: Field::VersionOrCommit.word(bytes, 0),
+            number: Field::Commit.word(bytes, 0),
             sets: Field::Sets.sets(bytes, 0).0,
             values: std::array::from_fn(|i| Field::Values.long(bytes, i)),
+            versions: std::array::from_fn(|i| Field::Versions.word(bytes, i)),
         }
     }
 
@@ -295,6 +301,9 @@ impl Fields {
         bytes.extend(self.sets);
         for value in self.values {
             bytes.extend(value.to_le_bytes());
+        }
+        for version in self.versions {
+            bytes.extend(version.to_le_bytes());
         }
         bytes
     }
@@ -332,13 +341,15 @@ impl Fields {
     }
 }
 
-/// "Length: a message isn't 112 bytes, or a commit isn't 240 and its record's length"; reading 1.
+/// Number 2: "every message is 144 bytes", "A commit is then 144 + 4 × (n + m) bytes and the record"; reading 1.
 fn length_fits(bytes: &[u8]) -> bool {
     match bytes.first() {
         None => false,
         Some(&COMMIT) => {
-            let record = bytes.get(BEFORE_RECORD..).unwrap_or(&[]);
-            record::claimed_length(record) == Some(record.len())
+            let record = bytes.get(record_place(bytes.len())..).unwrap_or(&[]);
+            let whole = bytes.len() >= SHORTEST_COMMIT
+                && (bytes.len() - SHORTEST_COMMIT).is_multiple_of(OF_ENTRY);
+            whole && record::claimed_length(record) == Some(record.len())
         }
         Some(_) => bytes.len() == LENGTH,
     }
@@ -465,9 +476,10 @@ impl Up {
 impl Commit {
     /// All versions 0.
     pub fn of(record: Record) -> Commit {
+        let entries = record.reads.len() + record.writes.len();
         let mut commit = Commit {
             used: 0,
-            versions: [0; PAGES],
+            versions: vec![0; entries],
             record,
         };
         commit.used = commit.wanted().pages();
@@ -477,7 +489,7 @@ impl Commit {
     /// Number 5: "the layout is broken ..., a version that must be 0 isn't, or a commit's record disagrees with
     /// message or server on station, kind, transaction or pages used".
     fn decode(fields: &Fields, bytes: &[u8], kind: Kind) -> Result<Commit, Number> {
-        let (before, record) = bytes.split_at(BEFORE_RECORD);
+        let (before, record) = bytes.split_at(record_place(bytes.len()));
         let commit = Commit {
             used: fields.pages,
             versions: versions_of(&before[LENGTH..]),
@@ -504,15 +516,21 @@ impl Commit {
             && self.wanted().pages() == self.used
     }
 
-    /// "0 for an unused page; all 0 from a locking station"
+    /// "from a locking station all are 0"
     fn versions_fit(&self, kind: Kind) -> bool {
-        let may_stand = |page: usize| kind == Kind::Validating && self.used >> page & 1 == 1;
-        let fits = |(page, version): (usize, &u32)| *version == 0 || may_stand(page);
-        self.versions.iter().enumerate().all(fits)
+        kind == Kind::Validating || self.versions.iter().all(|version| *version == 0)
+    }
+
+    /// The addresses of its entries with their versions: an object that is read and written has two.
+    pub fn versioned(&self) -> impl Iterator<Item = (u8, u32)> + '_ {
+        let entries = self.record.reads.iter().chain(&self.record.writes);
+        entries
+            .map(|(address, _)| *address)
+            .zip(self.versions.iter().copied())
     }
 
     fn append(&self, bytes: &mut Vec<u8>) {
-        for version in self.versions {
+        for version in &self.versions {
             bytes.extend(version.to_le_bytes());
         }
         bytes.extend(self.record.encode());
@@ -538,8 +556,8 @@ impl Commit {
     }
 }
 
-fn versions_of(bytes: &[u8]) -> [u32; PAGES] {
-    std::array::from_fn(|page| word(bytes, WORD * page))
+fn versions_of(bytes: &[u8]) -> Vec<u32> {
+    bytes.chunks(WORD).map(|version| word(version, 0)).collect()
 }
 
 impl Down {
@@ -569,7 +587,7 @@ impl Down {
                 cause: Cause::of(fields.byte_3).ok_or(Number::Range)?,
             },
             _ => Down::Invalidate {
-                pages: fields.pages,
+                objects: Addresses(fields.sets),
             },
         };
         Ok((fields.station, message))
@@ -580,7 +598,7 @@ impl Down {
             grant,
             address: fields.address(),
             transaction: fields.transaction,
-            version: fields.number,
+            versions: fields.versions,
             unavailable: fields.sets[0],
             values: fields.values,
         })
@@ -597,9 +615,9 @@ impl Down {
     fn fields(&self) -> Fields {
         match *self {
             Down::Page(ref page) => Fields {
-                number: page.version,
                 sets: Fields::one_set(page.unavailable),
                 values: page.values,
+                versions: page.versions,
                 ..Fields::on_object(page.grant as u8, page.address, page.transaction)
             },
             Down::DeEscalate { page, transaction } => Fields::with_second(19, page, transaction),
@@ -622,8 +640,8 @@ impl Down {
                 byte_3: cause as u8,
                 ..Fields::with_second(22, 0, transaction)
             },
-            Down::Invalidate { pages } => Fields {
-                pages,
+            Down::Invalidate { objects } => Fields {
+                sets: objects.0,
                 ..Fields::with_second(23, 0, 0)
             },
         }

@@ -12,8 +12,10 @@ pub mod hot;
 pub mod lent;
 pub mod little;
 pub mod message;
+pub mod neighbours;
 pub mod owner;
 pub mod places;
+pub mod repeats;
 pub mod runs;
 pub mod scripts;
 pub mod served;
@@ -97,7 +99,7 @@ impl Kind {
 pub enum Cause {
     /// "the youngest in any cycle gets 22, cause 1"
     Cycle = 1,
-    /// "a used page with another version, cause 2"
+    /// "Cause 2 is given for a used object with another version."
     Version = 2,
     /// "cause 3 is given exactly when a written object itself is locked by another"
     Locked = 3,

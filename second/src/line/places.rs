@@ -57,8 +57,8 @@ pub mod header {
     }
 }
 
-/// "Messages, 112 bytes: Byte 0 kind, 1 station on the line, 2 page or requester, 3 object or cause, 4–7 transaction, 8–11
-/// page set, 12–15 version or commit number, 16–47 object sets by page, 48–111 eight values."
+/// "Byte 0 kind, 1 station on the line, 2 page or requester, 3 object or cause, 4–7 transaction, 8–11 page set, 12–15 ...
+/// commit number, 16–47 object sets by page, 48–111 eight values", and by document 02 "eight of 4 bytes after the values".
 pub mod message {
     use super::{LONG, OBJECTS, PAGES, WORD};
 
@@ -69,13 +69,14 @@ pub mod message {
         ObjectOrCause: 1,
         Transaction: WORD,
         Pages: WORD,
-        VersionOrCommit: WORD,
+        Commit: WORD,
         Sets: PAGES,
         Values: OBJECTS * LONG,
+        Versions: OBJECTS * WORD,
     }
 }
 
-/// "A station's state, 6,713 bytes"
+/// "A station's state, 8,633 bytes"
 pub mod station {
     use super::{ADDRESSES, LONG, PAGES, STATIONS, WORD};
 
@@ -85,7 +86,8 @@ pub mod station {
         WrittenValue: ADDRESSES * LONG,
         WaitingValue: LONG,
         Kept: STATIONS * WORD,
-        Version: PAGES * WORD,
+        Version: ADDRESSES * WORD,
+        Seen: ADDRESSES * WORD,
         Number: WORD,
         Cached: WORD,
         Whole: WORD,
@@ -102,7 +104,7 @@ pub mod station {
     }
 }
 
-/// "The server's state, 37,080 bytes"
+/// "The server's state, 53,336 bytes"
 pub mod server {
     use super::{ADDRESSES, LONG, PAGES, STATIONS, WORD};
 
@@ -114,8 +116,9 @@ pub mod server {
         Arrival: STATIONS * LONG,
         NextAge: LONG,
         NextArrival: LONG,
-        Version: PAGES * WORD,
-        SentVersion: STATIONS * PAGES * WORD,
+        Version: ADDRESSES * WORD,
+        ReadVersion: STATIONS * ADDRESSES * WORD,
+        WrittenVersion: STATIONS * ADDRESSES * WORD,
         Work: STATIONS * WORD,
         Latest: STATIONS * WORD,
         Listed: STATIONS * WORD,

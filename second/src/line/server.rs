@@ -2,11 +2,13 @@
 
 pub mod state;
 
-use super::message::{Commit, Down, Grant, PageMessage, Up};
+use super::message::{Commit, Down, Field, Grant, PageMessage, Up, INVALIDATE};
+use super::places::Place;
 use super::sets::{address, object_bit, page_bit, page_of, rising, station_bit, Addresses};
 use super::sets::{ObjectSet, PageSet, StationSet, ADDRESSES, OBJECTS, PAGES, STATIONS};
 use super::{Cause, Kind, Number};
 use crate::record::Record;
+use std::array;
 
 #[derive(Clone, Debug, PartialEq, Eq)]
 pub struct Server {
@@ -14,8 +16,8 @@ pub struct Server {
     /// The last commit number used.
     last: u32,
     values: [u64; ADDRESSES],
-    /// "A page's version is the number of the last commit that wrote it, first 0."
-    versions: [u32; PAGES],
+    /// "The version is kept for each object": the number of the last commit that wrote it, first 0.
+    versions: [u32; ADDRESSES],
     seen: [Seen; STATIONS],
     /// The age that the next transaction gets, and the arrival that the next waiter gets.
     next_age: u64,
@@ -163,7 +165,7 @@ impl Server {
             kinds,
             last,
             values: [0; ADDRESSES],
-            versions: [0; PAGES],
+            versions: [0; ADDRESSES],
             seen: latest.map(|latest| Seen {
                 latest,
                 age: 0,
@@ -272,6 +274,25 @@ impl Server {
         }
     }
 
+    /// As before document 02's wish 6, to measure what the wish changes: all objects of a page have the highest version on
+    /// it, and a 23 names the whole page and unlists it. For lines on which no commit waits.
+    pub fn versions_of_pages(&mut self, step: &mut Step) {
+        for page in self.versions.chunks_mut(OBJECTS) {
+            let version = page.iter().copied().max().unwrap_or(0);
+            page.fill(version);
+        }
+        let invalidates = |message: &&mut Vec<u8>| Field::Kind.byte(message) == INVALIDATE;
+        for message in step.sent.iter_mut().filter(invalidates) {
+            let pages = Field::Sets.sets(message, 0).pages();
+            self.unlist(Field::Station.byte(message), pages);
+            let whole = array::from_fn(|page| match pages & page_bit(page as u8) {
+                0 => 0,
+                _ => ObjectSet::MAX,
+            });
+            Field::Sets.put_sets(message, 0, &Addresses(whole));
+        }
+    }
+
     fn take(&mut self, from: u8, message: Up, step: &mut Step) {
         let kind = self.kinds[from as usize];
         match (message, kind) {
@@ -328,7 +349,7 @@ impl Server {
         }
     }
 
-    /// "A station is listed as holding a page ... until 5, a page in 7, or 23."
+    /// "A station is listed as holding a page ... until 5, a page in 7"; "A listed copy remains listed after 23".
     fn unlist(&mut self, station: u8, pages: PageSet) {
         self.listed[station as usize] &= !pages;
     }
@@ -402,16 +423,13 @@ impl Server {
         step.send(station, Down::Aborted { transaction, cause });
     }
 
-    /// "Install: write values, archive the record, free locks, send 21, then, stations rising, 23 with all written
-    /// pages to other validating stations listed for one."
+    /// "Install: write values, archive the record, free locks, send 21, then, stations rising, 23 ... to other validating
+    /// stations listed for" a written page; by document 02 "Kind 23 carries object sets by page".
     fn install(&mut self, station: u8, commit: &Commit, step: &mut Step) {
         self.last += 1;
-        let written = commit.written().pages();
         for (address, value) in &commit.record.writes {
             self.values[*address as usize] = *value;
-        }
-        for page in rising(written) {
-            self.versions[page as usize] = self.last;
+            self.versions[*address as usize] = self.last;
         }
         let archived = Record {
             commit: self.last,
@@ -424,17 +442,16 @@ impl Server {
             commit: self.last,
         };
         step.send(station, committed);
-        self.invalidate(station, written, step);
+        self.invalidate(station, commit.written(), step);
     }
 
-    /// Reading 35: "23 names all written pages and unlists them".
-    fn invalidate(&mut self, writer: u8, written: PageSet, step: &mut Step) {
+    /// 23 names all that the commit wrote, on all pages, and unlists nothing.
+    fn invalidate(&mut self, writer: u8, objects: Addresses, step: &mut Step) {
         for station in 0..STATIONS as u8 {
-            let listed = self.listed[station as usize] & written != 0;
+            let listed = self.listed[station as usize] & objects.pages() != 0;
             let validating = self.kinds[station as usize] == Kind::Validating;
             if station != writer && validating && listed {
-                self.unlist(station, written);
-                step.send(station, Down::Invalidate { pages: written });
+                step.send(station, Down::Invalidate { objects });
             }
         }
     }
@@ -455,7 +472,7 @@ impl Server {
             grant,
             address: at,
             transaction: self.seen[station as usize].latest,
-            version: self.versions[page as usize],
+            versions: self.versions[first..first + OBJECTS].try_into().unwrap(),
             unavailable,
             values: self.values[first..first + OBJECTS].try_into().unwrap(),
         };
@@ -525,10 +542,11 @@ impl Server {
         let Request::Commit(commit) = &waiter.request else {
             return None;
         };
-        let stale = |page: u8| commit.versions[page as usize] != self.versions[page as usize];
+        // "Cause 2 is given for a used object with another version."
+        let stale = |(address, version): (u8, u32)| version != self.versions[address as usize];
         if self.last == u32::MAX {
             Some(Cause::Spent)
-        } else if rising(commit.used).any(stale) {
+        } else if commit.versioned().any(stale) {
             Some(Cause::Version)
         } else if self.holders(waiter.station, &waiter.writes) != 0 {
             Some(Cause::Locked)
@@ -738,7 +756,7 @@ impl Server {
         &self.values
     }
 
-    pub fn versions(&self) -> &[u32; PAGES] {
+    pub fn versions(&self) -> &[u32; ADDRESSES] {
         &self.versions
     }
 

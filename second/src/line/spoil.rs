@@ -2,9 +2,9 @@
 
 use super::lent::COMMIT;
 use super::little::WORD;
-use super::message::{Commit, Field, Up, BEFORE_RECORD, LENGTH};
+use super::message::{commit_length, record_place, Commit, Field, Up, LENGTH, SHORTEST_COMMIT};
 use super::places::{header, Place};
-use super::sets::{rising, STATIONS};
+use super::sets::STATIONS;
 use super::Kind;
 use crate::generate::{self, Size};
 use crate::random::Random;
@@ -56,9 +56,9 @@ pub fn of_any_length(random: &mut Random, like: &[u8]) -> Vec<u8> {
             LENGTH - 1,
             LENGTH,
             LENGTH + 1,
-            BEFORE_RECORD,
-            ADDRESSES - 1,
-            ADDRESSES,
+            SHORTEST_COMMIT - 1,
+            SHORTEST_COMMIT,
+            commit_length(1),
         ]),
         1 => random.below(300),
         _ => random.below(5_001),
@@ -80,8 +80,8 @@ pub fn commit(random: &mut Random, kinds: &[Kind; STATIONS]) -> Vec<u8> {
         ..record
     });
     if kind == Kind::Validating {
-        for page in rising(commit.used) {
-            commit.versions[page as usize] = random.below(3) as u32;
+        for version in &mut commit.versions {
+            *version = random.below(3) as u32;
         }
     }
     let mut bytes = Up::Commit(Box::new(commit)).encode(station);
@@ -91,40 +91,35 @@ pub fn commit(random: &mut Random, kinds: &[Kind; STATIONS]) -> Vec<u8> {
     bytes
 }
 
-/// Where a commit's record has what.
-const COMMIT_NUMBER: usize = BEFORE_RECORD + header::Field::Commit as usize;
-const TRANSACTION: usize = BEFORE_RECORD + header::Field::Transaction as usize;
-const STATION: usize = BEFORE_RECORD + header::Field::Station as usize;
-const KIND: usize = BEFORE_RECORD + header::Field::Kind as usize;
-const SPARE: usize = BEFORE_RECORD + header::Field::Spare as usize;
-const ADDRESSES: usize = BEFORE_RECORD + HEADER;
-
 fn fault(random: &mut Random, bytes: &mut Vec<u8>) {
-    if bytes.len() < ADDRESSES {
+    if bytes.len() < SHORTEST_COMMIT {
         return;
     }
+    let record = record_place(bytes.len());
+    let of_record = |field: header::Field| record + field as usize;
     let at = match random.below(12) {
         // the page set
         0 => Field::Pages.start() + random.below(WORD),
-        1 => LENGTH + random.below(BEFORE_RECORD - LENGTH),
-        2 => COMMIT_NUMBER + random.below(WORD),
-        3 => TRANSACTION + random.below(WORD),
-        4 => random.pick(&[Field::Station.start(), STATION]),
-        5 => KIND,
-        6 => SPARE + random.below(2),
+        1 => LENGTH + random.below((record - LENGTH).max(1)),
+        2 => of_record(header::Field::Commit) + random.below(WORD),
+        3 => of_record(header::Field::Transaction) + random.below(WORD),
+        4 => random.pick(&[Field::Station.start(), of_record(header::Field::Station)]),
+        5 => of_record(header::Field::Kind),
+        6 => of_record(header::Field::Spare) + random.below(2),
         7 => return break_order(random, bytes),
         8 => return one_too_many(random, bytes),
-        9 => BEFORE_RECORD + random.below(4),
+        9 => record + random.below(4),
         10 => return bytes.truncate(random.below(bytes.len())),
         // a field of the message that it does not name
         _ => random.pick(&[
             Field::PageOrRequester.start(),
             Field::ObjectOrCause.start(),
-            Field::VersionOrCommit.start(),
+            Field::Commit.start(),
             Field::Sets.start(),
             Field::Sets.start() + 1,
             Field::Values.start() - 1,
             Field::Values.start(),
+            Field::Versions.start(),
             LENGTH - 1,
         ]),
     };
@@ -137,11 +132,12 @@ fn fault(random: &mut Random, bytes: &mut Vec<u8>) {
 
 /// Two neighbours equal or exchanged, or an address of another page.
 fn break_order(random: &mut Random, bytes: &mut [u8]) {
-    let entries = (bytes.len() - ADDRESSES) / ENTRY;
+    let addresses = record_place(bytes.len()) + HEADER;
+    let entries = (bytes.len() - addresses) / ENTRY;
     if entries < 2 {
         return;
     }
-    let at = ADDRESSES + random.below(entries - 1);
+    let at = addresses + random.below(entries - 1);
     match random.below(3) {
         0 => bytes[at + 1] = bytes[at],
         1 => bytes.swap(at, at + 1),
@@ -151,12 +147,14 @@ fn break_order(random: &mut Random, bytes: &mut [u8]) {
 
 /// "n = 257: number 5", and document 02's n = 49, the length fitting.
 fn one_too_many(random: &mut Random, bytes: &mut Vec<u8>) {
-    let size = BEFORE_RECORD
-        + random
-            .pick(&[header::Field::Reads, header::Field::Writes])
-            .start();
+    let mut record = bytes.split_off(record_place(bytes.len()));
+    let size = random
+        .pick(&[header::Field::Reads, header::Field::Writes])
+        .start();
     let count: u16 = random.pick(&[49, 257]);
-    bytes[size..size + 2].copy_from_slice(&count.to_le_bytes());
-    let claimed = record::claimed_length(&bytes[BEFORE_RECORD..]);
-    bytes.resize(BEFORE_RECORD + claimed.unwrap_or(HEADER), 0);
+    record[size..size + 2].copy_from_slice(&count.to_le_bytes());
+    let claimed = record::claimed_length(&record).unwrap_or(HEADER);
+    record.resize(claimed, 0);
+    bytes.resize(LENGTH + WORD * ((claimed - HEADER) / ENTRY), 0);
+    bytes.extend(record);
 }

@@ -24,7 +24,7 @@ pub struct Station {
 /// A cached page.
 #[derive(Clone, Debug, Default, PartialEq, Eq)]
 struct Page {
-    version: u32,
+    versions: [u32; OBJECTS],
     unavailable: ObjectSet,
     values: [u64; OBJECTS],
 }
@@ -36,6 +36,8 @@ struct Transaction {
     reads: BTreeMap<u8, u64>,
     /// Last writes.
     writes: BTreeMap<u8, u64>,
+    /// Of each object read or written, the version that its copy had when it first was.
+    seen: BTreeMap<u8, u32>,
     locked: Addresses,
     locked_whole: PageSet,
     out: Option<Out>,
@@ -86,7 +88,7 @@ impl Transaction {
     }
 
     /// "afterwards it sees that value or its own last write"; reading 23.
-    fn seen(&self, address: u8) -> Option<u64> {
+    fn told(&self, address: u8) -> Option<u64> {
         let own = self.writes.get(&address);
         own.or_else(|| self.reads.get(&address)).copied()
     }
@@ -115,7 +117,7 @@ impl Transaction {
 impl Page {
     fn of(message: &PageMessage) -> Page {
         Page {
-            version: message.version,
+            versions: message.versions,
             unavailable: message.unavailable,
             values: message.values,
         }
@@ -153,7 +155,7 @@ impl Station {
 
     pub fn read(&mut self, address: u8) -> Answered {
         let transaction = self.acting()?;
-        if let Some(value) = transaction.seen(address) {
+        if let Some(value) = transaction.told(address) {
             return answered(Answer::Value(value));
         }
         // document 02, wish 1: before "waits" too, since what is read then is recorded at the delivery
@@ -161,6 +163,7 @@ impl Station {
             return Err(Number::Long);
         }
         if let Some(value) = self.available(address) {
+            self.first_use(address);
             self.acting()?.reads.insert(address, value);
             return answered(Answer::Value(value));
         }
@@ -174,14 +177,15 @@ impl Station {
             return Err(Number::Long);
         }
         let may_write = transaction.may_write(address);
-        let cached = self.cached[page_of(address) as usize].is_some();
         let local = match self.kind {
             Kind::Locking => may_write,
-            Kind::Validating => cached,
+            // document 02: "It writes locally only on available objects."
+            Kind::Validating => self.available(address).is_some(),
         };
         if !local {
             return self.request(Out::Write(address, value));
         }
+        self.first_use(address);
         self.acting()?.writes.insert(address, value);
         self.lay_own_values(page_of(address));
         answered(Answer::Written)
@@ -192,11 +196,12 @@ impl Station {
         let transaction = self.acting()?;
         transaction.out = Some(Out::Commit);
         let used = transaction.used();
-        let reads = transaction.reads.iter().map(|(a, v)| (*a, *v)).collect();
-        let writes = transaction.writes.iter().map(|(a, v)| (*a, *v)).collect();
+        let reads: Vec<(u8, u64)> = transaction.reads.iter().map(|(a, v)| (*a, *v)).collect();
+        let writes: Vec<(u8, u64)> = transaction.writes.iter().map(|(a, v)| (*a, *v)).collect();
+        let entries = reads.iter().chain(&writes).map(|(address, _)| *address);
         let commit = Commit {
             used,
-            versions: self.versions(used),
+            versions: self.versions(entries),
             record: Record {
                 reads,
                 writes,
@@ -279,16 +284,22 @@ impl Station {
         self.send(Answer::Waits, message)
     }
 
-    /// "32 versions of 4 bytes (0 for an unused page; all 0 from a locking station)"
-    fn versions(&self, used: PageSet) -> [u32; PAGES] {
-        let mut versions = [0; PAGES];
-        if self.kind == Kind::Validating {
-            for page in rising(used) {
-                let cached = self.cached[page as usize].as_ref();
-                versions[page as usize] = cached.map_or(0, |page| page.version);
-            }
+    /// "one version for each entry of its record, in record order ...; from a locking station all are 0"
+    fn versions(&self, entries: impl Iterator<Item = u8>) -> Vec<u32> {
+        let version = |address: u8| match (&self.open, self.kind) {
+            (Some(open), Kind::Validating) => open.seen.get(&address).copied().unwrap_or(0),
+            _ => 0,
+        };
+        entries.map(version).collect()
+    }
+
+    /// The copy's version is kept when an object is first used.
+    fn first_use(&mut self, address: u8) {
+        let page = self.cached[page_of(address) as usize].as_ref();
+        let version = page.map_or(0, |page| page.versions[object_of(address) as usize]);
+        if let Some(open) = &mut self.open {
+            open.seen.entry(address).or_insert(version);
         }
-        versions
     }
 
     fn send(&self, answer: Answer, message: Up) -> Answered {
@@ -324,7 +335,7 @@ impl Station {
                 commit,
             } => self.committed(transaction, commit),
             Down::Aborted { transaction, cause } => self.aborted(transaction, cause),
-            Down::Invalidate { pages } => self.invalidate(pages),
+            Down::Invalidate { objects } => self.invalidate(&objects),
         }
     }
 
@@ -378,6 +389,7 @@ impl Station {
 
     fn read_arrived(&mut self, message: &PageMessage) -> Answered {
         let value = message.values[object_of(message.address) as usize];
+        self.first_use(message.address);
         if let Some(transaction) = &mut self.open {
             transaction.out = None;
             transaction.reads.insert(message.address, value);
@@ -387,6 +399,7 @@ impl Station {
 
     fn write_arrived(&mut self, message: &PageMessage, value: u64) -> Answered {
         let page = page_of(message.address);
+        self.first_use(message.address);
         if let Some(transaction) = &mut self.open {
             transaction.out = None;
             transaction.writes.insert(message.address, value);
@@ -459,15 +472,19 @@ impl Station {
         }
     }
 
-    /// "On 21 written pages take the commit number as version."
+    /// "on 21 the written objects, no longer their pages, take the commit number"
     fn committed(&mut self, transaction: u32, commit: u32) -> Answered {
         match self.open_as(transaction) {
             Some(open) if open.out == Some(Out::Commit) => (),
             _ => return Err(Number::Unexpected),
         }
-        for page in rising(self.written_pages()) {
-            if let Some(copy) = &mut self.cached[page as usize] {
-                copy.version = commit;
+        let written: Vec<u8> = match &self.open {
+            Some(open) => open.writes.keys().copied().collect(),
+            None => Vec::new(),
+        };
+        for address in written {
+            if let Some(copy) = &mut self.cached[page_of(address) as usize] {
+                copy.versions[object_of(address) as usize] = commit;
             }
         }
         self.ended(Answer::Committed(commit))
@@ -483,11 +500,15 @@ impl Station {
         self.ended(Answer::Aborted(cause))
     }
 
-    /// "drop the pages; if the transaction used one and no commit is out, it ends as aborted, cause 2"
-    fn invalidate(&mut self, pages: PageSet) -> Answered {
-        self.drop_pages(pages);
+    /// "the station marks those objects unavailable, and its transaction, if no commit is out, ends if it used one"
+    fn invalidate(&mut self, objects: &Addresses) -> Answered {
+        for page in rising(objects.pages()) {
+            if let Some(copy) = &mut self.cached[page as usize] {
+                copy.unavailable |= objects.on(page);
+            }
+        }
         match &self.open {
-            Some(open) if open.used() & pages != 0 && open.out != Some(Out::Commit) => {
+            Some(open) if open.uses_any(objects) && open.out != Some(Out::Commit) => {
                 self.undo();
                 self.ended(Answer::Aborted(Cause::Version))
             }
@@ -508,6 +529,14 @@ impl Station {
                     copy.values[object_of(*address) as usize] = *value;
                 }
             }
+        }
+    }
+
+    /// As before document 02's wish 6, to measure what the wish changes: all objects of a page have the highest version on it.
+    pub fn versions_of_pages(&mut self) {
+        for page in self.cached.iter_mut().flatten() {
+            let version = page.versions.into_iter().max().unwrap_or(0);
+            page.versions = [version; OBJECTS];
         }
     }
 
@@ -575,12 +604,12 @@ impl Station {
         !self.kept.is_empty()
     }
 
-    /// The available objects of the pages cached, with their pages' versions.
+    /// The available objects of the pages cached, with their versions.
     pub fn copies(&self) -> impl Iterator<Item = (u8, u32, u64)> + '_ {
         (0..=u8::MAX).filter_map(|address| {
             let value = self.available(address)?;
             let page = self.cached[page_of(address) as usize].as_ref()?;
-            Some((address, page.version, value))
+            Some((address, page.versions[object_of(address) as usize], value))
         })
     }
 
@@ -598,11 +627,9 @@ impl Station {
         let used_are_cached = open.used() & !self.cached() == 0;
         match self.kind {
             Kind::Locking => used_are_cached && open.writes.keys().all(|a| open.may_write(*a)),
-            // reading 21: a 23 drops pages also with a commit out
             Kind::Validating => {
                 let locks = open.locked != Addresses::default() || open.locked_whole != 0;
-                let pages_stay = used_are_cached || open.out == Some(Out::Commit);
-                pages_stay && !locks && self.kept.is_empty()
+                used_are_cached && !locks && self.kept.is_empty()
             }
         }
     }

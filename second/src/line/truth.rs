@@ -2,7 +2,7 @@
 //! transaction saw and left exactly what its record says, and nobody else left a trace. Nothing of the steps is used.
 
 use super::owner::{Owner, Told};
-use super::sets::{page_of, ADDRESSES, PAGES, STATIONS};
+use super::sets::{ADDRESSES, STATIONS};
 use super::Kind;
 use crate::record::Record;
 use std::collections::{BTreeMap, HashMap};
@@ -14,7 +14,7 @@ pub struct Ended<'a> {
     pub owners: &'a [Owner; STATIONS],
     pub archive: &'a [Vec<u8>],
     pub values: &'a [u64; ADDRESSES],
-    pub versions: &'a [u32; PAGES],
+    pub versions: &'a [u32; ADDRESSES],
 }
 
 /// A transaction as its owner was told.
@@ -36,7 +36,7 @@ type Stories = HashMap<(u8, u32), Story>;
 /// The pages as the records so far leave them.
 struct Replay {
     values: [u64; ADDRESSES],
-    versions: [u32; PAGES],
+    versions: [u32; ADDRESSES],
     last: u32,
 }
 
@@ -48,7 +48,7 @@ pub fn check(ended: &Ended) -> Result<(), String> {
     }
     let mut replay = Replay {
         values: [0; ADDRESSES],
-        versions: [0; PAGES],
+        versions: [0; ADDRESSES],
         last: ended.started_after,
     };
     for bytes in ended.archive {
@@ -181,7 +181,7 @@ impl Replay {
         self.last = record.commit;
         for (address, value) in &record.writes {
             self.values[*address as usize] = *value;
-            self.versions[page_of(*address) as usize] = record.commit;
+            self.versions[*address as usize] = record.commit;
         }
     }
 

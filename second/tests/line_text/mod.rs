@@ -15,9 +15,10 @@ pub struct Message {
     pub number: u32,
     /// Page and its set; a single set is page 0's.
     pub sets: Vec<(u8, u8)>,
-    /// Object and its value.
+    /// Object and its value, and its version.
     pub values: Vec<(u8, u64)>,
-    /// Of a commit: page and version, then the record.
+    pub page_versions: Vec<(u8, u32)>,
+    /// Of a commit: entry and version, then the record.
     pub versions: Vec<(u8, u32)>,
     pub record: Option<Record>,
 }
@@ -39,6 +40,10 @@ fn little(bytes: &[u8]) -> u64 {
         .fold(0, |number, byte| number << 8 | u64::from(*byte))
 }
 
+fn words(bytes: &[u8]) -> impl Iterator<Item = u32> + '_ {
+    bytes.chunks(4).map(|word| little(word) as u32)
+}
+
 fn numbered<T: Default + PartialEq>(all: impl Iterator<Item = T>) -> Vec<(u8, T)> {
     (0..)
         .zip(all)
@@ -58,15 +63,20 @@ impl Message {
             number: little(&bytes[12..16]) as u32,
             sets: numbered(bytes[16..48].iter().copied()),
             values: numbered(bytes[48..112].chunks(8).map(little)),
+            page_versions: numbered(words(&bytes[112..144])),
             ..Message::default()
         };
         if message.kind != 3 {
-            assert_eq!(bytes.len(), 112);
+            assert_eq!(bytes.len(), 144);
             return message;
         }
+        // 4 bytes for each entry, then a record of 16 and 9 for each
+        let entries = (bytes.len() - 160) / 13;
+        assert_eq!(bytes.len(), 160 + 13 * entries);
+        let (versions, record) = bytes[144..].split_at(4 * entries);
         Message {
-            versions: numbered(bytes[112..240].chunks(4).map(|word| little(word) as u32)),
-            record: Some(Record::of(&bytes[240..])),
+            versions: numbered(words(versions)),
+            record: Some(Record::of(record)),
             ..message
         }
     }
@@ -288,7 +298,7 @@ pub fn written_set(station: u8, page: u8, transaction: u32, set: u8) -> Message 
     }
 }
 
-/// A 16, 17 or 18 of version 0 with nothing unavailable and all values 0.
+/// A 16, 17 or 18 with nothing unavailable, all versions and all values 0.
 pub fn page(kind: u8, station: u8, page: u8, object: u8, transaction: u32) -> Message {
     Message {
         kind,
@@ -297,9 +307,9 @@ pub fn page(kind: u8, station: u8, page: u8, object: u8, transaction: u32) -> Me
 }
 
 impl Message {
-    pub fn version(self, version: u32) -> Message {
+    pub fn page_versions(self, versions: &[(u8, u32)]) -> Message {
         Message {
-            number: version,
+            page_versions: versions.to_vec(),
             ..self
         }
     }
@@ -330,12 +340,15 @@ impl Message {
                 .iter()
                 .flat_map(|v| v.to_le_bytes()),
         );
+        bytes.extend(
+            spread::<u32, 8>(&self.page_versions)
+                .iter()
+                .flat_map(|v| v.to_le_bytes()),
+        );
         if let Some(record) = &self.record {
-            bytes.extend(
-                spread::<u32, 32>(&self.versions)
-                    .iter()
-                    .flat_map(|v| v.to_le_bytes()),
-            );
+            let entries = record.reads.len() + record.writes.len();
+            let versions = spread::<u32, 600>(&self.versions);
+            bytes.extend(versions[..entries].iter().flat_map(|v| v.to_le_bytes()));
             bytes.extend(record.bytes());
         }
         hex(&bytes)
@@ -387,9 +400,9 @@ pub fn aborted(station: u8, transaction: u32, cause: u8) -> Message {
     }
 }
 
-pub fn invalidate(station: u8, pages: u32) -> Message {
+pub fn invalidate(station: u8, sets: &[(u8, u8)]) -> Message {
     Message {
-        pages,
+        sets: sets.to_vec(),
         ..message(23, station)
     }
 }

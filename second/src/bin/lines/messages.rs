@@ -7,7 +7,7 @@ use second::line::damage;
 use second::line::message::{Commit, Up};
 use second::line::places::Place;
 use second::line::server::state::Field;
-use second::line::sets::{page_of, rising, PAGES, STATIONS};
+use second::line::sets::{page_of, PAGES, STATIONS};
 use second::line::spoil;
 use second::line::world::World;
 use second::line::LIMIT;
@@ -172,9 +172,8 @@ fn commit(random: &mut Random, state: &[u8], from: usize, transaction: u32) -> C
         kind: kind & 1,
     });
     if kind == 1 {
-        for page in rising(commit.used).map(usize::from) {
-            commit.versions[page] = Field::Version.word(state, page);
-        }
+        let current = |(address, _)| Field::Version.word(state, usize::from(address));
+        commit.versions = commit.versioned().map(current).collect();
     }
     commit
 }

@@ -6,7 +6,7 @@ use second::line::message::Up;
 use second::line::places::Place;
 use second::line::server::state::{Field, COUNTERS_END, LENGTH};
 use second::line::sets::{page_bit, Addresses};
-use second::line::sets::{OBJECTS, PAGES, STATIONS};
+use second::line::sets::{ADDRESSES, OBJECTS, PAGES, STATIONS};
 use second::line::spoil;
 use second::line::LIMIT;
 use second::random::Random;
@@ -185,12 +185,14 @@ fn enter(random: &mut Random, station: usize, state: &mut [u8]) {
     }
     let transaction = Field::Latest.word(state, station);
     Field::Work.put_word(state, station, transaction);
-    for page in 0..PAGES {
-        let changed = random.one_in(200);
-        let version = Field::Version
-            .word(state, page)
-            .wrapping_add(changed.into());
-        Field::SentVersion.put_word(state, PAGES * station + page, version);
+    for address in 0..ADDRESSES {
+        for field in [Field::ReadVersion, Field::WrittenVersion] {
+            let changed = random.one_in(200);
+            let version = Field::Version
+                .word(state, address)
+                .wrapping_add(changed.into());
+            field.put_word(state, ADDRESSES * station + address, version);
+        }
     }
 }
 
@@ -284,8 +286,9 @@ fn eight_installs(random: &mut Random) -> Vec<u8> {
     for station in 0..STATIONS {
         Field::WrittenSet.put_sets(&mut state, station, &most());
         Field::Listed.put_word(&mut state, station, u32::MAX);
-        for page in 0..PAGES {
-            Field::SentVersion.put_word(&mut state, PAGES * station + page, station as u32);
+        for place in (0..ADDRESSES).map(|address| ADDRESSES * station + address) {
+            Field::ReadVersion.put_word(&mut state, place, station as u32);
+            Field::WrittenVersion.put_word(&mut state, place, station as u32);
         }
     }
     state

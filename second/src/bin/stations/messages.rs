@@ -3,7 +3,7 @@
 use second::generate;
 use second::line::message::{Down, Grant, PageMessage};
 use second::line::places::Place;
-use second::line::sets::{page_bit, page_of, Addresses};
+use second::line::sets::{page_of, Addresses};
 use second::line::station::state::Field;
 use second::line::Cause;
 use second::random::Random;
@@ -35,7 +35,7 @@ pub fn fitting(random: &mut Random, state: &[u8]) -> Vec<u8> {
         },
         3 => Down::Page(page(random, state, transaction)),
         _ => Down::Invalidate {
-            pages: pages(random, state),
+            objects: objects(random, state),
         },
     };
     message.encode(station)
@@ -52,7 +52,7 @@ fn page(random: &mut Random, state: &[u8], transaction: u32) -> PageMessage {
         },
         address: Field::Address.byte(state),
         transaction,
-        version: random.number() as u32 & random.pick(&[0, 3, u32::MAX]),
+        versions: array::from_fn(|_| random.number() as u32 & random.pick(&[0, 3, u32::MAX])),
         unavailable: random.byte() & random.byte(),
         values: array::from_fn(|_| generate::value(random)),
     }
@@ -81,17 +81,4 @@ fn objects(random: &mut Random, state: &[u8]) -> Addresses {
         2 => Addresses::default(),
         many => (0..many).map(|_| some_object(random, state)).collect(),
     }
-}
-
-fn pages(random: &mut Random, state: &[u8]) -> u32 {
-    let one = page_bit(page_of(some_object(random, state)));
-    let any = random.number() as u32;
-    random.pick(&[
-        one,
-        one,
-        any,
-        any & Field::Cached.word(state, 0),
-        0,
-        u32::MAX,
-    ])
 }

@@ -1,6 +1,6 @@
 //! States for damaged cases: real ones changed, and random ones.
 
-use second::line::little::LONG;
+use second::line::little::{LONG, WORD};
 use second::line::places::Place;
 use second::line::sets::{object_bit, page_bit, page_of, rising, Addresses};
 use second::line::sets::{OBJECTS, PAGES, STATIONS};
@@ -133,7 +133,8 @@ fn cache_only(pages: u32, state: &mut [u8]) {
         let values = Field::Copy.start() + LONG * OBJECTS * page;
         state[values..values + LONG * OBJECTS].fill(0);
         state[Field::Unavailable.start() + page] = 0;
-        Field::Version.put_word(state, page, 0);
+        let versions = Field::Version.start() + WORD * OBJECTS * page;
+        state[versions..versions + WORD * OBJECTS].fill(0);
     }
 }
 

@@ -87,7 +87,7 @@ impl Tallies {
         let states = SORTS.map(|sort| (self.decoding.has(&sort), format!("states: {sort}")));
         let most = [
             (self.most_messages == 8, String::from("8 messages")),
-            (self.longest_commit == 1_120, String::from("1,120 bytes")),
+            (self.longest_commit == 1_408, String::from("1,408 bytes")),
         ];
         let all = owners.into_iter().chain(steps).chain(checks);
         let mut all = all.chain(kinds).chain(told).chain(states).chain(most);

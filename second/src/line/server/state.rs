@@ -25,7 +25,7 @@ impl Field {
 /// "below 2^63"
 pub const COUNTERS_END: u64 = 1 << 63;
 
-/// Not number 1: "the length is not 37,080; a field is out of the range above; beside a whole lock an object of the page
+/// Not number 1: "the length is not 53,336; a field is out of the range above; beside a whole lock an object of the page
 /// is locked by another; two stations whose transactions are unfinished or that keep their age have one age; or two
 /// waiting stations have one arrival".
 #[inline]
@@ -163,7 +163,7 @@ pub fn decode(bytes: &[u8]) -> Option<Server> {
         kinds,
         last: Field::Last.word(bytes, 0),
         values: array::from_fn(|address| Field::Value.long(bytes, address)),
-        versions: array::from_fn(|page| Field::Version.word(bytes, page)),
+        versions: array::from_fn(|address| Field::Version.word(bytes, address)),
         seen: array::from_fn(|station| seen(bytes, station)),
         next_age: Field::NextAge.long(bytes, 0),
         next_arrival: Field::NextArrival.long(bytes, 0),
@@ -231,9 +231,17 @@ fn waiter(bytes: &[u8], station: usize, kind: Kind) -> Waiter {
 fn commit(bytes: &[u8], station: usize, kind: Kind) -> Commit {
     let reads = values(bytes, station, Field::ReadSet, Field::ReadValue);
     let writes = values(bytes, station, Field::WrittenSet, Field::WrittenValue);
+    let version = |field: Field, entries: &[(u8, u64)]| -> Vec<u32> {
+        let of = |(address, _): &(u8, u64)| field.word(bytes, place(station, *address));
+        entries.iter().map(of).collect()
+    };
     Commit {
         used: pages_of(reads.iter().chain(&writes).map(|(address, _)| *address)),
-        versions: array::from_fn(|page| Field::SentVersion.word(bytes, PAGES * station + page)),
+        versions: [
+            version(Field::ReadVersion, &reads),
+            version(Field::WrittenVersion, &writes),
+        ]
+        .concat(),
         record: Record {
             reads,
             writes,
@@ -245,10 +253,15 @@ fn commit(bytes: &[u8], station: usize, kind: Kind) -> Commit {
     }
 }
 
+/// Which of a field's by station and address.
+fn place(station: usize, address: u8) -> usize {
+    ADDRESSES * station + usize::from(address)
+}
+
 /// The values that stand for the members of a station's set.
 fn values(bytes: &[u8], station: usize, set: Field, value: Field) -> Vec<(u8, u64)> {
     let set = set.sets(bytes, station);
-    let value_of = |address: u8| value.long(bytes, ADDRESSES * station + usize::from(address));
+    let value_of = |address: u8| value.long(bytes, place(station, address));
     (0..=u8::MAX)
         .filter(|address| set.has(*address))
         .map(|address| (address, value_of(address)))
@@ -298,8 +311,8 @@ pub fn lay(server: &Server, bytes: &mut [u8]) {
     for (address, value) in server.values.into_iter().enumerate() {
         Field::Value.put_long(bytes, address, value);
     }
-    for (page, version) in server.versions.into_iter().enumerate() {
-        Field::Version.put_word(bytes, page, version);
+    for (address, version) in server.versions.into_iter().enumerate() {
+        Field::Version.put_word(bytes, address, version);
     }
     lay_locks(server, bytes);
     for station in 0..STATIONS {
@@ -368,7 +381,7 @@ fn lay_entry(station: usize, waiter: Option<&Waiter>, bytes: &mut [u8]) {
     }
 }
 
-/// A commit's own: "work", "sent versions" and the values. Its sets stand in the entry.
+/// A commit's own: "work", the versions and the values. Its sets stand in the entry.
 fn lay_commit(commit: &Commit, bytes: &mut [u8]) {
     let Record {
         reads,
@@ -379,12 +392,14 @@ fn lay_commit(commit: &Commit, bytes: &mut [u8]) {
     } = &commit.record;
     let station = usize::from(*station);
     Field::Work.put_word(bytes, station, *transaction);
-    for (page, version) in commit.versions.into_iter().enumerate() {
-        Field::SentVersion.put_word(bytes, PAGES * station + page, version);
-    }
-    for (entries, field) in [(reads, Field::ReadValue), (writes, Field::WrittenValue)] {
-        for (address, value) in entries {
-            field.put_long(bytes, ADDRESSES * station + usize::from(*address), *value);
+    let mut versions = commit.versions.iter();
+    for (entries, value_field, version_field) in [
+        (reads, Field::ReadValue, Field::ReadVersion),
+        (writes, Field::WrittenValue, Field::WrittenVersion),
+    ] {
+        for ((address, value), version) in entries.iter().zip(versions.by_ref()) {
+            value_field.put_long(bytes, place(station, *address), *value);
+            version_field.put_word(bytes, place(station, *address), *version);
         }
     }
 }

@@ -22,7 +22,7 @@ impl Field {
     pub const OF_COPIES: [Field; 3] = [Field::Copy, Field::Version, Field::Unavailable];
 }
 
-/// Not number 1: "the length is not 6,713, a field is out of the range above ..., or a callback from the station itself
+/// Not number 1: "the length is not 8,633, a field is out of the range above ..., or a callback from the station itself
 /// is kept".
 #[inline]
 pub fn valid(bytes: &[u8]) -> bool {
@@ -102,7 +102,7 @@ pub fn decode(bytes: &[u8]) -> Option<Station> {
 }
 
 /// What the bytes say beside copies that a `Station` cannot hold: a call on it tells and sends the right thing, and
-/// leaves the right bytes but for `Field::OF_COPIES`. None also for a used page whose version stands with no copy.
+/// leaves the right bytes but for `Field::OF_COPIES`. None also for a locked page whose versions stand with no copy.
 pub fn near(bytes: &[u8]) -> Option<Station> {
     if !valid(bytes) {
         return None;
@@ -144,11 +144,11 @@ fn locked_pages_are_cached(station: &Station) -> bool {
     (locked.pages() | whole) & !station.cached() == 0
 }
 
-/// A validating commit has the versions of its cached pages only.
+/// A write under a lock keeps the version of the copy, and a `Station` without the copy has none.
 fn versions_are_cached(station: &Station, bytes: &[u8]) -> bool {
-    let mut beside = rising(station.used() & !station.cached());
-    let has_none = |page: u8| Field::Version.word(bytes, page.into()) == 0;
-    station.kind == Kind::Locking || beside.all(has_none)
+    let (locked, whole) = station.locks();
+    let mut beside = rising((locked.pages() | whole) & !station.cached());
+    beside.all(|number| page(bytes, number).versions == [0; OBJECTS])
 }
 
 /// The open transaction.
@@ -156,6 +156,7 @@ fn transaction(bytes: &[u8]) -> Transaction {
     Transaction {
         reads: values(bytes, Field::ReadSet, Field::ReadValue),
         writes: values(bytes, Field::WrittenSet, Field::WrittenValue),
+        seen: seen(bytes),
         locked: Field::Locks.sets(bytes, 0),
         locked_whole: Field::Whole.word(bytes, 0),
         out: out(bytes),
@@ -168,6 +169,17 @@ fn values(bytes: &[u8], set: Field, value: Field) -> BTreeMap<u8, u64> {
     (0..=u8::MAX)
         .filter(|address| set.has(*address))
         .map(|address| (address, value.long(bytes, address.into())))
+        .collect()
+}
+
+/// The versions that stand for what was read or written.
+fn seen(bytes: &[u8]) -> BTreeMap<u8, u32> {
+    let used = Field::ReadSet
+        .sets(bytes, 0)
+        .with(&Field::WrittenSet.sets(bytes, 0));
+    (0..=u8::MAX)
+        .filter(|address| used.has(*address))
+        .map(|address| (address, Field::Seen.word(bytes, address.into())))
         .collect()
 }
 
@@ -191,7 +203,9 @@ fn cached(bytes: &[u8]) -> [Option<Page>; PAGES] {
 
 fn page(bytes: &[u8], number: u8) -> Page {
     Page {
-        version: Field::Version.word(bytes, number.into()),
+        versions: array::from_fn(|object| {
+            Field::Version.word(bytes, address(number, object as u8).into())
+        }),
         unavailable: Field::Unavailable.sets(bytes, 0).on(number),
         values: array::from_fn(|object| {
             Field::Copy.long(bytes, address(number, object as u8).into())
@@ -231,7 +245,7 @@ pub fn lay(station: &Station, bytes: &mut [u8]) {
     Field::Cached.put_word(bytes, 0, station.cached());
     let nothing = Page::default();
     for (number, page) in (0..).zip(&station.cached) {
-        // "A dropped page leaves nothing: its version, values and unavailable set become 0."
+        // "A dropped page leaves nothing: its versions, values and unavailable set become 0."
         lay_page(number, page.as_ref().unwrap_or(&nothing), bytes);
     }
     lay_kept(&station.kept, bytes);
@@ -241,6 +255,9 @@ fn lay_transaction(transaction: &Transaction, bytes: &mut [u8]) {
     lay_values(&transaction.reads, Field::ReadSet, Field::ReadValue, bytes);
     let writes = &transaction.writes;
     lay_values(writes, Field::WrittenSet, Field::WrittenValue, bytes);
+    for (address, version) in &transaction.seen {
+        Field::Seen.put_word(bytes, (*address).into(), *version);
+    }
     Field::Locks.put_sets(bytes, 0, &transaction.locked);
     Field::Whole.put_word(bytes, 0, transaction.locked_whole);
     lay_out(transaction.out.as_ref(), bytes);
@@ -271,7 +288,9 @@ fn lay_out(out: Option<&Out>, bytes: &mut [u8]) {
 }
 
 fn lay_page(number: u8, page: &Page, bytes: &mut [u8]) {
-    Field::Version.put_word(bytes, number.into(), page.version);
+    for (object, version) in page.versions.into_iter().enumerate() {
+        Field::Version.put_word(bytes, OBJECTS * usize::from(number) + object, version);
+    }
     bytes[Field::Unavailable.start() + usize::from(number)] = page.unavailable;
     for (object, value) in page.values.into_iter().enumerate() {
         Field::Copy.put_long(bytes, OBJECTS * usize::from(number) + object, value);
