@@ -11,7 +11,6 @@ ghost use Rattle.server_actions.specs.Posting.{from as Posting·from, posted, p
 ghost use Rattle.server_accept.specs.Facts.{LastKept, Packed, Acceptable};
 use server_actions::Counts;
 use server_state::KIND;
-use server_state::LAST;
 
 fn station(m: &[u8]) -> usize
     requires { ⌜ messageLength ≤ length (now m) ⌝ }
@@ -79,7 +78,7 @@ fn commit_now(s: &mut [u8], o: &mut [u8], q: &mut [u8], c: Counts, m: &[u8], i: 
     requires { ⌜ (length (now s) ≡ serverLength) × Packed (now m) × (i < 8) × LastKept i (now m) (now s) × Room (now o) (now q) c (commitNowB i (now m) (Posting·from (now s))) ⌝ }
     ensures { λ r. ⌜ posted (now (s .exit)) (now (o .exit)) (now (q .exit)) r ≡ post (now (o .entry)) (now (q .entry)) c (commitNowB i (now (m .entry)) (Posting·from (now (s .entry)))) ⌝ }
 {
-    if le::get_u32(s, LAST) == 4294967295 {
+    if server_state::last(s) == 4294967295 {
         return server_actions::abort(s, o, q, c, i, 4);
     }
     server_changes::leave(s, i);

@@ -12,8 +12,6 @@ ghost use Rattle.server_actions.specs.Parts.{installedB};
 ghost use Rattle.server_actions.specs.Informs.{informOneB};
 use message::LENGTH as MESSAGE;
 use server_state::KIND;
-use server_state::LAST;
-use server_state::LATEST;
 use server_state::PAGE_ROW;
 use server_state::PAGE_VERSION_ROW;
 use server_state::READ_SET;
@@ -60,7 +58,7 @@ fn put_page(o: &mut [u8], at: usize, s: &[u8], kind: u8, i: usize, a: usize, u: 
     ensures { λ _. ⌜ now (o .exit) ≡ sets (now (o .entry)) at (pageB kind i a u (now (s .entry))) ⌝ }
 {
     let p = a / 8;
-    let t = le::get_u32(s, LATEST + i * NUMBER_WIDTH);
+    let t = server_state::latest(s, i);
     message::put_message(o, at, kind, i as u8, p as u8, (a % 8) as u8, t, 0, 0);
     le::put_u8(o, at + message::SETS, u);
     copy_in(o, at + message::VALUES, s, VALUE + p * PAGE_ROW, PAGE_ROW);
@@ -78,7 +76,7 @@ pub fn put_callback(o: &mut [u8], at: usize, s: &[u8], j: usize, i: usize)
     requires { ⌜ (length (now s) ≡ serverLength) × (j < 8) × (i < 8) × (at + messageLength ≤ length (now o)) ⌝ }
     ensures { λ _. ⌜ now (o .exit) ≡ sets (now (o .entry)) at (callbackB j i (now (s .entry))) ⌝ }
 {
-    let t = le::get_u32(s, LATEST + i * NUMBER_WIDTH);
+    let t = server_state::latest(s, i);
     message::put_message(o, at, 20, j as u8, i as u8, 0, t, 0, 0);
     copy_in(o, at + message::SETS, s, WRITTEN_SET + i * SET_ROW, SET_ROW);
 }
@@ -109,7 +107,7 @@ pub fn abort(s: &mut [u8], o: &mut [u8], q: &mut [u8], c: Counts, i: usize, caus
 {
     server_changes::leave(s, i);
     server_changes::finish(s, i, server_changes::keeps_age(cause));
-    let t = le::get_u32(s, LATEST + i * NUMBER_WIDTH);
+    let t = server_state::latest(s, i);
     message::put_message(o, c.messages * MESSAGE, 22, i as u8, 0, cause, t, 0, 0);
     one_more(c)
 }
@@ -156,7 +154,7 @@ fn archive(s: &[u8], q: &mut [u8], c: Counts, i: usize) -> Counts
     requires { ⌜ (length (now s) ≡ serverLength) × (i < 8) × (c .records + length (recordB i (now s)) ≤ length (now q)) ⌝ }
     ensures { λ r. ⌜ (now (q .exit) ≡ sets (now (q .entry)) (c .records) (recordB i (now (s .entry)))) × (r ≡ counts (c .messages) (c .records + length (recordB i (now (s .entry))))) ⌝ }
 {
-    let n = le::get_u32(s, LAST);
+    let n = server_state::last(s);
     let t = le::get_u32(s, WORK + i * NUMBER_WIDTH);
     let kind = le::wide(s[KIND + i]);
     let k = set_record::put_record(
@@ -188,7 +186,7 @@ fn put_installed(s: &mut [u8], o: &mut [u8], q: &mut [u8], c: Counts, i: usize) 
     let e = archive(s, q, c, i);
     server_changes::leave(s, i);
     server_changes::finish(s, i, 0);
-    let n = le::get_u32(s, LAST);
+    let n = server_state::last(s);
     message::put_message(o, e.messages * MESSAGE, 21, i as u8, 0, 0, t, 0, n);
     one_more(e)
 }

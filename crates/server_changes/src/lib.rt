@@ -82,7 +82,7 @@ pub fn notice(s: &mut [u8], i: usize, t: u32)
     requires { ⌜ (length (now s) ≡ serverLength) × (i < 8) × (agesOf (now s) < counterLimit) ⌝ }
     ensures { λ _. ⌜ now (s .exit) ≡ noticeB i t (now (s .entry)) ⌝ }
 {
-    if t == le::get_u32(s, LATEST + i * NUMBER_WIDTH) {
+    if t == server_state::latest(s, i) {
         return;
     }
     age(s, i);
@@ -413,7 +413,7 @@ pub fn write(s: &mut [u8], i: usize)
     requires { ⌜ (length (now s) ≡ serverLength) × (i < 8) × (lastOf (now s) < 4294967295) ⌝ }
     ensures { λ _. ⌜ now (s .exit) ≡ writeB i (now (s .entry)) ⌝ }
 {
-    let n = le::get_u32(s, LAST) + 1;
+    let n = server_state::last(s) + 1;
     le::put_u32(s, LAST, n);
     values(s, i, n);
 }

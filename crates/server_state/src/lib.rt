@@ -3,7 +3,7 @@ ghost use mathlib.Core.Path.{_≡_};
 ghost use Prim.Native.Nat.{_+_, _≤_, _<_};
 ghost use lib.ListN.{length, replicate};
 ghost use Rattle.lists.specs.Tests.{allTo};
-ghost use Rattle.server_state.specs.Layout.{serverLength, otherB};
+ghost use Rattle.server_state.specs.Layout.{serverLength, latestOf, arrivalOf, lastOf, askedOf, otherB};
 ghost use Rattle.server_state.specs.Valid.{mostAt, most as Valid·most, rangesOk, countersOk, wordOf, onlyIn, blankOk, fewOk, commitOk, requestOk, waiterOk, entryOk, owesAt, callsOk, agedOk, stationOk, holderOk, holderAt, besideAt, pageOk, askedAt, apartAt, apartOk, valid as Valid·valid, kindsOk, kindsTo, freshened, freshOf, ageless};
 ghost use Rattle.server_state.specs.Eights.{groupFree, groupOk};
 ghost use Rattle.server_state.specs.Ages.{agedOf};
@@ -83,6 +83,38 @@ pub const LENGTH: usize = AGE_KEPT + 8;
 
 // "each transaction gets a new age, 2^63 being out of range": of ages and arrivals.
 pub const COUNTER_LIMIT: u64 = 9223372036854775808;
+
+// Fields that are read in many places. The latest transaction of station i.
+pub fn latest(s: &[u8], i: usize) -> u32
+    requires { ⌜ (length (now s) ≡ serverLength) × (i < 8) ⌝ }
+    ensures { λ r. ⌜ r ≡ latestOf (now (s .entry)) i ⌝ }
+{
+    le::get_u32(s, LATEST + i * NUMBER_WIDTH)
+}
+
+// When station i's waiting entry arrived.
+pub fn arrival(s: &[u8], i: usize) -> u64
+    requires { ⌜ (length (now s) ≡ serverLength) × (i < 8) ⌝ }
+    ensures { λ r. ⌜ r ≡ arrivalOf (now (s .entry)) i ⌝ }
+{
+    le::get_u64(s, ARRIVAL + i * AGE_WIDTH)
+}
+
+// The last commit number.
+pub fn last(s: &[u8]) -> u32
+    requires { ⌜ length (now s) ≡ serverLength ⌝ }
+    ensures { λ r. ⌜ r ≡ lastOf (now (s .entry)) ⌝ }
+{
+    le::get_u32(s, LAST)
+}
+
+// The pages whose 19 is out.
+pub fn asked(s: &[u8]) -> u32
+    requires { ⌜ length (now s) ≡ serverLength ⌝ }
+    ensures { λ r. ⌜ r ≡ askedOf (now (s .entry)) ⌝ }
+{
+    le::get_u32(s, ASKED)
+}
 
 // Whether the holder h is a station other than i.
 pub fn other(h: u8, i: usize) -> bool

@@ -10,12 +10,7 @@ ghost use Rattle.server_tests.specs.Kinds.{ForServer};
 ghost use Rattle.server_tests.specs.Tests.{lockAtB, lockOnB, badNumberB, unlockedAt, unlockedB, dropsLockedB, dropsOwnB, unexpectedB, openCallB, openAskB, otherVersion, staleAtB, staleOnB, staleB, lockedAtB, lockedOnB, lockedB, faultB, earlierB, shutB, shutOutB, unavailableAt, unavailableB};
 ghost use Rattle.server_tests.specs.Shorter.{writtenBy};
 ghost use Rattle.server_tests.specs.Blockers.{joinTo, meetOn, meetSet, aheadB, aheadSet, holderAt, holdersOn, holderSet, blockersB};
-use server_state::AGE_WIDTH;
-use server_state::ARRIVAL;
-use server_state::ASKED;
 use server_state::KIND;
-use server_state::LAST;
-use server_state::LATEST;
 use server_state::LOCK;
 use server_state::PEND;
 use server_state::READ_SET;
@@ -87,7 +82,7 @@ fn bad_number(s: &[u8], i: usize, t: u32) -> bool
     requires { ⌜ (length (now s) ≡ serverLength) × (i < 8) ⌝ }
     ensures { λ r. ⌜ r ≡ badNumberB (now (s .entry)) i t ⌝ }
 {
-    let n = le::get_u32(s, LATEST + i * NUMBER_WIDTH);
+    let n = server_state::latest(s, i);
     let over = s[UNFINISHED + i] == 0;
     (t < n) | ((t == n) & over) | ((n < t) & !over & (s[KIND + i] == 0)) | (s[WANT + i] != 0)
 }
@@ -169,9 +164,7 @@ pub fn open_call(s: &[u8], i: usize, r: usize, t: u32) -> bool
     requires { ⌜ (length (now s) ≡ serverLength) × (i < 8) × (r < 8) ⌝ }
     ensures { λ x. ⌜ x ≡ openCallB (now (s .entry)) i r t ⌝ }
 {
-    (s[WANT + r] != 0)
-        & (t == le::get_u32(s, LATEST + r * NUMBER_WIDTH))
-        & station_state::has_bit8(s[PEND + r], i)
+    (s[WANT + r] != 0) & (t == server_state::latest(s, r)) & station_state::has_bit8(s[PEND + r], i)
 }
 
 // Whether i owes an 8 for page p and transaction t.
@@ -180,9 +173,9 @@ pub fn open_ask(s: &[u8], i: usize, p: usize, t: u32) -> bool
     ensures { λ r. ⌜ r ≡ openAskB (now (s .entry)) i p t ⌝ }
 {
     (byte(s, WHOLE + p) == i + 1)
-        & station_state::has_bit32(le::get_u32(s, ASKED), p)
+        & station_state::has_bit32(server_state::asked(s), p)
         & (s[UNFINISHED + i] != 0)
-        & (t == le::get_u32(s, LATEST + i * NUMBER_WIDTH))
+        & (t == server_state::latest(s, i))
 }
 
 // Whether the version that came for object o of page p, among those from `from`, is another than the object's.
@@ -279,7 +272,7 @@ pub fn fault(s: &[u8], i: usize) -> u8
     requires { ⌜ (length (now s) ≡ serverLength) × (i < 8) ⌝ }
     ensures { λ r. ⌜ r ≡ faultB (now (s .entry)) i ⌝ }
 {
-    if le::get_u32(s, LAST) == 4294967295 {
+    if server_state::last(s) == 4294967295 {
         return 4;
     }
     if stale(s, i) {
@@ -296,8 +289,7 @@ fn earlier(s: &[u8], j: usize, i: usize) -> bool
     requires { ⌜ (length (now s) ≡ serverLength) × (j < 8) × (i < 8) ⌝ }
     ensures { λ r. ⌜ r ≡ earlierB (now (s .entry)) j i ⌝ }
 {
-    (s[WANT + j] != 0)
-        & (le::get_u64(s, ARRIVAL + j * AGE_WIDTH) < le::get_u64(s, ARRIVAL + i * AGE_WIDTH))
+    (s[WANT + j] != 0) & (server_state::arrival(s, j) < server_state::arrival(s, i))
 }
 
 // The objects of page p that i and j want and one of the two writes.

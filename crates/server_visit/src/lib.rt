@@ -14,13 +14,10 @@ ghost use Rattle.server_actions.specs.Pass.{askB, askTo, serveReadB, callOneB, 
 ghost use Rattle.server_visit.specs.Visits.{Held, visitCommitB};
 use message::LENGTH as MESSAGE;
 use server_actions::Counts;
-use server_state::ASKED;
 use server_state::CALLED;
-use server_state::LATEST;
 use server_state::REQUEST;
 use server_state::WANT;
 use server_state::WHOLE;
-use station_state::NUMBER_WIDTH;
 
 // The address that i's entry requests.
 fn request(s: &[u8], i: usize) -> usize
@@ -35,7 +32,7 @@ fn ask_due(s: &[u8], i: usize, p: usize) -> bool
     requires { ⌜ (length (now s) ≡ serverLength) × (i < 8) × (p < 32) ⌝ }
     ensures { λ r. ⌜ r ≡ (shutB (now (s .entry)) i p && not (hasBit (askedOf (now (s .entry))) p)) ⌝ }
 {
-    server_tests::shut(s, i, p) & !station_state::has_bit32(le::get_u32(s, ASKED), p)
+    server_tests::shut(s, i, p) & !station_state::has_bit32(server_state::asked(s), p)
 }
 
 // The station that has locked page p whole.
@@ -53,7 +50,7 @@ fn ask(s: &mut [u8], o: &mut [u8], q: &mut [u8], c: Counts, i: usize, p: usize) 
 {
     if ask_due(s, i, p) {
         let h = whole_holder(s, p);
-        let t = le::get_u32(s, LATEST + h * NUMBER_WIDTH);
+        let t = server_state::latest(s, h);
         message::put_message(o, c.messages * MESSAGE, 19, h as u8, p as u8, 0, t, 0, 0);
         server_changes::asked(s, p);
         return server_actions::one_more(c);

@@ -13,14 +13,8 @@ keeps-age-requires c κs = search needs
 finish-requires : tie.Need-finish-requires
 finish-requires c κs = search needs
 
-mul-get-u32 : tie.Need-mul-get-u32
-mul-get-u32 c = search needs
-
-add-get-u32 : tie.Need-add-get-u32
-add-get-u32 c = search needs
-
-get-u32-requires : tie.Need-get-u32-requires
-get-u32-requires c κs = search needs
+latest-requires : tie.Need-latest-requires
+latest-requires c κs = search needs
 
 mul-put-message : tie.Need-mul-put-message
 mul-put-message c = search needs
@@ -41,7 +35,7 @@ same-length-2 : tie.Need-same-length-2
 same-length-2 c = search needs
 
 returns : tie.Need-returns
-returns c = abort-chain _ _ _ _ _ _ (c .before .before .before .before .before .before .before .before .before .before .before .before .before .before .before .leave .ensures) (c .before .before .before .before .before .before .before .before .before .before .before .keeps-age .ensures) (c .before .before .before .before .before .before .before .before .before .before .finish .ensures) (c .before .before .before .before .before .before .get-u32 .ensures) (c .before .before .before .put-message .ensures) (c .one-more .ensures)
+returns c = abort-chain _ _ _ _ _ _ (c .before .before .before .before .before .before .before .before .before .before .before .before .before .before .before .leave .ensures) (c .before .before .before .before .before .before .before .before .before .before .before .keeps-age .ensures) (c .before .before .before .before .before .before .before .before .before .before .finish .ensures) (c .before .before .before .before .before .before .latest .ensures) (c .before .before .before .put-message .ensures) (c .one-more .ensures)
 
 pub abort-spec : {M : Type 1} → statement M
 abort-spec =
@@ -50,9 +44,7 @@ abort-spec =
     leave-requires
     keeps-age-requires
     finish-requires
-    mul-get-u32
-    add-get-u32
-    get-u32-requires
+    latest-requires
     mul-put-message
     cast-put-message
     put-message-requires

@@ -4,8 +4,8 @@ use borrow.Author.Needs.{needs}
 use Rattle.server_actions.proofs.archive.Statement.{statement}
 use Rattle.server_actions.proofs.archive.Tie as tie
 
-get-u32-requires : tie.Need-get-u32-requires
-get-u32-requires c κs = search needs
+last-requires : tie.Need-last-requires
+last-requires c κs = search needs
 
 mul-get-u32 : tie.Need-mul-get-u32
 mul-get-u32 c = search needs
@@ -13,8 +13,8 @@ mul-get-u32 c = search needs
 add-get-u32 : tie.Need-add-get-u32
 add-get-u32 c = search needs
 
-get-u32-requires-2 : tie.Need-get-u32-requires-2
-get-u32-requires-2 c κs = search needs
+get-u32-requires : tie.Need-get-u32-requires
+get-u32-requires c κs = search needs
 
 add-wide : tie.Need-add-wide
 add-wide c = search needs
@@ -53,7 +53,7 @@ cast-put-record : tie.Need-cast-put-record
 cast-put-record c = search needs
 
 put-record-requires : tie.Need-put-record-requires
-put-record-requires c κs = (search needs, search needs, search needs, search needs, archive-room _ _ _ _ (c .before .before .before .before .get-u32 .ensures) (c .before .before .before .get-u322 .ensures) (c .before .wide .ensures .0) (c .before .before .before .before .before .before .before .pre .2), search needs, search needs)
+put-record-requires c κs = (search needs, search needs, search needs, search needs, archive-room _ _ _ _ (c .before .before .before .before .last .ensures) (c .before .before .before .get-u32 .ensures) (c .before .wide .ensures .0) (c .before .before .before .before .before .before .before .pre .2), search needs, search needs)
 
 add-t10 : tie.Need-add-t10
 add-t10 c = search needs
@@ -62,16 +62,16 @@ same-length : tie.Need-same-length
 same-length c = search needs
 
 returns : tie.Need-returns
-returns c = archive-chain _ _ _ _ (c .before .before .before .before .before .before .before .before .get-u32 .ensures) (c .before .before .before .before .before .before .before .get-u322 .ensures) (c .before .before .before .before .before .wide .ensures .0) (c .before .before .before .put-record .ensures .0)
+returns c = archive-chain _ _ _ _ (c .before .before .before .before .before .before .before .before .last .ensures) (c .before .before .before .before .before .before .before .get-u32 .ensures) (c .before .before .before .before .before .wide .ensures .0) (c .before .before .before .put-record .ensures .0)
 
 pub archive-spec : {M : Type 1} → statement M
 archive-spec =
     tie.close
     (tie.spec
-    get-u32-requires
+    last-requires
     mul-get-u32
     add-get-u32
-    get-u32-requires-2
+    get-u32-requires
     add-wide
     shared-slice-read-wide
     wide-requires

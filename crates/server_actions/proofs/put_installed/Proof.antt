@@ -31,8 +31,8 @@ leave-requires c κs = search needs
 finish-requires : tie.Need-finish-requires
 finish-requires c κs = search needs
 
-get-u32-requires-2 : tie.Need-get-u32-requires-2
-get-u32-requires-2 c κs = search needs
+last-requires : tie.Need-last-requires
+last-requires c κs = search needs
 
 mul-put-message : tie.Need-mul-put-message
 mul-put-message c = let h = installed-fits _ _ _ _ _ (c .before .before .before .before .before .before .before .before .before .before .before .before .before .before .before .before .before .before .before .before .before .before .before .before .before .before .pre .3) .0 in let k = ap (λ p. p .messages) (c .before .before .before .before .before .before .before .before .before .before .before .before .before .before .archive .ensures .1) in omega (arith, h, k)
@@ -56,7 +56,7 @@ same-length-3 : tie.Need-same-length-3
 same-length-3 c = search needs
 
 returns : tie.Need-returns
-returns c = installed-chain _ _ _ _ _ (c .before .before .before .before .before .before .before .before .before .before .before .before .before .before .before .before .before .before .before .before .before .before .before .before .before .get-u32 .ensures) (c .before .before .before .before .before .before .before .before .before .before .before .before .before .before .before .before .before .before .before .before .before .before .before .write .ensures) (c .before .before .before .before .before .before .before .before .before .before .before .before .before .before .before .before .before .before .archive .ensures) (c .before .before .before .before .before .before .before .before .before .before .before .before .before .before .leave .ensures) (c .before .before .before .before .before .before .before .before .before .before .finish .ensures) (c .before .before .before .before .before .before .get-u322 .ensures) (c .before .before .before .put-message .ensures) (c .one-more .ensures)
+returns c = installed-chain _ _ _ _ _ (c .before .before .before .before .before .before .before .before .before .before .before .before .before .before .before .before .before .before .before .before .before .before .before .before .before .get-u32 .ensures) (c .before .before .before .before .before .before .before .before .before .before .before .before .before .before .before .before .before .before .before .before .before .before .before .write .ensures) (c .before .before .before .before .before .before .before .before .before .before .before .before .before .before .before .before .before .before .archive .ensures) (c .before .before .before .before .before .before .before .before .before .before .before .before .before .before .leave .ensures) (c .before .before .before .before .before .before .before .before .before .before .finish .ensures) (c .before .before .before .before .before .before .last .ensures) (c .before .before .before .put-message .ensures) (c .one-more .ensures)
 
 pub put-installed-spec : {M : Type 1} → statement M
 put-installed-spec =
@@ -69,7 +69,7 @@ put-installed-spec =
     archive-requires
     leave-requires
     finish-requires
-    get-u32-requires-2
+    last-requires
     mul-put-message
     cast-put-message
     put-message-requires

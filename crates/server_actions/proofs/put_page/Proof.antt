@@ -4,14 +4,8 @@ use borrow.Author.Needs.{needs}
 use Rattle.server_actions.proofs.put_page.Statement.{statement}
 use Rattle.server_actions.proofs.put_page.Tie as tie
 
-mul-get-u32 : tie.Need-mul-get-u32
-mul-get-u32 c = search needs
-
-add-get-u32 : tie.Need-add-get-u32
-add-get-u32 c = search needs
-
-get-u32-requires : tie.Need-get-u32-requires
-get-u32-requires c κs = search needs
+latest-requires : tie.Need-latest-requires
+latest-requires c κs = search needs
 
 cast-put-message : tie.Need-cast-put-message
 cast-put-message c = search needs
@@ -59,15 +53,13 @@ same-length : tie.Need-same-length
 same-length c = search needs
 
 returns : tie.Need-returns
-returns c = page-put _ _ _ (c .before .before .before .before .before .before .before .before .before .before .before .before .before .before .before .before .before .before .before .pre .0) _ _ _ _ (c .before .before .before .before .before .before .before .before .before .before .before .before .before .before .before .before .before .before .before .pre .2) (c .before .before .before .before .before .before .before .before .before .before .before .before .before .before .before .before .get-u32 .ensures) (c .before .before .before .before .before .before .before .before .before .before .before .before .before .before .put-message .ensures) (c .before .before .before .before .before .before .before .before .before .before .put-u8 .ensures) (c .before .before .before .before .before .before .copy-in .ensures) (c .before .before .copy-in2 .ensures)
+returns c = page-put _ _ _ (c .before .before .before .before .before .before .before .before .before .before .before .before .before .before .before .before .before .before .before .pre .0) _ _ _ _ (c .before .before .before .before .before .before .before .before .before .before .before .before .before .before .before .before .before .before .before .pre .2) (c .before .before .before .before .before .before .before .before .before .before .before .before .before .before .before .before .latest .ensures) (c .before .before .before .before .before .before .before .before .before .before .before .before .before .before .put-message .ensures) (c .before .before .before .before .before .before .before .before .before .before .put-u8 .ensures) (c .before .before .before .before .before .before .copy-in .ensures) (c .before .before .copy-in2 .ensures)
 
 pub put-page-spec : {M : Type 1} → statement M
 put-page-spec =
     tie.close
     (tie.spec
-    mul-get-u32
-    add-get-u32
-    get-u32-requires
+    latest-requires
     cast-put-message
     cast-put-message-2
     cast-put-message-3

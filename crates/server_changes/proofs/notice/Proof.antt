@@ -6,21 +6,15 @@ use borrow.Author.Needs.{needs}
 use Rattle.server_changes.proofs.notice.Statement.{statement}
 use Rattle.server_changes.proofs.notice.Tie as tie
 
-mul-get-u32 : tie.Need-mul-get-u32
-mul-get-u32 c = search needs
-
-add-get-u32 : tie.Need-add-get-u32
-add-get-u32 c = search needs
-
-get-u32-requires : tie.Need-get-u32-requires
-get-u32-requires c κs = search needs
+latest-requires : tie.Need-latest-requires
+latest-requires c κs = search needs
 
 same-length : tie.Need-same-length
 same-length c = search needs
 
 returns : tie.Need-returns
 unfolding noticeB
-returns c = simp (sym (c .before .get-u32 .ensures), eq-eqb _ _ (c .if1 .taken))
+returns c = simp (sym (c .before .latest .ensures), eq-eqb _ _ (c .if1 .taken))
 
 age-requires : tie.Need-age-requires
 age-requires c κs = search needs
@@ -45,15 +39,13 @@ same-length-2 c = search needs
 
 returns-2 : tie.Need-returns-2
 unfolding noticeB
-returns-2 c = simp (sym (c .before .before .before .before .before .before .before .before .before .before .before .before .before .get-u32 .ensures), ne-eqb _ _ (c .before .before .before .before .before .before .before .before .before .before .before .before .if1 .left), sym (c .before .before .before .before .before .before .before .before .before .before .age .ensures), sym (c .before .before .before .before .before .before .put-u8 .ensures)) (c .before .before .put-u32 .ensures)
+returns-2 c = simp (sym (c .before .before .before .before .before .before .before .before .before .before .before .before .before .latest .ensures), ne-eqb _ _ (c .before .before .before .before .before .before .before .before .before .before .before .before .if1 .left), sym (c .before .before .before .before .before .before .before .before .before .before .age .ensures), sym (c .before .before .before .before .before .before .put-u8 .ensures)) (c .before .before .put-u32 .ensures)
 
 pub notice-spec : {M : Type 1} → statement M
 notice-spec =
     tie.close
     (tie.spec
-    mul-get-u32
-    add-get-u32
-    get-u32-requires
+    latest-requires
     same-length
     returns
     age-requires

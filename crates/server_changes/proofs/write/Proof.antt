@@ -4,8 +4,8 @@ use borrow.Author.Needs.{needs}
 use Rattle.server_changes.proofs.write.Statement.{statement}
 use Rattle.server_changes.proofs.write.Tie as tie
 
-get-u32-requires : tie.Need-get-u32-requires
-get-u32-requires c κs = search needs
+last-requires : tie.Need-last-requires
+last-requires c κs = search needs
 
 add-n : tie.Need-add-n
 add-n c = search needs
@@ -27,7 +27,7 @@ pub write-spec : {M : Type 1} → statement M
 write-spec =
     tie.close
     (tie.spec
-    get-u32-requires
+    last-requires
     add-n
     put-u32-requires
     values-requires

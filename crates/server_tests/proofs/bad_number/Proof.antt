@@ -4,14 +4,8 @@ use borrow.Author.Needs.{needs}
 use Rattle.server_tests.proofs.bad_number.Statement.{statement}
 use Rattle.server_tests.proofs.bad_number.Tie as tie
 
-mul-get-u32 : tie.Need-mul-get-u32
-mul-get-u32 c = search needs
-
-add-get-u32 : tie.Need-add-get-u32
-add-get-u32 c = search needs
-
-get-u32-requires : tie.Need-get-u32-requires
-get-u32-requires c κs = search needs
+latest-requires : tie.Need-latest-requires
+latest-requires c κs = search needs
 
 add-over : tie.Need-add-over
 add-over c = search needs
@@ -39,9 +33,7 @@ pub bad-number-spec : {M : Type 1} → statement M
 bad-number-spec =
     tie.close
     (tie.spec
-    mul-get-u32
-    add-get-u32
-    get-u32-requires
+    latest-requires
     add-over
     shared-slice-read-over
     add-result

@@ -10,23 +10,11 @@ add-result c = search needs
 shared-slice-read-result : tie.Need-shared-slice-read-result
 shared-slice-read-result c = search needs
 
-mul-get-u64 : tie.Need-mul-get-u64
-mul-get-u64 c = search needs
+arrival-requires : tie.Need-arrival-requires
+arrival-requires c κs = search needs
 
-add-get-u64 : tie.Need-add-get-u64
-add-get-u64 c = search needs
-
-get-u64-requires : tie.Need-get-u64-requires
-get-u64-requires c κs = search needs
-
-mul-get-u64-2 : tie.Need-mul-get-u64-2
-mul-get-u64-2 c = search needs
-
-add-get-u64-2 : tie.Need-add-get-u64-2
-add-get-u64-2 c = search needs
-
-get-u64-requires-2 : tie.Need-get-u64-requires-2
-get-u64-requires-2 c κs = search needs
+arrival-requires-2 : tie.Need-arrival-requires-2
+arrival-requires-2 c κs = search needs
 
 returns : tie.Need-returns
 unfolding earlierB
@@ -38,10 +26,6 @@ earlier-spec =
     (tie.spec
     add-result
     shared-slice-read-result
-    mul-get-u64
-    add-get-u64
-    get-u64-requires
-    mul-get-u64-2
-    add-get-u64-2
-    get-u64-requires-2
+    arrival-requires
+    arrival-requires-2
     returns)

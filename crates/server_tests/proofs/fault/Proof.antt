@@ -6,36 +6,36 @@ use borrow.Author.Needs.{needs}
 use Rattle.server_tests.proofs.fault.Statement.{statement}
 use Rattle.server_tests.proofs.fault.Tie as tie
 
-get-u32-requires : tie.Need-get-u32-requires
-get-u32-requires c κs = search needs
+last-requires : tie.Need-last-requires
+last-requires c κs = search needs
 
 returns : tie.Need-returns
 unfolding faultB
-returns c = simp (sym (c .before .get-u32 .ensures), eq-eqb _ _ (c .if1 .taken))
+returns c = simp (sym (c .before .last .ensures), eq-eqb _ _ (c .if1 .taken))
 
 stale-requires : tie.Need-stale-requires
 stale-requires c κs = search needs
 
 returns-2 : tie.Need-returns-2
 unfolding faultB
-returns-2 c = simp (sym (c .before .before .before .get-u32 .ensures), ne-eqb _ _ (c .before .before .if1 .left), sym (c .before .stale .ensures), c .if2 .taken)
+returns-2 c = simp (sym (c .before .before .before .last .ensures), ne-eqb _ _ (c .before .before .if1 .left), sym (c .before .stale .ensures), c .if2 .taken)
 
 locked-requires : tie.Need-locked-requires
 locked-requires c κs = search needs
 
 returns-3 : tie.Need-returns-3
 unfolding faultB
-returns-3 c = simp (sym (c .before .before .before .before .before .get-u32 .ensures), ne-eqb _ _ (c .before .before .before .before .if1 .left), sym (c .before .before .before .stale .ensures), c .before .before .if2 .left, sym (c .before .locked .ensures), c .if3 .taken)
+returns-3 c = simp (sym (c .before .before .before .before .before .last .ensures), ne-eqb _ _ (c .before .before .before .before .if1 .left), sym (c .before .before .before .stale .ensures), c .before .before .if2 .left, sym (c .before .locked .ensures), c .if3 .taken)
 
 returns-4 : tie.Need-returns-4
 unfolding faultB
-returns-4 c = simp (sym (c .before .before .before .before .before .get-u32 .ensures), ne-eqb _ _ (c .before .before .before .before .if1 .left), sym (c .before .before .before .stale .ensures), c .before .before .if2 .left, sym (c .before .locked .ensures), c .if3 .left)
+returns-4 c = simp (sym (c .before .before .before .before .before .last .ensures), ne-eqb _ _ (c .before .before .before .before .if1 .left), sym (c .before .before .before .stale .ensures), c .before .before .if2 .left, sym (c .before .locked .ensures), c .if3 .left)
 
 pub fault-spec : {M : Type 1} → statement M
 fault-spec =
     tie.close
     (tie.spec
-    get-u32-requires
+    last-requires
     returns
     stale-requires
     returns-2

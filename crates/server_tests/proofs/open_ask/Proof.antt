@@ -13,8 +13,8 @@ byte-requires c κs = search needs
 add-result : tie.Need-add-result
 add-result c = search needs
 
-get-u32-requires : tie.Need-get-u32-requires
-get-u32-requires c κs = search needs
+asked-requires : tie.Need-asked-requires
+asked-requires c κs = search needs
 
 has-bit32-requires : tie.Need-has-bit32-requires
 has-bit32-requires c κs = search needs
@@ -25,14 +25,8 @@ add-result-2 c = search needs
 shared-slice-read-result : tie.Need-shared-slice-read-result
 shared-slice-read-result c = search needs
 
-mul-get-u32 : tie.Need-mul-get-u32
-mul-get-u32 c = search needs
-
-add-get-u32 : tie.Need-add-get-u32
-add-get-u32 c = search needs
-
-get-u32-requires-2 : tie.Need-get-u32-requires-2
-get-u32-requires-2 c κs = search needs
+latest-requires : tie.Need-latest-requires
+latest-requires c κs = search needs
 
 returns : tie.Need-returns
 unfolding openAskB
@@ -45,11 +39,9 @@ open-ask-spec =
     add-byte
     byte-requires
     add-result
-    get-u32-requires
+    asked-requires
     has-bit32-requires
     add-result-2
     shared-slice-read-result
-    mul-get-u32
-    add-get-u32
-    get-u32-requires-2
+    latest-requires
     returns)

@@ -10,14 +10,8 @@ add-result c = search needs
 shared-slice-read-result : tie.Need-shared-slice-read-result
 shared-slice-read-result c = search needs
 
-mul-get-u32 : tie.Need-mul-get-u32
-mul-get-u32 c = search needs
-
-add-get-u32 : tie.Need-add-get-u32
-add-get-u32 c = search needs
-
-get-u32-requires : tie.Need-get-u32-requires
-get-u32-requires c κs = search needs
+latest-requires : tie.Need-latest-requires
+latest-requires c κs = search needs
 
 add-has-bit8 : tie.Need-add-has-bit8
 add-has-bit8 c = search needs
@@ -38,9 +32,7 @@ open-call-spec =
     (tie.spec
     add-result
     shared-slice-read-result
-    mul-get-u32
-    add-get-u32
-    get-u32-requires
+    latest-requires
     add-has-bit8
     shared-slice-read-has-bit8
     has-bit8-requires

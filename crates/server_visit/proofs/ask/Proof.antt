@@ -11,14 +11,8 @@ ask-due-requires c κs = search needs
 whole-holder-requires : tie.Need-whole-holder-requires
 whole-holder-requires c κs = (search needs, search needs, ask-held _ _ _ (sym (c .before .before .ask-due .ensures) ∙ c .before .if1 .taken), c .before .before .before .before .before .before .before .pre .3)
 
-mul-get-u32 : tie.Need-mul-get-u32
-mul-get-u32 c = search needs
-
-add-get-u32 : tie.Need-add-get-u32
-add-get-u32 c = search needs
-
-get-u32-requires : tie.Need-get-u32-requires
-get-u32-requires c κs = search needs
+latest-requires : tie.Need-latest-requires
+latest-requires c κs = search needs
 
 mul-put-message : tie.Need-mul-put-message
 mul-put-message c = search needs
@@ -45,7 +39,7 @@ same-length-2 : tie.Need-same-length-2
 same-length-2 c = search needs
 
 returns : tie.Need-returns
-returns c = ask-chain _ _ _ _ _ _ (sym (c .before .before .before .before .before .before .before .before .before .before .before .before .before .before .before .ask-due .ensures) ∙ c .before .before .before .before .before .before .before .before .before .before .before .before .before .before .if1 .taken) (c .before .before .before .before .before .before .before .before .before .before .before .before .whole-holder .ensures .0) (c .before .before .before .before .before .before .before .before .before .before .get-u32 .ensures) (c .before .before .before .before .before .before .before .put-message .ensures) (c .before .before .before .asked .ensures) (c .one-more .ensures)
+returns c = ask-chain _ _ _ _ _ _ (sym (c .before .before .before .before .before .before .before .before .before .before .before .before .before .before .before .ask-due .ensures) ∙ c .before .before .before .before .before .before .before .before .before .before .before .before .before .before .if1 .taken) (c .before .before .before .before .before .before .before .before .before .before .before .before .whole-holder .ensures .0) (c .before .before .before .before .before .before .before .before .before .before .latest .ensures) (c .before .before .before .before .before .before .before .put-message .ensures) (c .before .before .before .asked .ensures) (c .one-more .ensures)
 
 same-length-3 : tie.Need-same-length-3
 same-length-3 c = search needs
@@ -59,9 +53,7 @@ ask-spec =
     (tie.spec
     ask-due-requires
     whole-holder-requires
-    mul-get-u32
-    add-get-u32
-    get-u32-requires
+    latest-requires
     mul-put-message
     cast-put-message
     cast-put-message-2
