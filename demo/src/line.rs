@@ -184,6 +184,10 @@ impl<W: Write> Line<W> {
         server_state::Field::Value.long(&self.server, address.into())
     }
 
+    pub fn archive(&self) -> &W {
+        &self.archive
+    }
+
     /// Is there a message from this station, and one for it?
     pub fn under_way(&self, station: usize) -> (bool, bool) {
         (!self.up[station].is_empty(), !self.down[station].is_empty())

@@ -1,29 +1,16 @@
 //! The demo line: six camera heads, a panel, the shift office and the server, through the C interface.
 
-mod archive;
-mod belt;
-mod counters;
-mod line;
-mod owner;
-mod progress;
-mod report;
-mod settings;
-mod shift;
-mod staff;
-mod stretch;
-mod turns;
-mod window;
-
-use progress::Progress;
-use report::{Played, Report};
-use settings::Settings;
-use shift::Shift;
+use demo::archive;
+use demo::progress::Progress;
+use demo::report::{Played, Report};
+use demo::settings::Settings;
+use demo::shift::Shift;
+use demo::stretch::Stretch;
+use demo::turns::Turns;
 use std::fs::File;
 use std::io::{self, Write};
 use std::path::Path;
 use std::process::ExitCode;
-use stretch::Stretch;
-use turns::Turns;
 
 fn main() -> ExitCode {
     match run(&Settings::read()) {
