@@ -34,11 +34,11 @@ macro_rules! lending {
             }
         }
         $(#[inline]
-        unsafe fn $name($($argument: $type,)* lent: &mut Lent) -> u32 {
-            let (state, state_length) = lent_mut(lent.state);
-            let (messages, messages_length) = lent_mut(lent.messages);
-            let (commit, commit_length) = lent_mut(lent.commit);
-            let (told, told_length) = lent_mut(lent.told);
+        unsafe fn $name($($argument: $type,)* lent: &mut $crate::line::lent::Lent) -> u32 {
+            let (state, state_length) = $crate::ffi::lent_mut(lent.state);
+            let (messages, messages_length) = $crate::ffi::lent_mut(lent.messages);
+            let (commit, commit_length) = $crate::ffi::lent_mut(lent.commit);
+            let (told, told_length) = $crate::ffi::lent_mut(lent.told);
             declared::$name(
                 $($argument,)*
                 state,
@@ -53,6 +53,8 @@ macro_rules! lending {
         })*
     };
 }
+
+pub(super) use lending;
 
 lending! {
     fn wax_station_begin();

@@ -1,5 +1,6 @@
 //! The register window of the proved library.
 
+use super::stations::lending;
 use super::{lent, lent_mut};
 use crate::line::window::Lent;
 
@@ -19,34 +20,11 @@ extern "C" {
         state_length: usize,
         level: *mut u8,
     ) -> u32;
-    fn wax_window_write(
-        offset: u32,
-        byte: u8,
-        registers: *mut u8,
-        registers_length: usize,
-        state: *mut u8,
-        state_length: usize,
-        messages: *mut u8,
-        messages_length: usize,
-        commit: *mut u8,
-        commit_length: usize,
-        told: *mut u64,
-        told_length: usize,
-    ) -> u32;
-    fn wax_window_step(
-        message: *const u8,
-        message_length: usize,
-        registers: *mut u8,
-        registers_length: usize,
-        state: *mut u8,
-        state_length: usize,
-        messages: *mut u8,
-        messages_length: usize,
-        commit: *mut u8,
-        commit_length: usize,
-        told: *mut u64,
-        told_length: usize,
-    ) -> u32;
+}
+
+lending! {
+    fn wax_window_write(offset: u32, byte: u8, registers: *mut u8, registers_length: usize);
+    fn wax_window_step(message: *const u8, message_length: usize, registers: *mut u8, registers_length: usize);
 }
 
 #[inline]
@@ -65,51 +43,21 @@ pub fn interrupt(registers: &[u8], state: &[u8], level: &mut u8) -> u32 {
 
 #[inline]
 pub fn write(offset: u32, byte: u8, buffers: &mut Lent) -> u32 {
-    let (registers, registers_length) = lent_mut(buffers.registers);
-    let (state, state_length) = lent_mut(buffers.station.state);
-    let (messages, messages_length) = lent_mut(buffers.station.messages);
-    let (commit, commit_length) = lent_mut(buffers.station.commit);
-    let (told, told_length) = lent_mut(buffers.station.told);
-    unsafe {
-        wax_window_write(
-            offset,
-            byte,
-            registers,
-            registers_length,
-            state,
-            state_length,
-            messages,
-            messages_length,
-            commit,
-            commit_length,
-            told,
-            told_length,
-        )
-    }
+    let (registers, length) = lent_mut(buffers.registers);
+    unsafe { wax_window_write(offset, byte, registers, length, &mut buffers.station) }
 }
 
 #[inline]
 pub fn step(message: &[u8], buffers: &mut Lent) -> u32 {
     let (message, message_length) = lent(message);
-    let (registers, registers_length) = lent_mut(buffers.registers);
-    let (state, state_length) = lent_mut(buffers.station.state);
-    let (messages, messages_length) = lent_mut(buffers.station.messages);
-    let (commit, commit_length) = lent_mut(buffers.station.commit);
-    let (told, told_length) = lent_mut(buffers.station.told);
+    let (registers, length) = lent_mut(buffers.registers);
     unsafe {
         wax_window_step(
             message,
             message_length,
             registers,
-            registers_length,
-            state,
-            state_length,
-            messages,
-            messages_length,
-            commit,
-            commit_length,
-            told,
-            told_length,
+            length,
+            &mut buffers.station,
         )
     }
 }
