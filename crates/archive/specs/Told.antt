@@ -25,6 +25,13 @@ told o k = record { out = o; number = k }
 abbrev pub nothingThere : ℕ
 nothingThere = 255
 
+-- how many numbers are told of a record, and of an entry
+abbrev pub fieldsLength : ℕ
+fieldsLength = 7
+
+abbrev pub entryFieldsLength : ℕ
+entryFieldsLength = 2
+
 -- a record's fields, in this order
 abbrev pub fieldList : Fields → List ℕ
 fieldList f = f .end ∷ f .reads ∷ f .writes ∷ f .commit ∷ f .transaction ∷ f .station ∷ f .kind ∷ []
@@ -35,15 +42,15 @@ toldRead o (Record f) = told (sets o 0 (fieldList f)) 0
 toldRead o End = told o nothingThere
 toldRead o (Refused k) = told o k
 
--- number 1 where fewer than seven fit
+-- number 1 where fewer fit
 unfoldable pub toldReadOf : List ℕ → ℕ → ℕ → List ℕ → Told
-toldReadOf s at last o = cond (ltb (length o) 7) (told o 1) (toldRead o (readOf s at last))
+toldReadOf s at last o = cond (ltb (length o) fieldsLength) (told o 1) (toldRead o (readOf s at last))
 
 -- 0 with address and value, 255 where there is no such entry
 abbrev pub toldEntry : List ℕ → Found → Told
 toldEntry o (Entry a v) = told (sets o 0 (a ∷ v ∷ [])) 0
 toldEntry o Nothing = told o nothingThere
 
--- number 1 where fewer than two fit
+-- number 1 where fewer fit
 unfoldable pub toldEntryOf : List ℕ → ℕ → ℕ → ℕ → List ℕ → Told
-toldEntryOf s at k i o = cond (ltb (length o) 2) (told o 1) (toldEntry o (entryOf s at k i))
+toldEntryOf s at k i o = cond (ltb (length o) entryFieldsLength) (told o 1) (toldEntry o (entryOf s at k i))

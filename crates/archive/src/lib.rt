@@ -7,8 +7,32 @@ ghost use lib.Seq.{sets};
 ghost use Rattle.record.specs.Check.{lengthOf};
 ghost use Rattle.archive.specs.Read.{fieldsOf, readOf};
 ghost use Rattle.archive.specs.Parts.{holdsAt, addressPart, valuePart, entryOf};
-ghost use Rattle.archive.specs.Told.{told, fieldList, toldReadOf, toldEntryOf};
+ghost use Rattle.archive.specs.Told.{told, fieldList, fieldsLength, toldReadOf, toldEntryOf};
 ghost use Rattle.layout.specs.Record.{headerLength};
+
+// Where C is told each number of a record, and how many they are.
+const END: usize = 0;
+
+const READS: usize = END + 1;
+
+const WRITES: usize = READS + 1;
+
+const COMMIT: usize = WRITES + 1;
+
+const TRANSACTION: usize = COMMIT + 1;
+
+const STATION: usize = TRANSACTION + 1;
+
+const KIND: usize = STATION + 1;
+
+const FIELDS: usize = KIND + 1;
+
+// .. and of an entry.
+pub const ADDRESS: usize = 0;
+
+pub const VALUE: usize = ADDRESS + 1;
+
+pub const ENTRY_FIELDS: usize = VALUE + 1;
 
 // A record's fields, with the positions where it starts and ends.
 pub struct Fields {
@@ -138,16 +162,16 @@ pub fn entry(archive: &[u8], at: usize, entries: u32, i: u32) -> Found
 }
 
 fn put_fields(out: &mut [u64], f: Fields)
-    requires { ⌜ 7 ≤ length (now out) ⌝ }
+    requires { ⌜ fieldsLength ≤ length (now out) ⌝ }
     ensures { λ _. ⌜ now (out .exit) ≡ sets (now (out .entry)) 0 (fieldList f) ⌝ }
 {
-    out[0] = f.end as u64;
-    out[1] = le::long(f.reads);
-    out[2] = le::long(f.writes);
-    out[3] = le::long(f.commit);
-    out[4] = le::long(f.transaction);
-    out[5] = le::long(f.station);
-    out[6] = le::long(f.kind);
+    out[END] = f.end as u64;
+    out[READS] = le::long(f.reads);
+    out[WRITES] = le::long(f.writes);
+    out[COMMIT] = le::long(f.commit);
+    out[TRANSACTION] = le::long(f.transaction);
+    out[STATION] = le::long(f.station);
+    out[KIND] = le::long(f.kind);
 }
 
 // `read` for C. A record's end, reads, writes, commit, transaction, station and kind go to the first seven places of `out`:
@@ -156,7 +180,7 @@ fn put_fields(out: &mut [u64], f: Fields)
 pub extern "C" fn wax_archive_read(archive: &[u8], at: usize, last: u32, out: &mut [u64]) -> u32
     ensures { λ r. ⌜ told (now (out .exit)) r ≡ toldReadOf (now (archive .entry)) at last (now (out .entry)) ⌝ }
 {
-    if out.len() < 7 {
+    if out.len() < FIELDS {
         return 1;
     }
     match read(archive, at, last) {
@@ -181,13 +205,13 @@ pub extern "C" fn wax_archive_entry(
 ) -> u32
     ensures { λ r. ⌜ told (now (out .exit)) r ≡ toldEntryOf (now (archive .entry)) at entries i (now (out .entry)) ⌝ }
 {
-    if out.len() < 2 {
+    if out.len() < ENTRY_FIELDS {
         return 1;
     }
     let Found::Entry { address, value } = entry(archive, at, entries, i) else {
         return 255;
     };
-    out[0] = address as u64;
-    out[1] = value;
+    out[ADDRESS] = address as u64;
+    out[VALUE] = value;
     0
 }

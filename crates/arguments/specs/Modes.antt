@@ -129,8 +129,11 @@ settled a i =
     (wrong a i)) a
 
 -- of a long word the first 64 bytes
+abbrev pub shownLength : ℕ
+shownLength = 64
+
 unfoldable pub shown : List ℕ → List ℕ
-shown word = cond (ltb (length word) 64) word (take 64 word)
+shown word = cond (ltb (length word) shownLength) word (take shownLength word)
 
 -- the line that names the word
 unfoldable pub unclearLine : List ℕ → List ℕ

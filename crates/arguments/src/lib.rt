@@ -4,7 +4,7 @@ ghost use Rattle.arguments.specs.Words.{isDigit, sameAt, sameWord};
 ghost use Prim.Native.Nat.{_+_, _≤_, _<_};
 ghost use lib.ListN.{length};
 ghost use Rattle.text.specs.Text.{ascii, put, lineWithin};
-ghost use Rattle.arguments.specs.Modes.{commitOf, listingOf, otherOf, isName, nameTaken, listingTaken, otherTaken, optionTaken, numberFits, placeFor, numberTaken, wordTaken, ranges as Modes·ranges, settled, fresh, shown as Modes·shown, unclearLine, longest};
+ghost use Rattle.arguments.specs.Modes.{commitOf, listingOf, otherOf, isName, nameTaken, listingTaken, otherTaken, optionTaken, numberFits, placeFor, numberTaken, wordTaken, ranges as Modes·ranges, settled, fresh, shownLength, shown as Modes·shown, unclearLine, longest};
 
 // A commit number that a word gives.
 pub enum Commit {
@@ -62,6 +62,9 @@ const STATUS_OPTION: u64 = 10;
 
 // No line is longer.
 pub const LINE: usize = 256;
+
+// What a line shows of a long word.
+const SHOWN: usize = 64;
 
 fn is_digit(b: u8) -> bool
     ensures { λ r. ⌜ r ≡ isDigit b ⌝ }
@@ -338,17 +341,17 @@ pub fn is_dash(word: &[u8]) -> bool
     same(word, b"-")
 }
 
-// Of a long word the first 64 bytes.
+// Of a long word the first bytes.
 fn shown(word: &[u8]) -> &[u8]
-    ensures { λ r. ⌜ (now r ≡ Modes·shown (now (word .entry))) × (length (now r) ≤ 64) ⌝ }
+    ensures { λ r. ⌜ (now r ≡ Modes·shown (now (word .entry))) × (length (now r) ≤ shownLength) ⌝ }
 {
-    if word.len() < 64 {
+    if word.len() < SHOWN {
         return word;
     }
-    &word[..64]
+    &word[..SHOWN]
 }
 
-// Puts the line that names a word that is not understood, where 256 bytes are free; of a long word its first 64 bytes.
+// Puts the line that names a word that is not understood, where 256 bytes are free.
 pub fn unclear_line(out: &mut [u8], at: usize, word: &[u8]) -> usize
     ensures { λ r. ⌜ put (now (out .exit)) r ≡ lineWithin longest (now (out .entry)) at (unclearLine (now (word .entry))) ⌝ }
 {

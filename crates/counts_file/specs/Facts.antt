@@ -18,7 +18,7 @@ use Rattle.counts.specs.Counts.{countsHeaderLength, countsLength}
 use Rattle.counts_file.specs.declared.Counted.{Counted}
 use Rattle.counts_file.specs.declared.Next.{Next}
 use Rattle.counts_file.specs.declared.Next.the-variants.{Counts, Refused}
-use Rattle.counts_file.specs.File.{commitOf, writesOf, checkCounts, countedOf, firstCounts, countsRead, holdsCounts, toldNext, toldCountsRead}
+use Rattle.counts_file.specs.File.{commitOf, writesOf, checkCounts, countedOf, firstCounts, countsRead, holdsCounts, countsFieldsLength, toldNext, toldCountsRead}
 
 -- accepted counts: their bytes are all there, they are not too many, and their addresses rise
 pub record Accepted (t : List ℕ) : Type 0 where
@@ -102,10 +102,10 @@ module _ (s : List ℕ) (at last : ℕ) (inside : at ≤ length s) (more : at �
       rw (em, rw to-the-end at ew, rw to-the-end at ec) (rw f at (read-follows k c b e z ec eb))
 
 -- the C reader, where its three numbers fit
-pub told-read : (s o : List ℕ) (at last : ℕ) (a : Next) → 3 ≤ length o → a ≡ countsRead s at last → toldNext o a ≡ toldCountsRead s at last o
+pub told-read : (s o : List ℕ) (at last : ℕ) (a : Next) → countsFieldsLength ≤ length o → a ≡ countsRead s at last → toldNext o a ≡ toldCountsRead s at last o
 unfolding toldCountsRead
-told-read s o at last a h e = rw (le-ltb (length o) 3 h, ← e)
+told-read s o at last a h e = rw (le-ltb (length o) countsFieldsLength h, ← e)
 
-pub told-counts : (s o : List ℕ) (at last w k : ℕ) (c : Counted) → 3 ≤ length o → Counts c ≡ countsRead s at last → w ≡ c .writes → k ≡ c .commit
+pub told-counts : (s o : List ℕ) (at last w k : ℕ) (c : Counted) → countsFieldsLength ≤ length o → Counts c ≡ countsRead s at last → w ≡ c .writes → k ≡ c .commit
     → told (sets o 0 (c .end ∷ w ∷ k ∷ [])) 0 ≡ toldCountsRead s at last o
 told-counts s o at last w k c h e ew ek = rw (ew, ek) (told-read s o at last (Counts c) h e)

@@ -8,7 +8,7 @@ use lib.Dec.{eqb, ltb, leb}
 use Rattle.le.specs.Le.{u16At, u32At, u64At}
 use Rattle.layout.specs.Record.{valueLength, mostEntries}
 use Rattle.record.specs.Check.{rises}
-use Rattle.archive.specs.Told.{Told, told, nothingThere}
+use Rattle.archive.specs.Told.{Told, told, nothingThere, entryFieldsLength}
 use Rattle.counts.specs.Counts.{countsHeaderLength, countsLength}
 use Rattle.counts_file.specs.declared.Counted.{Counted}
 use Rattle.counts_file.specs.declared.Next.{Next}
@@ -51,18 +51,21 @@ countsEntry s at m i =
     (cond (ltb i m) (Entry (getD s (at + countsHeaderLength + i) 0) (u64At s (at + countsHeaderLength + m + valueLength * i))) Nothing)
     Nothing
 
--- as C takes them
+-- as C takes them: how many numbers it is told of a record's counts
+abbrev pub countsFieldsLength : ℕ
+countsFieldsLength = 3
+
 abbrev pub toldNext : List ℕ → Next → Told
 toldNext o (Counts c) = told (sets o 0 (c .end ∷ c .writes ∷ c .commit ∷ [])) 0
 toldNext o End = told o nothingThere
 toldNext o (Refused k) = told o k
 
 unfoldable pub toldCountsRead : List ℕ → ℕ → ℕ → List ℕ → Told
-toldCountsRead s at last o = cond (ltb (length o) 3) (told o 1) (toldNext o (countsRead s at last))
+toldCountsRead s at last o = cond (ltb (length o) countsFieldsLength) (told o 1) (toldNext o (countsRead s at last))
 
 abbrev pub toldWritten : List ℕ → Written → Told
 toldWritten o (Entry a v) = told (sets o 0 (a ∷ v ∷ [])) 0
 toldWritten o Nothing = told o nothingThere
 
 unfoldable pub toldCountsEntry : List ℕ → ℕ → ℕ → ℕ → List ℕ → Told
-toldCountsEntry s at m i o = cond (ltb (length o) 2) (told o 1) (toldWritten o (countsEntry s at m i))
+toldCountsEntry s at m i o = cond (ltb (length o) entryFieldsLength) (told o 1) (toldWritten o (countsEntry s at m i))

@@ -7,6 +7,15 @@ ghost use Rattle.record.specs.Check.{rises as Check·rises};
 ghost use Rattle.archive.specs.Told.{told};
 ghost use Rattle.counts_file.specs.File.{checkCounts, holdsCounts, countsRead, countsEntry, toldCountsRead, toldCountsEntry};
 
+// Where C is told each number of a record's counts, and how many they are.
+const END: usize = 0;
+
+const WRITES: usize = END + 1;
+
+const COMMIT: usize = WRITES + 1;
+
+const COUNTS_FIELDS: usize = COMMIT + 1;
+
 // Where the counts of a record end, how many objects it writes, and its commit number.
 pub struct Counted {
     pub end: usize,
@@ -130,14 +139,14 @@ pub fn entry(file: &[u8], at: usize, writes: u32, i: u32) -> Written
 pub extern "C" fn wax_counts_read(file: &[u8], at: usize, last: u32, out: &mut [u64]) -> u32
     ensures { λ r. ⌜ told (now (out .exit)) r ≡ toldCountsRead (now (file .entry)) at last (now (out .entry)) ⌝ }
 {
-    if out.len() < 3 {
+    if out.len() < COUNTS_FIELDS {
         return 1;
     }
     match read(file, at, last) {
         Next::Counts(c) => {
-            out[0] = c.end as u64;
-            out[1] = le::long(c.writes);
-            out[2] = le::long(c.commit);
+            out[END] = c.end as u64;
+            out[WRITES] = le::long(c.writes);
+            out[COMMIT] = le::long(c.commit);
             0
         }
         Next::End => 255,
@@ -157,13 +166,13 @@ pub extern "C" fn wax_counts_entry(
 ) -> u32
     ensures { λ r. ⌜ told (now (out .exit)) r ≡ toldCountsEntry (now (file .entry)) at writes i (now (out .entry)) ⌝ }
 {
-    if out.len() < 2 {
+    if out.len() < archive::ENTRY_FIELDS {
         return 1;
     }
     let Written::Entry { address, value } = entry(file, at, writes, i) else {
         return 255;
     };
-    out[0] = address as u64;
-    out[1] = value;
+    out[archive::ADDRESS] = address as u64;
+    out[archive::VALUE] = value;
     0
 }

@@ -21,6 +21,10 @@ pub record Told : Type 0 where
 abbrev pub told : List ℕ → ℕ → Told
 told t n = record { out = t; number = n }
 
+-- how many numbers a call tells
+abbrev pub toldLength : ℕ
+toldLength = 4
+
 -- an answer's number, and what goes with it: WAX_BEGUN to WAX_NOTHING of the header
 abbrev pub accepted : List ℕ → ℕ → ℕ → ℕ → ℕ → Told
 accepted t a v n k = told (sets t 0 (a ∷ v ∷ n ∷ k ∷ [])) 0
@@ -54,14 +58,14 @@ pub record Hosted : Type 0 where
 abbrev pub hosted : List ℕ → List ℕ → List ℕ → List ℕ → ℕ → Hosted
 hosted s o c t n = record { state = s; messages = o; commit = c; told = told t n }
 
--- number 1 where fewer than four numbers fit, else what the call does and says
+-- number 1 where fewer numbers fit, else what the call does and says
 unfoldable pub hostOf : List ℕ → List ℕ → List ℕ → List ℕ → Outcome → Hosted
 hostOf s o c t x =
-    cond (ltb (length t) 4) (hosted s o c t 1)
+    cond (ltb (length t) toldLength) (hosted s o c t 1)
     (record { state = x .state; messages = x .messages; commit = x .commit; told = toldSaid t (x .said) })
 
 -- a call that was made, and what was said of it
-pub host-made : (s o c t : List ℕ) {s′ o′ c′ t′ : List ℕ} {y : Said} {n : ℕ} {x : Outcome} → ltb (length t) 4 ≡ false → outcome s′ o′ c′ y ≡ x
+pub host-made : (s o c t : List ℕ) {s′ o′ c′ t′ : List ℕ} {y : Said} {n : ℕ} {x : Outcome} → ltb (length t) toldLength ≡ false → outcome s′ o′ c′ y ≡ x
     → told t′ n ≡ toldSaid t y → hosted s′ o′ c′ t′ n ≡ hostOf s o c t x
 unfolding hostOf
 host-made s o c t {s′} {o′} {c′} {t′} {y} {n} {x} h e f =

@@ -7,25 +7,36 @@ ghost use Rattle.message.specs.Number.{downNumber, upNumber};
 ghost use Rattle.station_state.specs.Valid.{freshened, freshOf};
 ghost use Rattle.station_owner.specs.Owner.{called, commitCalled, ownBeginB, ownReadB, ownWriteB, ownAbortB, ownPurgeB};
 ghost use Rattle.station.specs.Station.{stationStepB};
-ghost use Rattle.host.specs.Host.{told as Host·told, accepted, NoValue, toldOf, toldSaid, hosted, hostOf};
+ghost use Rattle.host.specs.Host.{told as Host·told, toldLength, accepted, NoValue, toldOf, toldSaid, hosted, hostOf};
 use station_answer::Answer;
 use station_answer::Said;
 
+// Where a call tells each of its numbers, and how many they are.
+const ANSWER: usize = 0;
+
+const VALUE: usize = ANSWER + 1;
+
+const MESSAGES: usize = VALUE + 1;
+
+const COMMIT: usize = MESSAGES + 1;
+
+pub const TOLD: usize = COMMIT + 1;
+
 // An answer's number, what goes with it, and the counts of messages and of a commit's bytes: 0, the call was accepted.
 fn put_told(told: &mut [u64], answer: u64, value: u64, messages: usize, commit: usize) -> u32
-    requires { ⌜ 4 ≤ length (now told) ⌝ }
+    requires { ⌜ toldLength ≤ length (now told) ⌝ }
     ensures { λ r. ⌜ Host·told (now (told .exit)) r ≡ accepted (now (told .entry)) answer value messages commit ⌝ }
 {
-    told[0] = answer;
-    told[1] = value;
-    told[2] = messages as u64;
-    told[3] = commit as u64;
+    told[ANSWER] = answer;
+    told[VALUE] = value;
+    told[MESSAGES] = messages as u64;
+    told[COMMIT] = commit as u64;
     0
 }
 
 // Every answer but a value, which `tell` has taken out.
 fn tell_other(a: Answer, messages: usize, commit: usize, told: &mut [u64]) -> u32
-    requires { ⌜ (4 ≤ length (now told)) × NoValue a ⌝ }
+    requires { ⌜ (toldLength ≤ length (now told)) × NoValue a ⌝ }
     ensures { λ r. ⌜ Host·told (now (told .exit)) r ≡ toldOf (now (told .entry)) messages commit a ⌝ }
 {
     match a {
@@ -43,7 +54,7 @@ fn tell_other(a: Answer, messages: usize, commit: usize, told: &mut [u64]) -> u3
 
 // The value is taken out; other answers leave early.
 pub fn tell(x: Said, told: &mut [u64]) -> u32
-    requires { ⌜ 4 ≤ length (now told) ⌝ }
+    requires { ⌜ toldLength ≤ length (now told) ⌝ }
     ensures { λ r. ⌜ Host·told (now (told .exit)) r ≡ toldSaid (now (told .entry)) x ⌝ }
 {
     let answer = x.answer;
@@ -69,7 +80,7 @@ pub extern "C" fn wax_station_begin(
 ) -> u32
     ensures { λ r. ⌜ hosted (now (state .exit)) (now (messages .exit)) (now (commit .exit)) (now (told .exit)) r ≡ hostOf (now (state .entry)) (now (messages .entry)) (now (commit .entry)) (now (told .entry)) (called (now (state .entry)) (now (messages .entry)) (now (commit .entry)) (ownBeginB (now (state .entry)))) ⌝ }
 {
-    if told.len() < 4 {
+    if told.len() < TOLD {
         return 1;
     }
     let x = station_owner::begin(state, messages, commit);
@@ -86,7 +97,7 @@ pub extern "C" fn wax_station_read(
 ) -> u32
     ensures { λ r. ⌜ hosted (now (state .exit)) (now (messages .exit)) (now (commit .exit)) (now (told .exit)) r ≡ hostOf (now (state .entry)) (now (messages .entry)) (now (commit .entry)) (now (told .entry)) (called (now (state .entry)) (now (messages .entry)) (now (commit .entry)) (ownReadB address (now (state .entry)))) ⌝ }
 {
-    if told.len() < 4 {
+    if told.len() < TOLD {
         return 1;
     }
     let x = station_owner::read(address, state, messages, commit);
@@ -104,7 +115,7 @@ pub extern "C" fn wax_station_write(
 ) -> u32
     ensures { λ r. ⌜ hosted (now (state .exit)) (now (messages .exit)) (now (commit .exit)) (now (told .exit)) r ≡ hostOf (now (state .entry)) (now (messages .entry)) (now (commit .entry)) (now (told .entry)) (called (now (state .entry)) (now (messages .entry)) (now (commit .entry)) (ownWriteB address value (now (state .entry)))) ⌝ }
 {
-    if told.len() < 4 {
+    if told.len() < TOLD {
         return 1;
     }
     let x = station_owner::write(address, value, state, messages, commit);
@@ -120,7 +131,7 @@ pub extern "C" fn wax_station_commit(
 ) -> u32
     ensures { λ r. ⌜ hosted (now (state .exit)) (now (messages .exit)) (now (commit .exit)) (now (told .exit)) r ≡ hostOf (now (state .entry)) (now (messages .entry)) (now (commit .entry)) (now (told .entry)) (commitCalled (now (state .entry)) (now (messages .entry)) (now (commit .entry))) ⌝ }
 {
-    if told.len() < 4 {
+    if told.len() < TOLD {
         return 1;
     }
     let x = station_owner::commit(state, messages, commit);
@@ -136,7 +147,7 @@ pub extern "C" fn wax_station_abort(
 ) -> u32
     ensures { λ r. ⌜ hosted (now (state .exit)) (now (messages .exit)) (now (commit .exit)) (now (told .exit)) r ≡ hostOf (now (state .entry)) (now (messages .entry)) (now (commit .entry)) (now (told .entry)) (called (now (state .entry)) (now (messages .entry)) (now (commit .entry)) (ownAbortB (now (state .entry)))) ⌝ }
 {
-    if told.len() < 4 {
+    if told.len() < TOLD {
         return 1;
     }
     let x = station_owner::abort(state, messages, commit);
@@ -153,7 +164,7 @@ pub extern "C" fn wax_station_purge(
 ) -> u32
     ensures { λ r. ⌜ hosted (now (state .exit)) (now (messages .exit)) (now (commit .exit)) (now (told .exit)) r ≡ hostOf (now (state .entry)) (now (messages .entry)) (now (commit .entry)) (now (told .entry)) (called (now (state .entry)) (now (messages .entry)) (now (commit .entry)) (ownPurgeB page (now (state .entry)))) ⌝ }
 {
-    if told.len() < 4 {
+    if told.len() < TOLD {
         return 1;
     }
     let x = station_owner::purge(page, state, messages, commit);
@@ -170,7 +181,7 @@ pub extern "C" fn wax_station_step(
 ) -> u32
     ensures { λ r. ⌜ hosted (now (state .exit)) (now (messages .exit)) (now (commit .exit)) (now (told .exit)) r ≡ hostOf (now (state .entry)) (now (messages .entry)) (now (commit .entry)) (now (told .entry)) (called (now (state .entry)) (now (messages .entry)) (now (commit .entry)) (stationStepB (now (message .entry)) (now (state .entry)))) ⌝ }
 {
-    if told.len() < 4 {
+    if told.len() < TOLD {
         return 1;
     }
     let x = station::step(message, state, messages, commit);

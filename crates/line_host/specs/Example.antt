@@ -17,6 +17,8 @@ use Rattle.line.specs.Line.{Begin, Read, Write, Commits, Aborts, Told, ToldRead
 use Rattle.line.specs.Truth.{here, there}
 use Rattle.message.specs.Commit.{stationRoom, commitRoom, serverRoom, recordsRoom}
 use Rattle.server_state.specs.Valid.{mostAt, most, kindsOk}
+use Rattle.host.specs.Host.{toldLength}
+use Rattle.server_host.specs.Host.{servedLength}
 use Rattle.line_host.specs.Line.{CallH, OwnerH, StationH, ServerH, AllFitH, Event, Began, Asked, Ended, EndedByOwner, Archived, freshH, runH}
 use Rattle.line_host.specs.Claim.{AbortedH, by23, byOwner}
 use Rattle.line_host.specs.Events.{historyM}
@@ -31,11 +33,11 @@ unfolding kindsOk most mostAt allTo
 kinds-ok = refl
 
 -- lent to stations: o for messages, c for a commit, t told; to the server: m for messages, q for records, u served
-module _ (o c t m q u : List ℕ) (lo : stationRoom ≤ length o) (lc : commitRoom ≤ length c) (lt : 4 ≤ length t) (lm : serverRoom ≤ length m) (lq : recordsRoom ≤ length q) (lu : 2 ≤ length u) where
-  abbrev station : (stationRoom ≤ length o) × (commitRoom ≤ length c) × (4 ≤ length t)
+module _ (o c t m q u : List ℕ) (lo : stationRoom ≤ length o) (lc : commitRoom ≤ length c) (lt : toldLength ≤ length t) (lm : serverRoom ≤ length m) (lq : recordsRoom ≤ length q) (lu : servedLength ≤ length u) where
+  abbrev station : (stationRoom ≤ length o) × (commitRoom ≤ length c) × (toldLength ≤ length t)
   station = (lo, lc, lt)
 
-  abbrev server : (serverRoom ≤ length m) × (recordsRoom ≤ length q) × (2 ≤ length u)
+  abbrev server : (serverRoom ≤ length m) × (recordsRoom ≤ length q) × (servedLength ≤ length u)
   server = (lm, lq, lu)
 
   -- station 0 reads 8 and aborts

@@ -29,6 +29,8 @@ use Rattle.server_state.specs.Valid.{kindsOk}
 use Rattle.server_state.specs.Facts.{kinds-length}
 use Rattle.server_actions.specs.Step.{serverCalled}
 use Rattle.server_actions.specs.Step as ServerCall
+use Rattle.host.specs.Host.{toldLength}
+use Rattle.server_host.specs.Host.{servedLength}
 use Rattle.step_meaning.specs.Relation.{ReadAs}
 use Rattle.call_meaning.specs.Calls.{AllReads, owner-unready, step-unready}
 use Rattle.line_bytes.specs.Bytes.{WorldB}
@@ -95,49 +97,49 @@ module _ (kinds : List ℕ) (ok : Number.kindsOk kinds ≡ true) (eight : length
       abbrev s : List ℕ
       s = b .station i
 
-      owner-events : FitsH (OwnerH i op o c t) → ready s (lent 4 t o) (lent 4 t c) ≡ true → ownerEvents i op o c t b ≡ ownerNotes i op w (perform op (w .station i))
+      owner-events : FitsH (OwnerH i op o c t) → ready s (lent toldLength t o) (lent toldLength t c) ≡ true → ownerEvents i op o c t b ≡ ownerNotes i op w (perform op (w .station i))
       owner-events f r =
           let x = owner-found op s o c t in
-          let d = owner-told kinds ok i l b w op (lent 4 t o) (lent 4 t c) f r sim in
+          let d = owner-told kinds ok i l b w op (lent toldLength t o) (lent toldLength t c) f r sim in
           let said : answerIn ((ownerHosted op s o c t) .told) ≡ (perform op (w .station i)) .answer = x .answer ∙ d .answer in
           rw (said, x .state, ap (λ (g : ℕ → ℕ). g i) (sim .notes .number), ended-same (EndedByOwner i) (sim .line .stations i l .is) (d .state))
 
-      owner-turned : ready s (lent 4 t o) (lent 4 t c) ≡ false → ownerEvents i op o c t b ≡ []
+      owner-turned : ready s (lent toldLength t o) (lent toldLength t c) ≡ false → ownerEvents i op o c t b ≡ []
       owner-turned r =
           let x = owner-found op s o c t in
-          let y = owner-unready op s (lent 4 t o) (lent 4 t c) r in
+          let y = owner-unready op s (lent toldLength t o) (lent toldLength t c) r in
           rw (x .answer, x .state, y) (ended-none (EndedByOwner i) s)
 
     -- THE STATION'S STEP
 
     module _ (i : ℕ) (l : i < 8) (o c t : List ℕ) where
-      step-events : (ms : List (List ℕ)) (ds : List Down) → AllDown i ms ds → ready (b .station i) (lent 4 t o) (lent 4 t c) ≡ true → stationEvents i ms o c t b ≡ takesM i ds w
+      step-events : (ms : List (List ℕ)) (ds : List Down) → AllDown i ms ds → ready (b .station i) (lent toldLength t o) (lent toldLength t c) ≡ true → stationEvents i ms o c t b ≡ takesM i ds w
       step-events [] [] q r = refl
       step-events [] (m ∷ ds) q r = absurd q
       step-events (x ∷ ms) [] q r = absurd q
       step-events (x ∷ ms) (m ∷ ds) q r =
           let f = step-found x (b .station i) o c t in
-          let d = step-told-at kinds ok i l b w x m (lent 4 t o) (lent 4 t c) (q .0) r sim in
+          let d = step-told-at kinds ok i l b w x m (lent toldLength t o) (lent toldLength t c) (q .0) r sim in
           rw (f .state, kind-read i x m (q .0)) (ended-same (λ n. Ended i n (kindM m)) (sim .line .stations i l .is) (d .state))
 
-      step-turned : (ms : List (List ℕ)) → ready (b .station i) (lent 4 t o) (lent 4 t c) ≡ false → stationEvents i ms o c t b ≡ []
+      step-turned : (ms : List (List ℕ)) → ready (b .station i) (lent toldLength t o) (lent toldLength t c) ≡ false → stationEvents i ms o c t b ≡ []
       step-turned [] r = refl
       step-turned (x ∷ ms) r =
           let f = step-found x (b .station i) o c t in
-          let state : (stepHosted x (b .station i) o c t) .state ≡ b .station i = f .state ∙ ap (λ (z : Outcome). z .state) (step-unready x (b .station i) (lent 4 t o) (lent 4 t c) r) in
+          let state : (stepHosted x (b .station i) o c t) .state ≡ b .station i = f .state ∙ ap (λ (z : Outcome). z .state) (step-unready x (b .station i) (lent toldLength t o) (lent toldLength t c) r) in
           rw state (ended-none (λ n. Ended i n (kindOf x)) (b .station i))
 
     -- THE SERVER'S STEP
 
     module _ (i : ℕ) (l : i < 8) (o q t : List ℕ) where
-      server-events : (ms : List (List ℕ)) (us : List Up) → AllReads kinds i ms us → ServerCall.ready (b .server) (lent 2 t o) (lent 2 t q) ≡ true → serverEvents ms o q t b ≡ servesM i us w
+      server-events : (ms : List (List ℕ)) (us : List Up) → AllReads kinds i ms us → ServerCall.ready (b .server) (lent servedLength t o) (lent servedLength t q) ≡ true → serverEvents ms o q t b ≡ servesM i us w
       unfolding serverCalled
       server-events [] [] k r = refl
       server-events [] (u ∷ us) k r = absurd k
       server-events (x ∷ ms) [] k r = absurd k
       server-events (x ∷ ms) (u ∷ us) k r =
-          let o′ = lent 2 t o in
-          let q′ = lent 2 t q in
+          let o′ = lent servedLength t o in
+          let q′ = lent servedLength t q in
           let f = server-found x (b .server) o q t in
           let given = Sims.lent (b .server) o′ q′ r in
           let check = check-is kinds eight i l b w o′ q′ x u (k .0) given sim in
@@ -152,7 +154,7 @@ module _ (kinds : List ℕ) (ok : Number.kindsOk kinds ≡ true) (eight : length
           rw (f .archived, r, check, e, bytes, sim .line .records) (sym joined) in
           rw (more, f .accepted, r, check, e, sim .line .records))
 
-      server-turned : (ms : List (List ℕ)) → ServerCall.ready (b .server) (lent 2 t o) (lent 2 t q) ≡ false → serverEvents ms o q t b ≡ []
+      server-turned : (ms : List (List ℕ)) → ServerCall.ready (b .server) (lent servedLength t o) (lent servedLength t q) ≡ false → serverEvents ms o q t b ≡ []
       unfolding serverCalled
       server-turned [] r = refl
       server-turned (x ∷ ms) r = let f = server-found x (b .server) o q t in rw (f .accepted, r)
@@ -160,15 +162,15 @@ module _ (kinds : List ℕ) (ok : Number.kindsOk kinds ≡ true) (eight : length
     -- EVERY CALL
     events-same : (c : CallH) → FitsH c → eventsH c b ≡ eventsM (asCall b (plainOf c)) w
     events-same (OwnerH i op o c t) f =
-        byB (ready (b .station i) (lent 4 t o) (lent 4 t c))
+        byB (ready (b .station i) (lent toldLength t o) (lent toldLength t c))
         (λ r. byB (ltb i 8) (λ e. rw (r, e) (owner-events i (ltb-yes i 8 e) op o c t f r)) (λ e. rw (r, e)))
         (λ r. byB (ltb i 8) (λ e. rw (r, e) (owner-turned i (ltb-yes i 8 e) op o c t r)) (λ e. rw (r, e)))
     events-same (StationH i o c t) f =
-        byB (ready (b .station i) (lent 4 t o) (lent 4 t c))
+        byB (ready (b .station i) (lent toldLength t o) (lent toldLength t c))
         (λ r. byB (ltb i 8) (λ e. rw (r, e) (step-events i (ltb-yes i 8 e) o c t (b .down i) (w .down i) (sim .line .downs i) r)) (λ e. rw (r, e)))
         (λ r. byB (ltb i 8) (λ e. rw (r, e) (step-turned i (ltb-yes i 8 e) o c t (b .down i) r)) (λ e. rw (r, e)))
     events-same (ServerH i o q t) f =
-        byB (ServerCall.ready (b .server) (lent 2 t o) (lent 2 t q))
+        byB (ServerCall.ready (b .server) (lent servedLength t o) (lent servedLength t q))
         (λ r. byB (ltb i 8) (λ e. rw (r, e) (server-events i (ltb-yes i 8 e) o q t (b .up i) (w .up i) (sim .line .ups i) r)) (λ e. rw (r, e)))
         (λ r. byB (ltb i 8) (λ e. rw (r, e) (server-turned i (ltb-yes i 8 e) o q t (b .up i) r)) (λ e. rw (r, e)))
 

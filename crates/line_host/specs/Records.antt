@@ -28,6 +28,7 @@ use Rattle.line.specs.Line.{World, ServerTakes, Broken, fresh, carryDown, serve
 use Rattle.archive_truth.specs.Written.{ArchiveOfRun, archive-of-run}
 use Rattle.server_state.specs.Valid.{kindsOk}
 use Rattle.server_actions.specs.Step as ServerCall
+use Rattle.server_host.specs.Host.{servedLength}
 use Rattle.line_bytes.specs.Bytes.{CallB, freshB, runB}
 use Rattle.line_bytes.specs.Simulates.{asCall}
 use Rattle.line_bytes.specs.Runs.{callsOf, kind-small, calls-fit}
@@ -179,7 +180,7 @@ server-records kinds ok cs f i o q t =
     let b = runB (plainsOf cs) (freshB kinds) in
     let step : v ≡ (act (asCall b (plainOf c)) w) .world =
     ap (λ (l : List CallB). run (callsOf l (freshB kinds)) (fresh k)) (plains-more cs c) ∙ calls-more (plainsOf cs) (plainOf c) (freshB kinds) (fresh k) in
-    let ready = ServerCall.ready (b .server) (lent 2 t o) (lent 2 t q) in
+    let ready = ServerCall.ready (b .server) (lent servedLength t o) (lent servedLength t q) in
     let grows : v .archive ≡ w .archive ++ (act (asCall b (plainOf c)) w) .reply .recs = ap (λ (y : World). y .archive) step ∙ act-grows i ready w in
     let small = kind-small kinds ok in
     let z = archive-of-run k small (modelCalls kinds cs) (calls-fit (plainsOf cs) (freshB kinds) (plains-fit cs f)) in

@@ -21,6 +21,8 @@ use Rattle.server_actions.specs.Step.{checkStepB, serverCalled}
 use Rattle.server_actions.specs.Step as ServerCall
 use Rattle.host.specs.Host as Station
 use Rattle.server_host.specs.Host as Server
+use Rattle.host.specs.Host.{toldLength}
+use Rattle.server_host.specs.Host.{servedLength}
 use Rattle.call_meaning.specs.Relation.{answerOf}
 use Rattle.call_meaning.specs.Buffers.{messagesIn, sentBy}
 use Rattle.call_meaning.specs.Calls.{performB, stepB, owner-unready, step-unready}
@@ -35,9 +37,9 @@ abbrev pub lent : ℕ → List ℕ → List ℕ → List ℕ
 lent n t o = cond (ltb (length t) n) [] o
 
 abbrev pub plainOf : CallH → CallB
-plainOf (OwnerH i op o c t) = OwnerB i op (lent 4 t o) (lent 4 t c)
-plainOf (StationH i o c t) = StationTakesB i (lent 4 t o) (lent 4 t c)
-plainOf (ServerH i o q t) = ServerTakesB i (lent 2 t o) (lent 2 t q)
+plainOf (OwnerH i op o c t) = OwnerB i op (lent toldLength t o) (lent toldLength t c)
+plainOf (StationH i o c t) = StationTakesB i (lent toldLength t o) (lent toldLength t c)
+plainOf (ServerH i o q t) = ServerTakesB i (lent servedLength t o) (lent servedLength t q)
 
 abbrev pub plainsOf : List CallH → List CallB
 plainsOf [] = []
@@ -64,7 +66,7 @@ record Heard (x : Station.Told) (a : Answer) (n k : ℕ) : Type 0 where
 accepted-heard : {x : Station.Told} (a : Answer) {n k : ℕ} → eqb (x .number) 0 ≡ true → answerIn x ≡ answerOf a → isRefused (answerOf a) ≡ false → getD (x .out) 2 0 ≡ n → getD (x .out) 3 0 ≡ k → Heard x a n k
 accepted-heard a z e r n k = record { answer = e; messages = rw z n; commit = rw z k; accepted = rw (z, r) }
 
-heard : (t : List ℕ) → ltb (length t) 4 ≡ false → (a : Answer) (n k : ℕ) → Said a n k → Heard (Station.toldOf t n k a) a n k
+heard : (t : List ℕ) → ltb (length t) toldLength ≡ false → (a : Answer) (n k : ℕ) → Said a n k → Heard (Station.toldOf t n k a) a n k
 heard [] l a n k s = absurd (false≢true (sym l))
 heard (x ∷ []) l a n k s = absurd (false≢true (sym l))
 heard (x ∷ y ∷ []) l a n k s = absurd (false≢true (sym l))
@@ -89,17 +91,17 @@ pub record Found (h : Station.Hosted) (x : Outcome) : Type 0 where
 
 module _ (s o c t : List ℕ) where
   -- "output is under ..": number 1 of `told`, and nothing lent is changed
-  pub short-told : (x : Outcome) → ltb (length t) 4 ≡ true → Station.hostOf s o c t x ≡ Station.hosted s o c t 1
+  pub short-told : (x : Outcome) → ltb (length t) toldLength ≡ true → Station.hostOf s o c t x ≡ Station.hosted s o c t 1
   unfolding Station.hostOf
   short-told x l = rw l
 
-  made-found : (x : Outcome) → Sure x → ltb (length t) 4 ≡ false → Found (Station.hostOf s o c t x) x
+  made-found : (x : Outcome) → Sure x → ltb (length t) toldLength ≡ false → Found (Station.hostOf s o c t x) x
   unfolding Station.hostOf Station.toldSaid
   made-found x q l =
       let h = heard t l (x .said .answer) (x .said .messages) (x .said .commit) q in
       rw l (record { state = refl; answer = h .answer; sent = rw (h .messages, h .commit); accepted = h .accepted })
 
-  short-found : (x : Outcome) → ltb (length t) 4 ≡ true → Found (Station.hostOf s o c t x) (laid [] [] (refuses 1 s))
+  short-found : (x : Outcome) → ltb (length t) toldLength ≡ true → Found (Station.hostOf s o c t x) (laid [] [] (refuses 1 s))
   unfolding messagesIn
   short-found x l = rw (short-told x l) (record { state = refl; answer = refl; sent = refl; accepted = refl })
 
@@ -109,15 +111,15 @@ unfolding ready
 no-room s = byB (valid s) (λ e. rw e) (λ e. rw e)
 
 abbrev pub SameCall : (List ℕ → List ℕ → List ℕ → Outcome) → Type 0
-SameCall f = (s o c t : List ℕ) → Found (Station.hostOf s o c t (f s o c)) (f s (lent 4 t o) (lent 4 t c))
+SameCall f = (s o c t : List ℕ) → Found (Station.hostOf s o c t (f s o c)) (f s (lent toldLength t o) (lent toldLength t c))
 
 pub same-call : (f : List ℕ → List ℕ → List ℕ → Outcome) → ((s o c : List ℕ) → Sure (f s o c)) → ((s o c : List ℕ) → ready s o c ≡ false → f s o c ≡ laid o c (refuses 1 s)) → SameCall f
 same-call f q u s o c t =
-    byB (ltb (length t) 4)
+    byB (ltb (length t) toldLength)
     (λ l. rw (l, u s [] [] (no-room s)) (short-found s o c t (f s o c) l))
     (λ l. rw l (made-found s o c t (f s o c) (q s o c) l))
 
-pub owner-found : (op : Op) (s o c t : List ℕ) → Found (ownerHosted op s o c t) (performB op s (lent 4 t o) (lent 4 t c))
+pub owner-found : (op : Op) (s o c t : List ℕ) → Found (ownerHosted op s o c t) (performB op s (lent toldLength t o) (lent toldLength t c))
 owner-found Begin = same-call (performB Begin) (λ s o c. owner-sure s o c Begin) (owner-unready Begin)
 owner-found (Read a) = same-call (performB (Read a)) (λ s o c. owner-sure s o c (Read a)) (owner-unready (Read a))
 owner-found (Write a v) = same-call (performB (Write a v)) (λ s o c. owner-sure s o c (Write a v)) (owner-unready (Write a v))
@@ -125,7 +127,7 @@ owner-found Commits = same-call (performB Commits) (λ s o c. owner-sure s o c C
 owner-found Aborts = same-call (performB Aborts) (λ s o c. owner-sure s o c Aborts) (owner-unready Aborts)
 owner-found (Purges p) = same-call (performB (Purges p)) (λ s o c. owner-sure s o c (Purges p)) (owner-unready (Purges p))
 
-pub step-found : (x s o c t : List ℕ) → Found (stepHosted x s o c t) (stepB x s (lent 4 t o) (lent 4 t c))
+pub step-found : (x s o c t : List ℕ) → Found (stepHosted x s o c t) (stepB x s (lent toldLength t o) (lent toldLength t c))
 step-found x = same-call (stepB x) (λ s o c. delivery-sure s o c x) (step-unready x)
 
 -- the server's
@@ -136,20 +138,20 @@ pub record Posted (h : Server.Hosted) (x : ServerCall.Outcome) : Type 0 where
   pub accepted : eqb (h .told .number) 0 ≡ eqb (x .number) 0
 
 module _ (s o q t : List ℕ) where
-  pub short-served : (x : ServerCall.Outcome) → ltb (length t) 2 ≡ true → Server.hostOf s o q t x ≡ Server.hosted s o q t 1
+  pub short-served : (x : ServerCall.Outcome) → ltb (length t) servedLength ≡ true → Server.hostOf s o q t x ≡ Server.hosted s o q t 1
   unfolding Server.hostOf
   short-served x l = rw l
 
-  short-posted : (x : ServerCall.Outcome) → ltb (length t) 2 ≡ true → Posted (Server.hostOf s o q t x) (ServerCall.refused 1 s [] [])
+  short-posted : (x : ServerCall.Outcome) → ltb (length t) servedLength ≡ true → Posted (Server.hostOf s o q t x) (ServerCall.refused 1 s [] [])
   unfolding messagesIn
   short-posted x l = rw (short-served x l) (record { state = refl; sent = refl; archived = refl; accepted = refl })
 
   -- a refusal with a number
-  refused-posted : (n : ℕ) → eqb n 0 ≡ false → ltb (length t) 2 ≡ false → Posted (Server.hostOf s o q t (ServerCall.refused n s o q)) (ServerCall.refused n s o q)
+  refused-posted : (n : ℕ) → eqb n 0 ≡ false → ltb (length t) servedLength ≡ false → Posted (Server.hostOf s o q t (ServerCall.refused n s o q)) (ServerCall.refused n s o q)
   unfolding Server.hostOf messagesIn
   refused-posted n e l = rw l (record { state = refl; sent = rw e; archived = rw e; accepted = refl })
 
-counted-posted : (s o q t : List ℕ) (y : Serving) → ltb (length t) 2 ≡ false → Posted (Server.hostOf s o q t (ServerCall.laid o q y)) (ServerCall.laid o q y)
+counted-posted : (s o q t : List ℕ) (y : Serving) → ltb (length t) servedLength ≡ false → Posted (Server.hostOf s o q t (ServerCall.laid o q y)) (ServerCall.laid o q y)
 unfolding Server.hostOf
 counted-posted s o q [] y l = absurd (false≢true (sym l))
 counted-posted s o q (a ∷ []) y l = absurd (false≢true (sym l))
@@ -159,7 +161,7 @@ no-room-server : (s : List ℕ) → ServerCall.ready s [] [] ≡ false
 unfolding ServerCall.ready
 no-room-server s = byB (ServerValid.valid s) (λ e. rw e) (λ e. rw e)
 
-made-posted : (m s o q t : List ℕ) → ltb (length t) 2 ≡ false → Posted (serverHosted m s o q t) (serverCalled m s o q)
+made-posted : (m s o q t : List ℕ) → ltb (length t) servedLength ≡ false → Posted (serverHosted m s o q t) (serverCalled m s o q)
 unfolding serverCalled
 made-posted m s o q t l =
     let n = checkStepB m s in
@@ -167,10 +169,10 @@ made-posted m s o q t l =
     (λ r. rw r (byEq n 0 (λ e. rw e (counted-posted s o q t (serverStepB m s) l)) (λ e. rw e (refused-posted s o q t n e l))))
     (λ r. rw r (refused-posted s o q t 1 refl l))
 
-pub server-found : (m s o q t : List ℕ) → Posted (serverHosted m s o q t) (serverCalled m s (lent 2 t o) (lent 2 t q))
+pub server-found : (m s o q t : List ℕ) → Posted (serverHosted m s o q t) (serverCalled m s (lent servedLength t o) (lent servedLength t q))
 unfolding serverCalled
 server-found m s o q t =
-    byB (ltb (length t) 2)
+    byB (ltb (length t) servedLength)
     (λ l. rw (l, no-room-server s) (short-posted s o q t _ l))
     (λ l. rw l (made-posted m s o q t l))
 
@@ -184,27 +186,27 @@ carry-down-same : (h : Server.Hosted) (x : ServerCall.Outcome) (w : WorldB) → 
 unfolding carryDownH carryDownB
 carry-down-same h x w f = rw (f .state, f .sent, f .archived)
 
-pub owner-same : (i : ℕ) (op : Op) (o c t : List ℕ) (w : WorldB) → ownerActsH i op o c t w ≡ ownerActsB i op (lent 4 t o) (lent 4 t c) w
+pub owner-same : (i : ℕ) (op : Op) (o c t : List ℕ) (w : WorldB) → ownerActsH i op o c t w ≡ ownerActsB i op (lent toldLength t o) (lent toldLength t c) w
 unfolding ownerActsH ownerActsB
 owner-same i op o c t w =
     let f = owner-found op (w .station i) o c t in
     rw (f .answer, carry-up-same i _ _ w f)
 
-pub station-same : (i : ℕ) (ms : List (List ℕ)) (o c t : List ℕ) (w : WorldB) → stationTakesH i ms o c t w ≡ stationTakesB i ms (lent 4 t o) (lent 4 t c) w
+pub station-same : (i : ℕ) (ms : List (List ℕ)) (o c t : List ℕ) (w : WorldB) → stationTakesH i ms o c t w ≡ stationTakesB i ms (lent toldLength t o) (lent toldLength t c) w
 unfolding stationTakesH stationTakesB
 station-same i [] o c t w = refl
 station-same i (m ∷ l) o c t w =
     let f = step-found m (w .station i) o c t in
-    byB (isRefused (answerOf ((stepB m (w .station i) (lent 4 t o) (lent 4 t c)) .said .answer)))
+    byB (isRefused (answerOf ((stepB m (w .station i) (lent toldLength t o) (lent toldLength t c)) .said .answer)))
     (λ e. rw (f .answer, f .accepted, e, carry-up-same i _ _ w f))
     (λ e. rw (f .answer, f .accepted, e, carry-up-same i _ _ (restDown i l w) f))
 
-server-same : (i : ℕ) (ms : List (List ℕ)) (o q t : List ℕ) (w : WorldB) → serverTakesH i ms o q t w ≡ serverTakesB i ms (lent 2 t o) (lent 2 t q) w
+server-same : (i : ℕ) (ms : List (List ℕ)) (o q t : List ℕ) (w : WorldB) → serverTakesH i ms o q t w ≡ serverTakesB i ms (lent servedLength t o) (lent servedLength t q) w
 unfolding serverTakesH serverTakesB
 server-same i [] o q t w = refl
 server-same i (m ∷ l) o q t w =
     let f = server-found m (w .server) o q t in
-    rw (f .accepted, carry-down-same _ _ (cond (eqb ((serverCalled m (w .server) (lent 2 t o) (lent 2 t q)) .number) 0) (restUp i l w) w) f)
+    rw (f .accepted, carry-down-same _ _ (cond (eqb ((serverCalled m (w .server) (lent servedLength t o) (lent servedLength t q)) .number) 0) (restUp i l w) w) f)
 
 pub act-same : (c : CallH) (w : WorldB) → lineH c w ≡ actB (plainOf c) w
 unfolding lineH actB
@@ -221,9 +223,9 @@ run-same (c ∷ cs) w = run-same cs (actH c w) ∙ ap (runB (plainsOf cs)) (act-
 -- TOO SHORT: a call whose `told` or `served` is too short is a call like any other. It answers 1 (`short-told`, `short-served`) and leaves the line as it was.
 
 abbrev pub Short : CallH → Type 0
-Short (OwnerH i op o c t) = length t < 4
-Short (StationH i o c t) = length t < 4
-Short (ServerH i o q t) = length t < 2
+Short (OwnerH i op o c t) = length t < toldLength
+Short (StationH i o c t) = length t < toldLength
+Short (ServerH i o q t) = length t < servedLength
 
 module _ (i : ℕ) (w : WorldB) (h : Station.Hosted) (f : Found h (laid [] [] (refuses 1 (w .station i)))) where
   -- number 1: nothing to carry, and nothing to tell
@@ -231,14 +233,14 @@ module _ (i : ℕ) (w : WorldB) (h : Station.Hosted) (f : Found h (laid [] [] (r
   unfolding tellB messagesIn
   still op = rw (f .answer) (carry-up-same i h _ w f ∙ carry-none i (laid [] [] (refuses 1 (w .station i))) w refl refl)
 
-owner-short : (i : ℕ) (op : Op) (o c t : List ℕ) (w : WorldB) → ltb (length t) 4 ≡ true → ownerActsH i op o c t w ≡ w
+owner-short : (i : ℕ) (op : Op) (o c t : List ℕ) (w : WorldB) → ltb (length t) toldLength ≡ true → ownerActsH i op o c t w ≡ w
 unfolding ownerActsH
 owner-short i op o c t w l =
     let s = w .station i in
     let f : Found (ownerHosted op s o c t) (laid [] [] (refuses 1 s)) = rw (l, owner-unready op s [] [] (no-room s)) at (owner-found op s o c t) in
     still i w (ownerHosted op s o c t) f op
 
-station-short : (i : ℕ) (ms : List (List ℕ)) (o c t : List ℕ) (w : WorldB) → ltb (length t) 4 ≡ true → stationTakesH i ms o c t w ≡ w
+station-short : (i : ℕ) (ms : List (List ℕ)) (o c t : List ℕ) (w : WorldB) → ltb (length t) toldLength ≡ true → stationTakesH i ms o c t w ≡ w
 unfolding stationTakesH
 station-short i [] o c t w l = refl
 station-short i (m ∷ ms) o c t w l =
@@ -248,7 +250,7 @@ station-short i (m ∷ ms) o c t w l =
     let stays : cond (eqb (h .told .number) 0) (restDown i ms w) w ≡ w = rw (f .accepted) in
     ap (λ (z : WorldB). tellB i (w .asked i) (answerIn (h .told)) (carryUpH i h z)) stays ∙ still i w h f (w .asked i)
 
-server-short : (i : ℕ) (ms : List (List ℕ)) (o q t : List ℕ) (w : WorldB) → ltb (length t) 2 ≡ true → serverTakesH i ms o q t w ≡ w
+server-short : (i : ℕ) (ms : List (List ℕ)) (o q t : List ℕ) (w : WorldB) → ltb (length t) servedLength ≡ true → serverTakesH i ms o q t w ≡ w
 unfolding serverTakesH
 server-short i [] o q t w l = refl
 server-short i (m ∷ ms) o q t w l =
@@ -257,6 +259,6 @@ server-short i (m ∷ ms) o q t w l =
 
 pub short-still : (c : CallH) (w : WorldB) → Short c → lineH c w ≡ w
 unfolding lineH
-short-still (OwnerH i op o c t) w l = byB (ltb i 8) (λ e. rw e (owner-short i op o c t w (lt-ltb (length t) 4 l))) (λ e. rw e)
-short-still (StationH i o c t) w l = byB (ltb i 8) (λ e. rw e (station-short i (w .down i) o c t w (lt-ltb (length t) 4 l))) (λ e. rw e)
-short-still (ServerH i o q t) w l = byB (ltb i 8) (λ e. rw e (server-short i (w .up i) o q t w (lt-ltb (length t) 2 l))) (λ e. rw e)
+short-still (OwnerH i op o c t) w l = byB (ltb i 8) (λ e. rw e (owner-short i op o c t w (lt-ltb (length t) toldLength l))) (λ e. rw e)
+short-still (StationH i o c t) w l = byB (ltb i 8) (λ e. rw e (station-short i (w .down i) o c t w (lt-ltb (length t) toldLength l))) (λ e. rw e)
+short-still (ServerH i o q t) w l = byB (ltb i 8) (λ e. rw e (server-short i (w .up i) o q t w (lt-ltb (length t) servedLength l))) (λ e. rw e)

@@ -12,6 +12,8 @@ use Rattle.line.specs.Line.{World, Call, fresh, act, run}
 use Rattle.message.specs.Commit.{stationRoom, commitRoom, serverRoom, recordsRoom}
 use Rattle.station_owner.specs.Owner.{ready}
 use Rattle.server_state.specs.Valid.{kindsOk}
+use Rattle.host.specs.Host.{toldLength}
+use Rattle.server_host.specs.Host.{servedLength}
 use Rattle.line_bytes.specs.Bytes.{WorldB, freshB, CallB, OwnerB, ServerTakesB, StationTakesB, AllFit, actB, runB}
 use Rattle.line_bytes.specs.Simulates.{Sim, asCall}
 use Rattle.line_bytes.specs.Runs.{callsOf}
@@ -24,9 +26,9 @@ use Rattle.line_host.specs.History.{history-same}
 
 -- 8 messages and 1,408 commit bytes (station), 128 messages and 7,040 record bytes (server); four numbers told, two served
 abbrev pub RoomH : CallH → Type 0
-RoomH (OwnerH i op o c t) = (stationRoom ≤ length o) × (commitRoom ≤ length c) × (4 ≤ length t)
-RoomH (StationH i o c t) = (stationRoom ≤ length o) × (commitRoom ≤ length c) × (4 ≤ length t)
-RoomH (ServerH i o q t) = (serverRoom ≤ length o) × (recordsRoom ≤ length q) × (2 ≤ length t)
+RoomH (OwnerH i op o c t) = (stationRoom ≤ length o) × (commitRoom ≤ length c) × (toldLength ≤ length t)
+RoomH (StationH i o c t) = (stationRoom ≤ length o) × (commitRoom ≤ length c) × (toldLength ≤ length t)
+RoomH (ServerH i o q t) = (serverRoom ≤ length o) × (recordsRoom ≤ length q) × (servedLength ≤ length t)
 
 abbrev pub AllRoomH : List CallH → Type 0
 AllRoomH [] = Unit {0}
@@ -45,9 +47,9 @@ names-plain [] = refl
 names-plain (c ∷ cs) = rw (names-plain cs)
 
 room-plain : (c : CallH) → RoomH c → Room (plainOf c)
-room-plain (OwnerH i op o c t) r = rw (le-ltb (length t) 4 (r .2)) (r .0, r .1)
-room-plain (StationH i o c t) r = rw (le-ltb (length t) 4 (r .2)) (r .0, r .1)
-room-plain (ServerH i o q t) r = rw (le-ltb (length t) 2 (r .2)) (r .0, r .1)
+room-plain (OwnerH i op o c t) r = rw (le-ltb (length t) toldLength (r .2)) (r .0, r .1)
+room-plain (StationH i o c t) r = rw (le-ltb (length t) toldLength (r .2)) (r .0, r .1)
+room-plain (ServerH i o q t) r = rw (le-ltb (length t) servedLength (r .2)) (r .0, r .1)
 
 rooms-plain : (cs : List CallH) → AllRoomH cs → AllRoom (plainsOf cs)
 rooms-plain [] r = tt

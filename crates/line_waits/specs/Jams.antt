@@ -21,6 +21,8 @@ use Rattle.server_state.specs.Valid.{kindsOk}
 use Rattle.server_state.specs.Facts.{kinds-length}
 use Rattle.server_actions.specs.Step.{serverCalled, checkStepB}
 use Rattle.server_actions.specs.Step as ServerCall
+use Rattle.host.specs.Host.{toldLength}
+use Rattle.server_host.specs.Host.{servedLength}
 use Rattle.step_meaning.specs.Relation.{ReadAs}
 use Rattle.call_meaning.specs.Relation.{answerOf}
 use Rattle.call_meaning.specs.Calls.{AllReads, stepB}
@@ -36,12 +38,12 @@ use Rattle.line_host.specs.Runs.{modelCalls, hosts-simulate}
 pub record EnoughServer (o q t : List ℕ) : Type 0 where
   pub messages : serverRoom ≤ length o
   pub records : recordsRoom ≤ length q
-  pub served : 2 ≤ length t
+  pub served : servedLength ≤ length t
 
 pub record EnoughStation (o c t : List ℕ) : Type 0 where
   pub messages : stationRoom ≤ length o
   pub commit : commitRoom ≤ length c
-  pub told : 4 ≤ length t
+  pub told : toldLength ≤ length t
 
 -- the first message of every up line and of every down line is taken: its call answers 0. So only an owner's call is ever refused
 pub record NothingJams (w : WorldB) : Type 0 where
@@ -85,7 +87,7 @@ module _ (kinds : List ℕ) (ok : kindsOk kinds ≡ true) (b : WorldB) (w : Worl
       let check : checkStepB m (b .server) ≡ 0 =
       check-is kinds (kinds-length kinds ok) i c b w o q m (u .first) (u .reads) (lent (b .server) o q ready) h ∙ rw (taken-up w k i c (u .first) (u .rest) (u .is)) refl in
       let called : eqb ((serverCalled m (b .server) o q) .number) 0 ≡ true = rw (ready, check) refl in
-      let f = rw (at-least 2 t (n .served)) at (server-found m (b .server) o q t) in
+      let f = rw (at-least servedLength t (n .served)) at (server-found m (b .server) o q t) in
       eqb-yes _ 0 (f .accepted ∙ called)
 
   down-taken : (i : ℕ) → i < 8 → (m : List ℕ) (l : List (List ℕ)) → b .down i ≡ m ∷ l → (o c t : List ℕ) → EnoughStation o c t
@@ -94,7 +96,7 @@ module _ (kinds : List ℕ) (ok : kindsOk kinds ≡ true) (b : WorldB) (w : Worl
       let d = head-down i m l (w .down i) (rw e at (h .line .downs i)) in
       let told = step-told-at kinds (same-kinds kinds ok) i z b w m (d .first) o c (d .reads) (r .station i z o c (n .messages) (n .commit)) h in
       let taken : isRefused (answerOf ((stepB m (b .station i) o c) .said .answer)) ≡ false = ap isRefused (told .answer) ∙ accepted w k i z (d .first) (d .rest) (d .is) in
-      let f = rw (at-least 4 t (n .told)) at (step-found m (b .station i) o c t) in
+      let f = rw (at-least toldLength t (n .told)) at (step-found m (b .station i) o c t) in
       eqb-yes _ 0 (f .accepted ∙ ap not taken)
 
   jams-none : NothingJams b

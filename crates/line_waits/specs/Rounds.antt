@@ -24,6 +24,8 @@ use Rattle.drains.specs.Runs.{waits-end-of-run}
 use Rattle.station_answer.specs.Ask.{openB}
 use Rattle.station_meaning.specs.Tests.{open-at}
 use Rattle.server_state.specs.Valid.{kindsOk}
+use Rattle.host.specs.Host.{toldLength}
+use Rattle.server_host.specs.Host.{servedLength}
 use Rattle.call_meaning.specs.Calls.{AllReads}
 use Rattle.line_bytes.specs.Bytes.{WorldB, freshB, CallB, AllFit, runB, actB}
 use Rattle.line_bytes.specs.Simulates.{Sim, AllDown, asCall}
@@ -63,9 +65,9 @@ names-plain (StationH i o c t ∷ cs) = ap (λ (l : List Call). StationTakes i �
 names-plain (ServerH i o q t ∷ cs) = ap (λ (l : List Call). ServerTakes i ∷ l) (names-plain cs)
 
 room-of : (c : CallH) → Enough c → Room (plainOf c)
-room-of (OwnerH i op o c t) e = rw (at-least 4 t (e .told)) (e .messages, e .commit)
-room-of (StationH i o c t) e = rw (at-least 4 t (e .told)) (e .messages, e .commit)
-room-of (ServerH i o q t) e = rw (at-least 2 t (e .served)) (e .messages, e .records)
+room-of (OwnerH i op o c t) e = rw (at-least toldLength t (e .told)) (e .messages, e .commit)
+room-of (StationH i o c t) e = rw (at-least toldLength t (e .told)) (e .messages, e .commit)
+room-of (ServerH i o q t) e = rw (at-least servedLength t (e .served)) (e .messages, e .records)
 
 rooms-of : (cs : List CallH) → AllEnough cs → AllRoom (plainsOf cs)
 rooms-of [] e = tt

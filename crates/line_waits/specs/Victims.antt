@@ -36,6 +36,7 @@ use Rattle.server_actions.specs.Actions.{Serving, serving, abortB, acceptB}
 use Rattle.server_actions.specs.Pass.{orderB, passB, movedB, serverStepB}
 use Rattle.server_actions.specs.Step.{laid, serverCalled, checkStepB}
 use Rattle.server_actions.specs.Step as ServerCall
+use Rattle.server_host.specs.Host.{servedLength}
 use Rattle.step_meaning.specs.Relation.{ReadAs, Serves}
 use Rattle.step_meaning.specs.Pass.{order-at, pass-means, moved-at, victim-means}
 use Rattle.line_bytes.specs.Bytes.{WorldB, freshB}
@@ -160,7 +161,7 @@ module _ (kinds : List ℕ) (ok : kindsOk kinds ≡ true) (cs : List CallH) (f :
       let right = taken-up w (orderly k calls) i li (u .first) (u .rest) (u .is) in
       let check : checkStepB m (b .server) ≡ 0 = check-is kinds (kinds-length kinds ok) i li b w o q m (u .first) (u .reads) t₁ h ∙ rw right refl in
       let s = serves kinds (kinds-length kinds ok) i li b w o q m (u .first) (u .reads) t₁ h in
-      let g = rw (at-least 2 t (n .served)) at (server-found m (b .server) o q t) in
+      let g = rw (at-least servedLength t (n .served)) at (server-found m (b .server) o q t) in
       let posted : postedIn (serverHosted m (b .server) o q t) ≡ (serverStepB m (b .server)) .sent =
       g .sent ∙ rw (ready, check) (messages-are s o q (t₁ .messages) (t₁ .records) (step-128 i (u .first) (w .server))) in
       let y = found (subst (In x) posted p) ((serverStep i (u .first) (w .server)) .sent) (s .sent) in

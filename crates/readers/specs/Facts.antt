@@ -15,7 +15,7 @@ use Rattle.seek.specs.Facts.{Stands, found-stands}
 use Rattle.counts.specs.Counts.{longestCounts, countsOn}
 use Rattle.counts.specs.Record.{shown}
 use Rattle.counts.specs.Facts.{Room, room}
-use Rattle.readers.specs.Readers.{serviceList, countsTold, countsAt, serviceTold, serviceAt, onService, recordService}
+use Rattle.readers.specs.Readers.{serviceLength, serviceList, countsTold, countsAt, serviceTold, serviceAt, onService, recordService}
 
 pub found : (s : List ℕ) (commit : ℕ) {a : Answer} (f : Fields) → a ≡ soughtOf s commit → a ≡ Answer.Record f → Stands s f
 unfolding soughtOf
@@ -35,20 +35,20 @@ pub counts-put : (s o : List ℕ) (commit : ℕ) {x : List ℕ} (f : Fields) →
 counts-put s o commit f h e ex = rw (rw (to-the-end s (f .at)) at ex) (counts-told s o commit (Answer.Record f) h e)
 
 -- the service reader, where its numbers fit
-pub service-told : (s o : List ℕ) (commit : ℕ) (a : Answer) → 8 ≤ length o → a ≡ soughtOf s commit → serviceTold o a ≡ serviceAt s commit o
+pub service-told : (s o : List ℕ) (commit : ℕ) (a : Answer) → serviceLength ≤ length o → a ≡ soughtOf s commit → serviceTold o a ≡ serviceAt s commit o
 unfolding serviceAt
-service-told s o commit a h e = rw (le-ltb (length o) 8 h, ← e)
+service-told s o commit a h e = rw (le-ltb (length o) serviceLength h, ← e)
 
-pub service-put : (s o : List ℕ) (commit : ℕ) {x : List ℕ} (f : Fields) → 8 ≤ length o → Answer.Record f ≡ soughtOf s commit
+pub service-put : (s o : List ℕ) (commit : ℕ) {x : List ℕ} (f : Fields) → serviceLength ≤ length o → Answer.Record f ≡ soughtOf s commit
     → x ≡ sets o 0 (serviceList f) → told x 0 ≡ serviceAt s commit o
 service-put s o commit f h e ex = rw ex (service-told s o commit (Answer.Record f) h e)
 
 -- of a record by itself
-pub service-record : (t : List ℕ) (last : ℕ) (v w o : List ℕ) (a : Answer) → 8 ≤ length o → replayed w a ≡ replayOf t 0 last v
+pub service-record : (t : List ℕ) (last : ℕ) (v w o : List ℕ) (a : Answer) → serviceLength ≤ length o → replayed w a ≡ replayOf t 0 last v
     → onService last w o a ≡ recordService t last v o
 unfolding recordService
-service-record t last v w o a h e = rw (le-ltb (length o) 8 h, ← e)
+service-record t last v w o a h e = rw (le-ltb (length o) serviceLength h, ← e)
 
-pub service-record-put : (t : List ℕ) (last : ℕ) (v w o : List ℕ) {x : List ℕ} (f : Fields) → 8 ≤ length o → replayed w (Answer.Record f) ≡ replayOf t 0 last v
+pub service-record-put : (t : List ℕ) (last : ℕ) (v w o : List ℕ) {x : List ℕ} (f : Fields) → serviceLength ≤ length o → replayed w (Answer.Record f) ≡ replayOf t 0 last v
     → x ≡ sets o 0 (serviceList f) → shown w (f .commit) x 0 ≡ recordService t last v o
 service-record-put t last v w o f h e ex = rw ex (service-record t last v w o (Answer.Record f) h e)

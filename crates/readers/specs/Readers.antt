@@ -14,6 +14,10 @@ use Rattle.seek.specs.Seek.{soughtOf}
 use Rattle.counts.specs.Counts.{longestCounts, countsOn}
 use Rattle.counts.specs.Record.{Shown, shown}
 
+-- how many numbers the service reader puts
+abbrev pub serviceLength : ℕ
+serviceLength = 8
+
 -- all fields: the record's place in the archive, its sizes and its numbers; its entries are behind its header, at that place
 abbrev pub serviceList : Fields → List ℕ
 serviceList f = f .at ∷ f .end ∷ f .reads ∷ f .writes ∷ f .commit ∷ f .transaction ∷ f .station ∷ f .kind ∷ []
@@ -33,7 +37,7 @@ serviceTold o End = told o nothingThere
 serviceTold o (Refused k) = told o k
 
 unfoldable pub serviceAt : List ℕ → ℕ → List ℕ → Told
-serviceAt s commit o = cond (ltb (length o) 8) (told o 1) (serviceTold o (soughtOf s commit))
+serviceAt s commit o = cond (ltb (length o) serviceLength) (told o 1) (serviceTold o (soughtOf s commit))
 
 -- a record by itself, as `recordCounts` of counts has it
 abbrev pub onService : ℕ → List ℕ → List ℕ → Answer → Shown
@@ -42,4 +46,4 @@ onService last w o End = shown w last o 12
 onService last w o (Refused k) = shown w last o k
 
 unfoldable pub recordService : List ℕ → ℕ → List ℕ → List ℕ → Shown
-recordService t last v o = cond (ltb (length o) 8) (shown v last o 1) (onService last (replayOf t 0 last v .values) o (replayOf t 0 last v .answer))
+recordService t last v o = cond (ltb (length o) serviceLength) (shown v last o 1) (onService last (replayOf t 0 last v .values) o (replayOf t 0 last v .answer))

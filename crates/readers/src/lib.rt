@@ -6,7 +6,7 @@ ghost use lib.ListN.{length};
 ghost use lib.Seq.{sets};
 ghost use Rattle.archive.specs.Told.{told};
 ghost use Rattle.counts.specs.Record.{shown};
-ghost use Rattle.readers.specs.Readers.{serviceList, countsAt, serviceAt, recordService};
+ghost use Rattle.readers.specs.Readers.{serviceLength, serviceList, countsAt, serviceAt, recordService};
 use archive::Answer;
 use archive::Fields;
 
@@ -30,7 +30,7 @@ pub const KIND: usize = STATION + 1;
 pub const SERVICE: usize = KIND + 1;
 
 fn put_service(out: &mut [u64], f: Fields)
-    requires { ⌜ 8 ≤ length (now out) ⌝ }
+    requires { ⌜ serviceLength ≤ length (now out) ⌝ }
     ensures { λ _. ⌜ now (out .exit) ≡ sets (now (out .entry)) 0 (serviceList f) ⌝ }
 {
     out[START] = f.at as u64;

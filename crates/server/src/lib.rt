@@ -9,9 +9,10 @@ ghost use Rattle.server.specs.Outcome.{outcome};
 ghost use Rattle.server_state.specs.Layout.{serverLength};
 use server_actions::Counts;
 use server_state::KIND;
+use server_state::STATIONS;
 
 // Behind the kinds of the eight stations.
-const KINDS_END: usize = KIND + 8;
+const KINDS_END: usize = KIND + STATIONS;
 
 // What the step answers: the number that turns a call back, or how many messages and how many bytes of records it left.
 pub enum Served {

@@ -31,7 +31,7 @@ fn address(m: &[u8]) -> usize
     requires { ⌜ (messageLength ≤ length (now m)) × (addressOf (now m) < 256) ⌝ }
     ensures { λ r. ⌜ r ≡ addressOf (now (m .entry)) ⌝ }
 {
-    named(m) * 8 + le::index(le::wide(m[message::OBJECT]))
+    named(m) * station_state::OBJECTS + le::index(le::wide(m[message::OBJECT]))
 }
 
 fn locking(s: &[u8], i: usize) -> bool

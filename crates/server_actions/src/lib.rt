@@ -198,7 +198,7 @@ pub fn install(s: &mut [u8], o: &mut [u8], q: &mut [u8], c: Counts, i: usize) ->
 {
     let d = server_sets::written_pages(s, i);
     // the entry goes before the first 23
-    let mut x = [0u8; 32];
+    let mut x = [0u8; SET_ROW];
     copy_in(&mut x, 0, s, WRITTEN_SET + i * SET_ROW, SET_ROW);
     let b = put_installed(s, o, q, c, i);
     let y = &x[0..SET_ROW];

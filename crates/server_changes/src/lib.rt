@@ -40,6 +40,7 @@ use server_state::WRITTEN_SET;
 use server_state::WRITTEN_VALUE;
 use server_state::WRITTEN_VERSION;
 use station_state::NUMBER_WIDTH;
+use station_state::OBJECTS;
 use station_state::PAGE_SET_WIDTH;
 use station_state::SET_ROW;
 use station_state::VALUE_WIDTH;
@@ -128,12 +129,12 @@ fn free_on(s: &mut [u8], i: usize, p: usize)
     requires { ⌜ (length (now s) ≡ serverLength) × (i < 8) × (p < 32) ⌝ }
     ensures { λ _. ⌜ now (s .exit) ≡ freeFrom i (now (s .entry)) (p * 8) 8 ⌝ }
 {
-    if le::get_u64(s, LOCK + p * 8) == 0 {
+    if le::get_u64(s, LOCK + p * OBJECTS) == 0 {
         return;
     }
     let mut o = 0;
     while o < 8 {
-        free_one(s, i, p * 8 + o);
+        free_one(s, i, p * OBJECTS + o);
         o += 1;
     }
 }
@@ -324,7 +325,7 @@ fn lock_one(s: &mut [u8], i: usize, p: usize, x: u8, o: usize)
     ensures { λ _. ⌜ now (s .exit) ≡ lockOneB i p x (now (s .entry)) o ⌝ }
 {
     if station_state::has_bit8(x, o) {
-        le::put_u8(s, LOCK + (p * 8 + o), holder(i));
+        le::put_u8(s, LOCK + (p * OBJECTS + o), holder(i));
         return;
     }
 }

@@ -20,6 +20,10 @@ pub record Told : Type 0 where
 abbrev pub told : List ℕ → ℕ → Told
 told t n = record { out = t; number = n }
 
+-- how many numbers a step tells
+abbrev pub servedLength : ℕ
+servedLength = 2
+
 abbrev pub counted : List ℕ → ℕ → ℕ → Told
 counted t m r = told (sets t 0 (m ∷ r ∷ [])) 0
 
@@ -37,10 +41,10 @@ pub record Hosted : Type 0 where
 abbrev pub hosted : List ℕ → List ℕ → List ℕ → List ℕ → ℕ → Hosted
 hosted s o q t n = record { state = s; messages = o; records = q; told = told t n }
 
--- number 1 where fewer than two numbers fit, else what the call does: the counts where it is accepted, the number where it is refused
+-- number 1 where fewer numbers fit, else what the call does: the counts where it is accepted, the number where it is refused
 unfoldable pub hostOf : List ℕ → List ℕ → List ℕ → List ℕ → Outcome → Hosted
 hostOf s o q t x =
-    cond (ltb (length t) 2) (hosted s o q t 1)
+    cond (ltb (length t) servedLength) (hosted s o q t 1)
     (record {
       state = x .state;
       messages = x .messages;
@@ -49,7 +53,7 @@ hostOf s o q t x =
     })
 
 -- a call that was made, and what was said of it
-pub host-made : (s o q t : List ℕ) {s′ o′ q′ t′ : List ℕ} (y : Served) {n : ℕ} {x : Outcome} → ltb (length t) 2 ≡ false → outcome s′ o′ q′ y ≡ x
+pub host-made : (s o q t : List ℕ) {s′ o′ q′ t′ : List ℕ} (y : Served) {n : ℕ} {x : Outcome} → ltb (length t) servedLength ≡ false → outcome s′ o′ q′ y ≡ x
     → told t′ n ≡ toldOf t y → hosted s′ o′ q′ t′ n ≡ hostOf s o q t x
 unfolding hostOf
 host-made s o q t {s′} {o′} {q′} (Refused k) h e f = rw (h, ← e) (ap (λ (z : Told). record { state = s′; messages = o′; records = q′; told = z }) f)

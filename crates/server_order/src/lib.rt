@@ -12,6 +12,7 @@ ghost use Rattle.server_order.specs.Closure.{closeTo};
 ghost use Rattle.server_order.specs.Cycles.{closureB};
 use server_state::AGE;
 use server_state::AGE_WIDTH;
+use server_state::STATIONS;
 use server_state::WANT;
 
 // In place of an edge set that was not asked for.
@@ -33,11 +34,11 @@ fn edge_of(s: &[u8], d: &[u8], i: usize) -> u8
 }
 
 // The edges that leave each station.
-fn edges(s: &[u8], d: &[u8]) -> [u8; 8]
+fn edges(s: &[u8], d: &[u8]) -> [u8; STATIONS]
     requires { ⌜ (length (now s) ≡ serverLength) × Known (now s) (now d) ⌝ }
     ensures { λ r. ⌜ r ≡ edgesTo (now (s .entry)) 8 ⌝ }
 {
-    let mut e = [0u8; 8];
+    let mut e = [0u8; STATIONS];
     let mut i = 0;
     while i < 8 {
         e[i] = edge_of(s, d, i);

@@ -10,6 +10,7 @@ ghost use Rattle.server_order.specs.Known.{Known};
 ghost use Rattle.server_pass.specs.Edges.{notedB, Noted};
 ghost use Rattle.server_pass.specs.Rounds.{passedB, brokenB, roundB};
 use server_actions::Counts;
+use server_state::STATIONS;
 ghost use Rattle.server_state.specs.Layout.{serverLength};
 
 // The turn of station i, if there is such a station. Who blocks it is asked for once, and e takes the edges that leave it.
@@ -33,7 +34,7 @@ fn pass_places(
     q: &mut [u8],
     c: Counts,
     e: &mut [u8],
-    l: &[u8; 8],
+    l: &[u8; STATIONS],
 ) -> Counts
     requires { ⌜ (length (now s) ≡ serverLength) × Known (now s) (now e) × Sane (now s) × Room (now o) (now q) c (passTo (now l) (from (now s)) 8) ⌝ }
     ensures { λ r. ⌜ (posted (now (s .exit)) (now (o .exit)) (now (q .exit)) r ≡ post (now (o .entry)) (now (q .entry)) c (passTo (now (l .entry)) (from (now (s .entry))) 8)) × Noted (now (s .entry)) (passTo (now (l .entry)) (from (now (s .entry))) 8) (now (e .exit)) ⌝ }
@@ -74,7 +75,7 @@ fn round(s: &mut [u8], o: &mut [u8], q: &mut [u8], c: Counts) -> Counts
     requires { ⌜ (length (now s) ≡ serverLength) × Sane (now s) × Room (now o) (now q) c (roundB (from (now s))) ⌝ }
     ensures { λ r. ⌜ posted (now (s .exit)) (now (o .exit)) (now (q .exit)) r ≡ post (now (o .entry)) (now (q .entry)) c (roundB (from (now (s .entry)))) ⌝ }
 {
-    let mut e = [server_order::UNKNOWN; 8];
+    let mut e = [server_order::UNKNOWN; STATIONS];
     let b = pass(s, o, q, c, &mut e);
     if b.messages != c.messages {
         return b;

@@ -8,6 +8,7 @@ ghost use Rattle.server_state.specs.Valid.{mostAt, most as Valid·most, 
 ghost use Rattle.server_state.specs.Eights.{groupFree, groupOk};
 ghost use Rattle.server_state.specs.Ages.{agedOf};
 use station_state::NUMBER_WIDTH;
+use station_state::OBJECTS;
 use station_state::PAGE_SET_WIDTH;
 use station_state::SET_ROW;
 use station_state::VALUE_WIDTH;
@@ -83,6 +84,14 @@ pub const LENGTH: usize = AGE_KEPT + 8;
 
 // "each transaction gets a new age, 2^63 being out of range": of ages and arrivals.
 pub const COUNTER_LIMIT: u64 = 9223372036854775808;
+
+// Stations, each with an entry in the fields by station.
+pub const STATIONS: usize = 8;
+
+// Pages that are tested together for locks, and the bytes of their locks on objects.
+const GROUP: usize = 8;
+
+const GROUP_LOCKS: usize = GROUP * OBJECTS;
 
 // Fields that are read in many places. The latest transaction of station i.
 pub fn latest(s: &[u8], i: usize) -> u32
@@ -374,7 +383,7 @@ fn beside_at(s: &[u8], p: usize, o: usize) -> bool
     requires { ⌜ (length (now s) ≡ serverLength) × (p < 32) × (o < 8) ⌝ }
     ensures { λ r. ⌜ r ≡ besideAt (now (s .entry)) p o ⌝ }
 {
-    (s[LOCK + (p * 8 + o)] == 0) | (s[LOCK + (p * 8 + o)] == s[WHOLE + p])
+    (s[LOCK + (p * OBJECTS + o)] == 0) | (s[LOCK + (p * OBJECTS + o)] == s[WHOLE + p])
 }
 
 fn besides_ok(s: &[u8], p: usize) -> bool
@@ -409,7 +418,7 @@ fn holder_at(s: &[u8], p: usize, o: usize) -> bool
     requires { ⌜ (length (now s) ≡ serverLength) × (p < 32) × (o < 8) ⌝ }
     ensures { λ r. ⌜ r ≡ holderAt (now (s .entry)) p o ⌝ }
 {
-    holder_ok(s, s[LOCK + (p * 8 + o)])
+    holder_ok(s, s[LOCK + (p * OBJECTS + o)])
 }
 
 // A page without locks is passed over.
@@ -417,7 +426,7 @@ fn holders_ok(s: &[u8], p: usize) -> bool
     requires { ⌜ (length (now s) ≡ serverLength) × (p < 32) ⌝ }
     ensures { λ r. ⌜ r ≡ allTo (holderAt (now (s .entry)) p) 8 ⌝ }
 {
-    if le::get_u64(s, LOCK + p * 8) == 0 {
+    if le::get_u64(s, LOCK + p * OBJECTS) == 0 {
         return true;
     }
     let mut ok = true;
@@ -444,7 +453,7 @@ fn group_free(s: &[u8], g: usize) -> bool
     requires { ⌜ (length (now s) ≡ serverLength) × (g < 4) ⌝ }
     ensures { λ r. ⌜ r ≡ groupFree (now (s .entry)) g ⌝ }
 {
-    most(s, LOCK + g * 64, 0, 64) & (le::get_u64(s, WHOLE + g * 8) == 0)
+    most(s, LOCK + g * GROUP_LOCKS, 0, GROUP_LOCKS) & (le::get_u64(s, WHOLE + g * GROUP) == 0)
 }
 
 // Eight pages; where nothing is locked none is looked at.
@@ -458,7 +467,7 @@ fn group_ok(s: &[u8], g: usize) -> bool
     let mut ok = true;
     let mut p = 0;
     while p < 8 {
-        ok &= page_ok(s, g * 8 + p);
+        ok &= page_ok(s, g * GROUP + p);
         p += 1;
     }
     ok
@@ -584,7 +593,7 @@ fn zero(s: &mut [u8])
 fn kinds_ok(kinds: &[u8]) -> bool
     ensures { λ r. ⌜ r ≡ kindsOk (now (kinds .entry)) ⌝ }
 {
-    if kinds.len() != 8 {
+    if kinds.len() != STATIONS {
         return false;
     }
     most(kinds, 0, 1, 8)

@@ -23,6 +23,7 @@ use server_state::WHOLE;
 use server_state::WRITTEN_SET;
 use server_state::WRITTEN_VERSION;
 use station_state::NUMBER_WIDTH;
+use station_state::OBJECTS;
 use station_state::SET_ROW;
 
 // A byte as a number that compares with a station and finds a place.
@@ -56,7 +57,7 @@ fn lock_at(s: &[u8], i: usize, p: usize, o: usize) -> bool
     requires { ⌜ (length (now s) ≡ serverLength) × (i < 8) × (p < 32) × (o < 8) ⌝ }
     ensures { λ r. ⌜ r ≡ lockAtB (now (s .entry)) i p o ⌝ }
 {
-    byte(s, LOCK + (p * 8 + o)) == i + 1
+    byte(s, LOCK + (p * OBJECTS + o)) == i + 1
 }
 
 // Whether station i has a lock on page p, whole or on an object. A page without locks on objects is seen at once.
@@ -65,7 +66,7 @@ pub fn lock_on(s: &[u8], i: usize, p: usize) -> bool
     ensures { λ r. ⌜ r ≡ lockOnB (now (s .entry)) i p ⌝ }
 {
     let whole = byte(s, WHOLE + p) == i + 1;
-    if le::get_u64(s, LOCK + p * 8) == 0 {
+    if le::get_u64(s, LOCK + p * OBJECTS) == 0 {
         return whole;
     }
     let mut r = false;
@@ -183,8 +184,8 @@ fn other_version(s: &[u8], from: usize, p: usize, o: usize) -> bool
     requires { ⌜ (length (now s) ≡ serverLength) × (from + versionRow ≤ serverLength) × (p < 32) × (o < 8) ⌝ }
     ensures { λ r. ⌜ r ≡ otherVersion (now (s .entry)) from (p * 8 + o) ⌝ }
 {
-    le::get_u32(s, from + (p * 8 + o) * NUMBER_WIDTH)
-        != le::get_u32(s, VERSION + (p * 8 + o) * NUMBER_WIDTH)
+    le::get_u32(s, from + (p * OBJECTS + o) * NUMBER_WIDTH)
+        != le::get_u32(s, VERSION + (p * OBJECTS + o) * NUMBER_WIDTH)
 }
 
 fn stale_at(s: &[u8], i: usize, p: usize, o: usize) -> bool
@@ -233,7 +234,7 @@ fn locked_at(s: &[u8], i: usize, p: usize, o: usize) -> bool
     ensures { λ r. ⌜ r ≡ lockedAtB (now (s .entry)) i p o ⌝ }
 {
     station_state::has_bit8(s[WRITTEN_SET + i * SET_ROW + p], o)
-        & server_state::other(s[LOCK + (p * 8 + o)], i)
+        & server_state::other(s[LOCK + (p * OBJECTS + o)], i)
 }
 
 // Most pages are not written, and cost one test.
@@ -345,9 +346,9 @@ fn holder_at(s: &[u8], i: usize, p: usize, o: usize) -> u8
     requires { ⌜ (length (now s) ≡ serverLength) × (i < 8) × (p < 32) × (o < 8) ⌝ }
     ensures { λ r. ⌜ r ≡ holderAt (now (s .entry)) i p o ⌝ }
 {
-    let h = s[LOCK + (p * 8 + o)];
+    let h = s[LOCK + (p * OBJECTS + o)];
     let held = station_state::has_bit8(wanted(s, i, p), o) & server_state::other(h, i) & (h <= 8);
-    bit_if(held, (byte(s, LOCK + (p * 8 + o)) + 7) % 8)
+    bit_if(held, (byte(s, LOCK + (p * OBJECTS + o)) + 7) % 8)
 }
 
 // Most pages are without locks or not wanted, and cost a test.
@@ -355,7 +356,7 @@ fn holders_on(s: &[u8], i: usize, p: usize) -> u8
     requires { ⌜ (length (now s) ≡ serverLength) × (i < 8) × (p < 32) ⌝ }
     ensures { λ r. ⌜ r ≡ holdersOn (now (s .entry)) i p ⌝ }
 {
-    if le::get_u64(s, LOCK + p * 8) == 0 {
+    if le::get_u64(s, LOCK + p * OBJECTS) == 0 {
         return 0;
     }
     if wanted(s, i, p) == 0 {
@@ -442,7 +443,7 @@ fn unavailable_at(s: &[u8], i: usize, a: usize, w: u8, o: usize) -> bool
     requires { ⌜ (length (now s) ≡ serverLength) × (i < 8) × (a < 256) × (o < 8) × (w ≡ joinTo (writtenBy (now s) i (a / 8)) 8) ⌝ }
     ensures { λ r. ⌜ r ≡ unavailableAt (now (s .entry)) i a o ⌝ }
 {
-    let other = server_state::other(s[LOCK + (a / 8 * 8 + o)], i);
+    let other = server_state::other(s[LOCK + (a / OBJECTS * OBJECTS + o)], i);
     (o != a % 8) & (other | station_state::has_bit8(w, o))
 }
 

@@ -11,6 +11,10 @@ ghost use Rattle.set_record.specs.Record.{recordFrom, filled, recordFill
 ghost use Rattle.set_record.specs.Stores.{entryOne, entriesTo, valuesFor, bothFor};
 ghost use Rattle.set_record.specs.Spans.{memberFrom, spanTo};
 ghost use Rattle.layout.specs.Record.{headerLength, valueLength, entryLength, mostEntries, longestRecord, bytesOf};
+use station_state::OBJECTS;
+
+// Room for the addresses of both sets.
+pub const ADDRESSES: usize = 2 * record::MOST as usize;
 
 // Lists address a as entry i, if the set from `at` has it: how many entries there are then.
 fn list_address(list: &mut [u8], s: &[u8], at: usize, i: usize, a: usize) -> usize
@@ -35,7 +39,7 @@ fn list_page(list: &mut [u8], s: &[u8], at: usize, i: usize, p: usize) -> usize
     let mut j = i;
     let mut o = 0;
     while o < 8 {
-        let b = list_address(list, s, at, j, p * 8 + o);
+        let b = list_address(list, s, at, j, p * OBJECTS + o);
         j = b;
         o += 1;
     }
@@ -128,8 +132,7 @@ pub fn put_record(
     requires { ⌜ (reads + setRow ≤ length (now s)) × («read_values» + 256 * valueLength ≤ length (now s)) × (writes + setRow ≤ length (now s)) × («written_values» + 256 * valueLength ≤ length (now s)) × (base + length (bytesOf (recordFrom (now s) reads «read_values» writes «written_values» commit transaction station kind)) ≤ length (now out)) × (station < 256) × (kind < 256) ⌝ }
     ensures { λ r. ⌜ (filled (now (out .exit)) r ≡ recordFilled (now (out .entry)) base (recordFrom (now (s .entry)) reads «read_values» writes «written_values» commit transaction station kind)) × (r ≤ longestRecord) ⌝ }
 {
-    // room for the addresses of both sets
-    let mut list = [0u8; 512];
+    let mut list = [0u8; ADDRESSES];
     let n = list_set(&mut list, s, reads, 0);
     let k = list_set(&mut list, s, writes, n);
     let e = base + record::HEADER;

@@ -15,11 +15,11 @@ use station_state::SET_ROW;
 use station_state::WRITTEN_SET;
 
 // Thirty-two object sets of a state, as a copy: the state changes while they are used.
-fn sets_at(s: &[u8], at: usize) -> [u8; 32]
+fn sets_at(s: &[u8], at: usize) -> [u8; SET_ROW]
     requires { ⌜ at + setRow ≤ length (now s) ⌝ }
     ensures { λ r. ⌜ r ≡ setsAt (now (s .entry)) at ⌝ }
 {
-    let mut x = [0; 32];
+    let mut x = [0; SET_ROW];
     let e = at + SET_ROW;
     bytes::copy(&s[at..e], &mut x);
     x

@@ -7,8 +7,8 @@ ghost use Rattle.station_commit.specs.Commit.{countSent, versionSent, ve
 ghost use Rattle.station_state.specs.Layout.{stateLength};
 ghost use Rattle.message.specs.Layout.{versionWidth};
 ghost use Rattle.message.specs.Commit.{versionsAt};
+use set_record::ADDRESSES;
 use station_state::KIND;
-use station_state::NUMBER;
 use station_state::NUMBER_WIDTH;
 use station_state::READ_SET;
 use station_state::READ_VALUES;
@@ -47,8 +47,7 @@ fn put_versions(c: &mut [u8], s: &[u8]) -> usize
     requires { ⌜ (length (now s) ≡ stateLength) × (versionsAt + countSent (now s) * versionWidth ≤ length (now c)) ⌝ }
     ensures { λ r. ⌜ (now (c .exit) ≡ sets (now (c .entry)) versionsAt (versionsSent (now (s .entry)))) × (r ≡ countSent (now (s .entry))) ⌝ }
 {
-    // room for the addresses of both sets
-    let mut list = [0u8; 512];
+    let mut list = [0u8; ADDRESSES];
     let n = set_record::list_set(&mut list, s, READ_SET, 0);
     let k = set_record::list_set(&mut list, s, WRITTEN_SET, n);
     let addresses = &list[0..k];
@@ -61,7 +60,7 @@ pub fn put_commit(s: &[u8], c: &mut [u8]) -> usize
     requires { ⌜ (length (now s) ≡ stateLength) × (length (commitBytes (now s)) ≤ length (now c)) ⌝ }
     ensures { λ r. ⌜ filled (now (c .exit)) r ≡ commitFilled (now (s .entry)) (now (c .entry)) ⌝ }
 {
-    let t = le::get_u32(s, NUMBER);
+    let t = station_state::number(s);
     message::put_up(
         c,
         0,

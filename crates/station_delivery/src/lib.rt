@@ -14,7 +14,7 @@ use station_state::ADDRESS;
 use station_state::COPY;
 use station_state::KIND;
 use station_state::LOCKS;
-use station_state::NUMBER;
+use station_state::OBJECTS;
 use station_state::OPEN;
 use station_state::STATION;
 use station_state::VALUE_WIDTH;
@@ -28,7 +28,7 @@ fn live(s: &[u8], t: u32) -> bool
     requires { ⌜ length (now s) ≡ stateLength ⌝ }
     ensures { λ r. ⌜ r ≡ liveB (now (s .entry)) t ⌝ }
 {
-    (s[OPEN] != 0) & (t == le::get_u32(s, NUMBER))
+    (s[OPEN] != 0) & (t == station_state::number(s))
 }
 
 // Whether t is a validating transaction that has ended.
@@ -36,7 +36,7 @@ fn ended(s: &[u8], t: u32) -> bool
     requires { ⌜ length (now s) ≡ stateLength ⌝ }
     ensures { λ r. ⌜ r ≡ endedB (now (s .entry)) t ⌝ }
 {
-    !(s[KIND] == 0) & !live(s, t) & !(le::get_u32(s, NUMBER) < t)
+    !(s[KIND] == 0) & !live(s, t) & !(station_state::number(s) < t)
 }
 
 fn for_read_of(s: &[u8], a: usize) -> bool
@@ -59,7 +59,7 @@ fn fits_page(m: &[u8], s: &[u8]) -> bool
     ensures { λ r. ⌜ r ≡ fitsPageB (now (m .entry)) (now (s .entry)) ⌝ }
 {
     let t = le::get_u32(m, message::TRANSACTION);
-    let a = m[message::PAGE] as usize * 8 + m[message::OBJECT] as usize;
+    let a = m[message::PAGE] as usize * OBJECTS + m[message::OBJECT] as usize;
     ended(s, t) | (live(s, t) & (for_read_of(s, a) | (!(s[KIND] == 0) & for_write_of(s, a))))
 }
 
@@ -68,7 +68,7 @@ fn fits_lock(m: &[u8], s: &[u8]) -> bool
     requires { ⌜ (length (now s) ≡ stateLength) × (messageLength ≤ length (now m)) ⌝ }
     ensures { λ r. ⌜ r ≡ fitsLockB (now (m .entry)) (now (s .entry)) ⌝ }
 {
-    let a = m[message::PAGE] as usize * 8 + m[message::OBJECT] as usize;
+    let a = m[message::PAGE] as usize * OBJECTS + m[message::OBJECT] as usize;
     (s[KIND] == 0) & live(s, le::get_u32(m, message::TRANSACTION)) & for_write_of(s, a)
 }
 
@@ -111,7 +111,7 @@ fn take_lock(s: &mut [u8], m: &[u8])
 {
     let p = m[message::PAGE] as usize;
     if m[message::KIND] == 17 {
-        station_state::add_to(s, LOCKS, p * 8 + m[message::OBJECT] as usize);
+        station_state::add_to(s, LOCKS, p * OBJECTS + m[message::OBJECT] as usize);
         return;
     }
     if m[message::KIND] == 18 {
@@ -179,7 +179,7 @@ fn loosened(s: &mut [u8], m: &[u8])
 {
     let p = m[message::PAGE] as usize;
     if live(s, le::get_u32(m, message::TRANSACTION))
-        & station_state::has_bit32(le::get_u32(s, WHOLE), p)
+        & station_state::has_bit32(station_state::whole(s), p)
     {
         station_state::loosen(s, p);
         return;

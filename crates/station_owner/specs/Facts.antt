@@ -13,21 +13,21 @@ use Rattle.sets.specs.Base.{turned}
 use Rattle.sets.specs.Laws.{byB, eqb-no, ltb-yes, not-no}
 use Rattle.lists.specs.Tests.{and-l, and-r}
 use Rattle.station_state.specs.Layout.{stateLength, number, station, opened, wait, cached, hasBit, requestedB}
-use Rattle.station_state.specs.Valid.{valid}
+use Rattle.station_state.specs.Valid.{valid, restsOk}
 use Rattle.station_state.specs.Facts.{Ranged, valid-ranged}
-use Rattle.station_state.specs.Changes.{forCommitB}
+use Rattle.station_state.specs.Changes.{forCommitB, beginB}
 use Rattle.station_pages.specs.Pages.{usedPageB}
 use Rattle.message.specs.Stores.{length-up}
 use Rattle.station_commit.specs.Commit.{Filled, filled, commitBytes, commitFilled}
 use Rattle.station_commit.specs.Filled.{commit-length}
 use Rattle.station_callbacks.specs.Callbacks.{sends, flat, Posted, posted, post, closeB, closePosted, undoB}
 use Rattle.station_callbacks.specs.Posting.{Whole, close-post}
-use Rattle.station_answer.specs.declared.Answer.the-variants.{Refused, Waits, Aborted}
+use Rattle.station_answer.specs.declared.Answer.the-variants.{Refused, Begun, Waits, Aborted}
 use Rattle.station_answer.specs.declared.Said.{Said}
-use Rattle.station_answer.specs.Did.{Did, doesAll, refuses, said, outcome, delivered, handed, Delivered}
+use Rattle.station_answer.specs.Did.{Did, does, doesAll, refuses, said, outcome, delivered, handed, Delivered}
 use Rattle.station_answer.specs.Handed.{hand-all}
 use Rattle.station_answer.specs.Ask.{lockingB, openB}
-use Rattle.station_owner.specs.Owner.{ready, called, unlessB, checkBeginB, openThenB, checkOpenB, checkAddressB, checkPurgeB, commitCalled, abortsB}
+use Rattle.station_owner.specs.Owner.{ready, called, unlessB, checkBeginB, openThenB, checkOpenB, checkAddressB, checkPurgeB, commitCalled, abortsB, atRest, noBegin, ownBeginB}
 use Rattle.message.specs.Commit.{stationRoom, commitRoom}
 
 -- state and output passed
@@ -56,14 +56,6 @@ ready-is s o c h =
 passed : (b : Bool) (n k : ℕ) → n ≢ 0 → turned b n k ≡ 0 → (b ≡ false) × (k ≡ 0)
 passed true n k h e = absurd (h e)
 passed false n k h e = (refl, e)
-
-pub begin-passed : (s : List ℕ) → checkBeginB s ≡ 0 → number s ≢ 4294967295
-unfolding checkBeginB
-begin-passed s e =
-    let a = passed (not (eqb (wait s) 0)) 7 _ (λ q. absurd (omega arith)) e in
-    let b = passed (openB s) 9 _ (λ q. absurd (omega arith)) (a .1) in
-    let c = passed (eqb (number s) 4294967295) 11 0 (λ q. absurd (omega arith)) (b .1) in
-    eqb-no _ _ (c .0)
 
 -- 7 and 8
 pub open-passed : (s : List ℕ) (n : ℕ) → openThenB s n ≡ 0 → opened s ≢ 0
@@ -123,6 +115,62 @@ pub call-ok : (s o c : List ℕ) (d : Did) (n : ℕ) {k : ℕ} {s′ o′ : List
 call-ok s o c d n {k} h e z q =
     let w : eqb n 0 ≡ true = rw (← e) (eq-eqb k 0 z) in
     rw (h, w) (ap (λ (y : Delivered). outcome (y .state) (y .messages) c (y .said)) q)
+
+-- A BEGIN
+
+-- the output's room behind the state's test
+pub rests-ready : (s o c : List ℕ) {r : Bool} → r ≡ restsOk s → r && leb stationRoom (length o) && leb commitRoom (length c) ≡ atRest s o c
+unfolding restsOk atRest ready
+rests-ready s o c e = rw e (behind (eqb (opened s) 0) (valid s) (leb stationRoom (length o)) (leb commitRoom (length c)))
+  where
+    behind : (a v p q : Bool) → a && v && p && q ≡ a && (v && p && q)
+    behind true v p q = refl
+    behind false v p q = refl
+
+-- what is not at rest, and passes, is open
+works-number : (s : List ℕ) → eqb (opened s) 0 ≡ false → checkBeginB s ≡ cond (eqb (wait s) 0) 9 7
+unfolding checkBeginB
+works-number s e = byB (eqb (wait s) 0) (λ w. rw (w, e) refl) (λ w. rw w refl)
+
+not-0 : (b : Bool) {k : ℕ} → k ≡ cond b 9 7 → k ≢ 0
+not-0 true e z = absurd (omega (arith, e, z))
+not-0 false e z = absurd (omega (arith, e, z))
+
+pub begin-back : (s o c : List ℕ) {k : ℕ} {x : Said} → atRest s o c ≡ false → k ≡ noBegin s o c → x ≡ said (Refused k) 0 0 → outcome s o c x ≡ called s o c (ownBeginB s)
+unfolding atRest noBegin ownBeginB
+begin-back s o c {k} h e q =
+    byB (ready s o c)
+    (λ able.
+    let works : eqb (opened s) 0 ≡ false = shut (eqb (opened s) 0) (rw able at h) in
+    let n : k ≡ cond (eqb (wait s) 0) 9 7 = rw able at e in
+    call-n s o c (does (Begun (number s + 1)) (beginB s) []) (checkBeginB s) able (n ∙ sym (works-number s works)) (not-0 (eqb (wait s) 0) n) q)
+    (λ able.
+    let n : k ≡ 1 = rw able at e in
+    call-1 s o c (ownBeginB s) able (q ∙ ap (λ (i : ℕ). said (Refused i) 0 0) n))
+  where
+    shut : (b : Bool) → b && true ≡ false → b ≡ false
+    shut true e = e
+    shut false e = refl
+
+-- what is at rest waits for nothing
+pub rests-passed : (s o c : List ℕ) → atRest s o c ≡ true → (ready s o c ≡ true) × (checkBeginB s ≡ turned (eqb (number s) 4294967295) 11 0)
+unfolding atRest checkBeginB ready
+rests-passed s o c h =
+    let two = valid s && leb stationRoom (length o) in
+    let able : two && leb commitRoom (length c) ≡ true = and-r (eqb (opened s) 0) (two && leb commitRoom (length c)) h in
+    let e : opened s ≡ 0 = eqb-true _ _ (and-l (eqb (opened s) 0) (two && leb commitRoom (length c)) h) in
+    let v = valid-ranged s (and-l (valid s) (leb stationRoom (length o)) (and-l two (leb commitRoom (length c)) able)) in
+    (able, rw (e, v .closed e .nothing-out) refl)
+
+-- the last number
+pub begin-spent : (s o c : List ℕ) {x : Said} → atRest s o c ≡ true → number s ≡ 4294967295 → x ≡ said (Refused 11) 0 0 → outcome s o c x ≡ called s o c (ownBeginB s)
+unfolding ownBeginB
+begin-spent s o c h e q =
+    let p = rests-passed s o c h in
+    call-n s o c (does (Begun (number s + 1)) (beginB s) []) (checkBeginB s) (p .0) (sym (rw (eq-eqb (number s) 4294967295 e) at (p .1))) (λ z. absurd (omega (arith, z))) q
+
+pub begin-free : (s o c : List ℕ) → atRest s o c ≡ true → number s ≢ 4294967295 → 0 ≡ checkBeginB s
+begin-free s o c h z = sym (rw (ne-eqb (number s) 4294967295 z) at (rests-passed s o c h .1))
 
 -- an abort: its 4, if there is one, and the transaction's end
 pub post-one : (s o m : List ℕ) {u : List ℕ} → u ≡ sets o 0 m → posted s u 1 ≡ post o (sends s (m ∷ []))

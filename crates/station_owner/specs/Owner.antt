@@ -9,7 +9,7 @@ use lib.Dec.{eqb, ltb, leb}
 use Rattle.sets.specs.Base.{turned}
 use Rattle.limits.specs.Limit.{limit}
 use Rattle.message.specs.Layout.{upMessage}
-use Rattle.station_state.specs.Layout.{copyOf, readValue, writtenValue, number, cached, whole, station, wait, unavailableFrom, readSetFrom, writtenSetFrom, locksFrom, hasBit, member, countIn, requestedB}
+use Rattle.station_state.specs.Layout.{copyOf, readValue, writtenValue, number, cached, whole, station, opened, wait, unavailableFrom, readSetFrom, writtenSetFrom, locksFrom, hasBit, member, countIn, requestedB}
 use Rattle.station_state.specs.Valid.{valid}
 use Rattle.station_state.specs.Changes.{beginB, recordReadB, writeLocalB, forReadB, forWriteB, forCommitB}
 use Rattle.station_pages.specs.Pages.{usedPageB, dropPagesB}
@@ -25,6 +25,10 @@ use Rattle.message.specs.Commit.{stationRoom, commitRoom}
 unfoldable pub ready : List ℕ → List ℕ → List ℕ → Bool
 ready s o c = valid s && leb stationRoom (length o) && leb commitRoom (length c)
 
+-- .. and no transaction is open
+unfoldable pub atRest : List ℕ → List ℕ → List ℕ → Bool
+atRest s o c = eqb (opened s) 0 && ready s o c
+
 -- a call on a lent state and lent buffers
 abbrev pub called : List ℕ → List ℕ → List ℕ → Did → Outcome
 called s o c d = laid o c (cond (ready s o c) d (refuses 1 s))
@@ -36,6 +40,10 @@ unlessB n d s = cond (eqb n 0) d (refuses n s)
 -- 7 Waiting, 9 Open, 11 Spent
 unfoldable pub checkBeginB : List ℕ → ℕ
 checkBeginB s = turned (not (eqb (wait s) 0)) 7 (turned (openB s) 9 (turned (eqb (number s) 4294967295) 11 0))
+
+-- what these come to, with 1, of a station that is not at rest (`begin-back`)
+unfoldable pub noBegin : List ℕ → List ℕ → List ℕ → ℕ
+noBegin s o c = cond (ready s o c) (cond (eqb (wait s) 0) 9 7) 1
 
 -- 7 Waiting, 8 Closed, then others
 unfoldable pub openThenB : List ℕ → ℕ → ℕ

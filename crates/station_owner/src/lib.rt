@@ -6,16 +6,14 @@ ghost use lib.ListN.{length};
 ghost use lib.Seq.{sets};
 ghost use Rattle.station_answer.specs.Did.{said, outcome, delivered, handed};
 ghost use Rattle.station_callbacks.specs.Callbacks.{sends, posted, post};
-ghost use Rattle.station_owner.specs.Owner.{ready as Owner·ready, called, commitCalled, checkBeginB, checkOpenB, longReadB, longWriteB, checkAddressB, checkPurgeB, requestB, shownB, readHereB, mayWriteB, asksB, abortsB, ownBeginB, readAsB, ownReadB, writeAsB, ownWriteB, ownAbortB, ownPurgeB};
+ghost use Rattle.station_owner.specs.Owner.{ready as Owner·ready, atRest, called, commitCalled, noBegin, checkOpenB, longReadB, longWriteB, checkAddressB, checkPurgeB, requestB, shownB, readHereB, mayWriteB, asksB, abortsB, ownBeginB, readAsB, ownReadB, writeAsB, ownWriteB, ownAbortB, ownPurgeB};
 ghost use Rattle.station_state.specs.Layout.{stateLength};
 ghost use Rattle.message.specs.Commit.{stationRoom};
 use station_answer::Answer;
 use station_answer::Said;
-use station_state::CACHED;
 use station_state::COPY;
 use station_state::KIND;
 use station_state::LOCKS;
-use station_state::NUMBER;
 use station_state::OPEN;
 use station_state::READ_SET;
 use station_state::READ_VALUES;
@@ -23,7 +21,6 @@ use station_state::STATION;
 use station_state::UNAVAILABLE;
 use station_state::VALUE_WIDTH;
 use station_state::WAIT;
-use station_state::WHOLE;
 use station_state::WRITTEN_SET;
 use station_state::WRITTEN_VALUES;
 
@@ -34,6 +31,13 @@ pub fn ready(s: &[u8], o: &[u8], c: &[u8]) -> bool
     station_state::valid(s) & (message::STATION_ROOM <= o.len()) & (message::COMMIT_ROOM <= c.len())
 }
 
+// The same, and no transaction is open.
+fn at_rest(s: &[u8], o: &[u8], c: &[u8]) -> bool
+    ensures { λ r. ⌜ r ≡ atRest (now (s .entry)) (now (o .entry)) (now (c .entry)) ⌝ }
+{
+    station_state::rests(s) & (message::STATION_ROOM <= o.len()) & (message::COMMIT_ROOM <= c.len())
+}
+
 // A refusal.
 pub fn refuse(number: u32) -> Said
     ensures { λ r. ⌜ r ≡ said (Answer.Refused number) 0 0 ⌝ }
@@ -41,20 +45,17 @@ pub fn refuse(number: u32) -> Said
     station_answer::say(Answer::Refused(number), 0)
 }
 
-fn check_begin(s: &[u8]) -> u32
-    requires { ⌜ length (now s) ≡ stateLength ⌝ }
-    ensures { λ r. ⌜ r ≡ checkBeginB (now (s .entry)) ⌝ }
+// The number that turns a begin back where a station is not at rest.
+fn no_begin(s: &[u8], o: &[u8], c: &[u8]) -> u32
+    ensures { λ r. ⌜ r ≡ noBegin (now (s .entry)) (now (o .entry)) (now (c .entry)) ⌝ }
 {
-    if s[WAIT] != 0 {
-        return 7;
+    if !ready(s, o, c) {
+        return 1;
     }
-    if s[OPEN] != 0 {
+    if s[WAIT] == 0 {
         return 9;
     }
-    if le::get_u32(s, NUMBER) == 4294967295 {
-        return 11;
-    }
-    0
+    7
 }
 
 fn check_open(s: &[u8]) -> u32
@@ -142,7 +143,7 @@ fn check_purge(p: u32, s: &[u8]) -> u32
         return 7;
     }
     if station_pages::used_page(s, p as usize)
-        | !station_state::has_bit32(le::get_u32(s, CACHED), p as usize)
+        | !station_state::has_bit32(station_state::cached(s), p as usize)
     {
         return 10;
     }
@@ -153,23 +154,22 @@ fn check_purge(p: u32, s: &[u8]) -> u32
 pub fn begin(s: &mut [u8], o: &mut [u8], c: &mut [u8]) -> Said
     ensures { λ r. ⌜ outcome (now (s .exit)) (now (o .exit)) (now (c .exit)) r ≡ called (now (s .entry)) (now (o .entry)) (now (c .entry)) (ownBeginB (now (s .entry))) ⌝ }
 {
-    if !ready(s, o, c) {
-        return refuse(1);
+    if !at_rest(s, o, c) {
+        return refuse(no_begin(s, o, c));
     }
-    let n = check_begin(s);
-    if n != 0 {
-        return refuse(n);
+    let n = station_state::number(s);
+    if n == 4294967295 {
+        return refuse(11);
     }
-    let t = le::get_u32(s, NUMBER) + 1;
     station_state::begin(s);
-    station_answer::say(Answer::Begun(t), 0)
+    station_answer::say(Answer::Begun(n + 1), 0)
 }
 
 fn shown(a: usize, s: &[u8]) -> bool
     requires { ⌜ (length (now s) ≡ stateLength) × (a < 256) ⌝ }
     ensures { λ r. ⌜ r ≡ shownB a (now (s .entry)) ⌝ }
 {
-    station_state::has_bit32(le::get_u32(s, CACHED), a / 8)
+    station_state::has_bit32(station_state::cached(s), a / 8)
         & !station_state::member(s, UNAVAILABLE, a)
 }
 
@@ -185,7 +185,7 @@ fn request(k: u8, a: usize, s: &[u8], o: &mut [u8])
         s[STATION],
         (a / 8) as u8,
         (a % 8) as u8,
-        le::get_u32(s, NUMBER),
+        station_state::number(s),
         0,
         0,
     );
@@ -246,7 +246,7 @@ fn may_write(a: usize, s: &[u8]) -> bool
 {
     if s[KIND] == 0 {
         return station_state::member(s, LOCKS, a)
-            | station_state::has_bit32(le::get_u32(s, WHOLE), a / 8);
+            | station_state::has_bit32(station_state::whole(s), a / 8);
     }
     shown(a, s)
 }
@@ -315,7 +315,7 @@ fn tell_abort(s: &[u8], o: &mut [u8]) -> usize
     ensures { λ k. ⌜ posted (now (s .entry)) (now (o .exit)) k ≡ post (now (o .entry)) (sends (now (s .entry)) (abortsB (now (s .entry)))) ⌝ }
 {
     if s[KIND] == 0 {
-        message::put_up(o, 0, 4, s[STATION], 0, 0, le::get_u32(s, NUMBER), 0, 0);
+        message::put_up(o, 0, 4, s[STATION], 0, 0, station_state::number(s), 0, 0);
         return 1;
     }
     0

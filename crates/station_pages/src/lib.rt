@@ -9,6 +9,7 @@ ghost use Rattle.message.specs.Layout.{messageLength};
 use station_state::CACHED;
 use station_state::COPY;
 use station_state::NUMBER_WIDTH;
+use station_state::OBJECTS;
 use station_state::READ_SET;
 use station_state::UNAVAILABLE;
 use station_state::VALUE_WIDTH;
@@ -93,7 +94,7 @@ fn drops(sets: &[u8], s: &[u8], p: usize) -> bool
     requires { ⌜ (length (now s) ≡ stateLength) × (setRow ≤ length (now sets)) × (p < 32) ⌝ }
     ensures { λ r. ⌜ r ≡ dropsB (now (sets .entry)) (now (s .entry)) p ⌝ }
 {
-    station_state::has_bit32(le::get_u32(s, CACHED), p)
+    station_state::has_bit32(station_state::cached(s), p)
         & (sets[p] != 0)
         & !used_page(s, p)
         & !station_state::requested(s, p)
@@ -120,7 +121,7 @@ fn blank(s: &mut [u8], p: usize)
 {
     let mut o = 0;
     while o < 8 {
-        le::put_u64(s, COPY + (p * 8 + o) * VALUE_WIDTH, 0);
+        le::put_u64(s, COPY + (p * OBJECTS + o) * VALUE_WIDTH, 0);
         o += 1;
     }
 }
@@ -132,7 +133,7 @@ fn unversion(s: &mut [u8], p: usize)
 {
     let mut o = 0;
     while o < 8 {
-        le::put_u32(s, VERSIONS + (p * 8 + o) * NUMBER_WIDTH, 0);
+        le::put_u32(s, VERSIONS + (p * OBJECTS + o) * NUMBER_WIDTH, 0);
         o += 1;
     }
 }
@@ -166,7 +167,7 @@ pub fn drop_pages(s: &mut [u8], d: u32)
         drop_one(s, d, p);
         p += 1;
     }
-    let x = le::get_u32(s, CACHED);
+    let x = station_state::cached(s);
     le::put_u32(s, CACHED, x & !d);
 }
 
@@ -174,7 +175,7 @@ fn mark_one(s: &mut [u8], sets: &[u8], p: usize)
     requires { ⌜ (length (now s) ≡ stateLength) × (setRow ≤ length (now sets)) × (p < 32) ⌝ }
     ensures { λ _. ⌜ now (s .exit) ≡ markOneB (now (sets .entry)) (now (s .entry)) p ⌝ }
 {
-    if station_state::has_bit32(le::get_u32(s, CACHED), p) {
+    if station_state::has_bit32(station_state::cached(s), p) {
         let x = s[UNAVAILABLE + p] | sets[p];
         le::put_u8(s, UNAVAILABLE + p, x);
         return;
@@ -199,7 +200,7 @@ fn arrives(m: &[u8], s: &[u8], p: usize, o: usize) -> u64
     ensures { λ r. ⌜ r ≡ arrivesB (now (m .entry)) (now (s .entry)) p o ⌝ }
 {
     if station_state::has_bit8(s[WRITTEN_SET + p], o) {
-        return le::get_u64(s, WRITTEN_VALUES + (p * 8 + o) * VALUE_WIDTH);
+        return le::get_u64(s, WRITTEN_VALUES + (p * OBJECTS + o) * VALUE_WIDTH);
     }
     le::get_u64(m, message::VALUES + o * record::VALUE)
 }
@@ -211,7 +212,7 @@ fn arrive_values(s: &mut [u8], m: &[u8], p: usize)
     let mut o = 0;
     while o < 8 {
         let v = arrives(m, s, p, o);
-        le::put_u64(s, COPY + (p * 8 + o) * VALUE_WIDTH, v);
+        le::put_u64(s, COPY + (p * OBJECTS + o) * VALUE_WIDTH, v);
         o += 1;
     }
 }
@@ -223,7 +224,7 @@ fn arrive_versions(s: &mut [u8], m: &[u8], p: usize)
     let mut o = 0;
     while o < 8 {
         let v = le::get_u32(m, message::PAGE_VERSIONS + o * message::VERSION_WIDTH);
-        le::put_u32(s, VERSIONS + (p * 8 + o) * NUMBER_WIDTH, v);
+        le::put_u32(s, VERSIONS + (p * OBJECTS + o) * NUMBER_WIDTH, v);
         o += 1;
     }
 }
@@ -244,7 +245,7 @@ fn version_one(s: &mut [u8], n: u32, p: usize, o: usize)
     ensures { λ _. ⌜ now (s .exit) ≡ versionOneB n (now (s .entry)) p o ⌝ }
 {
     if station_state::has_bit8(s[WRITTEN_SET + p], o) {
-        le::put_u32(s, VERSIONS + (p * 8 + o) * NUMBER_WIDTH, n);
+        le::put_u32(s, VERSIONS + (p * OBJECTS + o) * NUMBER_WIDTH, n);
         return;
     }
 }
@@ -264,7 +265,7 @@ fn version_page(s: &mut [u8], n: u32, p: usize)
     requires { ⌜ (length (now s) ≡ stateLength) × (p < 32) ⌝ }
     ensures { λ _. ⌜ now (s .exit) ≡ versionPageB n (now (s .entry)) p ⌝ }
 {
-    if station_state::has_bit32(le::get_u32(s, CACHED), p) & wrote_page(s, p) {
+    if station_state::has_bit32(station_state::cached(s), p) & wrote_page(s, p) {
         version_on(s, n, p);
         return;
     }

@@ -1,9 +1,10 @@
 -- What number 1 tells of a state that passes.
-use Prim.Native.Nat.{ℕ, _+_, _≤_}
-use mathlib.Core.Path.{_≡_, refl, sym}
+use Prim.Native.Nat.{ℕ, _+_, _≤_, _<_}
+use mathlib.Core.Path.{_≡_, refl, sym, ap, _∙_}
 use mathlib.Core.List.{List}
 use mathlib.Core.Logic.{_≢_}
 use mathlib.Core.Bool.{Bool, true, false, not, _&&_, _||_, cond, false≢true}
+use lib.Bits.{bitOr, and-le-l, or-add-and, or-zero-r}
 use lib.ListN.{length}
 use lib.Dec.{eqb, ltb, leb}
 use borrow.Author.Tests.{eqb-true, eqb-false, ltb-true, leb-true, le-leb, eq-eqb, ne-eqb, not-true, not-false}
@@ -11,9 +12,10 @@ use native.Mathlib.Omega.{arith}
 use Rattle.limits.specs.Limit.{limit}
 use Rattle.sets.specs.Laws.{byB}
 use Rattle.lists.specs.Tests.{and-l, and-r, and-both}
-use Rattle.station_state.specs.Layout.{keptFrom, readSetFrom, writtenSetFrom, locksFrom, stateLength, keptOf, number, whole, station, kind, opened, wait, address, member, countIn, noneIn}
-use Rattle.station_state.specs.Sets.{none-numbers}
-use Rattle.station_state.specs.Valid.{fieldsOk, ownKept, closedOk, firstOk, fewIn, limitedOk, worksOk, locklessOk, holdsOk, valid}
+use Rattle.station_state.specs.Layout.{keptFrom, readSetFrom, writtenSetFrom, locksFrom, stateLength, keptOf, number, whole, station, kind, opened, wait, address, member, countIn, noneIn, stationFrom}
+use Rattle.station_state.specs.Sets.{none-numbers, joined}
+use Rattle.station_state.specs.Valid.{fieldsOk, ownKept, closedOk, firstOk, fewIn, limitedOk, worksOk, locklessOk, holdsOk, valid, restsOk}
+use Rattle.le.specs.Le.{u32At, u64At}
 
 -- no transaction is open
 pub record Closed (s : List ℕ) : Type 0 where
@@ -161,7 +163,87 @@ closed-rest s l e =
     let v = all-4 fields others (closedOk s) (locklessOk s) h in
     and-both (and-both (all-4 (leb (kind s) 1) (leb (opened s) 1) (leb (wait s) 3) counted (v .0) .0) (v .2)) (v .3)))
 
+-- behind a test that both make
+behind : (b : Bool) {x y : Bool} → (b ≡ true → x ≡ y) → b && x ≡ b && y
+behind true f = f refl
+behind false f = refl
+
 -- no transaction is open
-pub valid-closed : (s : List ℕ) {c l : Bool} → length s ≡ stateLength → station s ≤ 7 → opened s ≡ 0 → c ≡ closedOk s → l ≡ locklessOk s → leb (kind s) 1 && c && l ≡ valid s
+valid-closed : (s : List ℕ) → length s ≡ stateLength → opened s ≡ 0 → leb (station s) 7 && (leb (kind s) 1 && closedOk s && locklessOk s) ≡ valid s
 unfolding valid
-valid-closed s z t e ec el = rw (ec, el, eq-eqb (length s) stateLength z, le-leb (station s) 7 t) (closed-rest s t e)
+valid-closed s z e = rw (eq-eqb (length s) stateLength z) (behind (leb (station s) 7) (λ t. closed-rest s (leb-true _ _ t) e))
+
+pub valid-rests : (s : List ℕ) → opened s ≡ 0 → restsOk s ≡ valid s
+unfolding restsOk
+valid-rests s e = rw (eq-eqb (opened s) 0 e)
+
+-- WORDS JOINED: one test for many
+
+or-none : (x y : ℕ) → eqb (bitOr x y) 0 ≡ eqb x 0 && eqb y 0
+or-none x y =
+    same (eqb (bitOr x y) 0) (eqb x 0 && eqb y 0)
+    (λ h.
+    let none : bitOr x y ≡ 0 = eqb-true _ _ h in
+    let right : y ≡ 0 = omega (arith, none, or-add-and x y, and-le-l x y) in
+    let left : x ≡ 0 = sym (or-zero-r x) ∙ ap (bitOr x) (sym right) ∙ none in
+    and-both (eq-eqb x 0 left) (eq-eqb y 0 right))
+    (λ h.
+    let left : x ≡ 0 = eqb-true _ _ (and-l (eqb x 0) (eqb y 0) h) in
+    let right : y ≡ 0 = eqb-true _ _ (and-r (eqb x 0) (eqb y 0) h) in
+    rw (left, right) refl)
+
+pub none-joined : (s : List ℕ) (at : ℕ) → eqb (joined s at) 0 ≡ noneIn s at
+unfolding joined noneIn
+none-joined s at =
+    let second = u64At s (at + 8) in
+    let third = u64At s (at + 16) in
+    let two = bitOr (u64At s at) second in
+    rw (or-none (bitOr two third) (u64At s (at + 24)), or-none two third, or-none (u64At s at) second) refl
+
+-- five numbers as one, and the tests in the order of the definitions
+five : (a b c d e : ℕ) → eqb (bitOr (bitOr (bitOr (bitOr a b) c) d) e) 0 ≡ eqb a 0 && eqb b 0 && eqb c 0 && eqb d 0 && eqb e 0
+five a b c d e =
+    let two = bitOr a b in
+    let three = bitOr two c in
+    rw (or-none (bitOr three d) e, or-none three d, or-none two c, or-none a b) refl
+
+in-order : (t r x h l q : Bool) → t && (r && x && h && l && q) ≡ t && (r && x && (h && l && q))
+in-order false r x h l q = refl
+in-order true false x h l q = refl
+in-order true true false h l q = refl
+in-order true true true false l q = refl
+in-order true true true true false q = refl
+in-order true true true true true q = refl
+
+not-so : (b : Bool) → (b ≡ true → false ≡ true) → false ≡ b
+not-so true f = f refl
+not-so false f = refl
+
+pub rests-short : (s : List ℕ) → length s ≢ stateLength → false ≡ restsOk s
+unfolding restsOk
+rests-short s h = not-so (eqb (opened s) 0 && valid s) (λ q. absurd (h (valid-ranged s (and-r (eqb (opened s) 0) (valid s) q) .size)))
+
+-- station, kind, open and wait as one number
+pub rests-not : (s : List ℕ) → 512 ≤ u32At s stationFrom → false ≡ restsOk s
+unfolding restsOk u32At
+rests-not s h =
+    not-so (eqb (opened s) 0 && valid s)
+    (λ q.
+    let e : opened s ≡ 0 = eqb-true _ _ (and-l (eqb (opened s) 0) (valid s) q) in
+    let v = valid-ranged s (and-r (eqb (opened s) 0) (valid s) q) in
+    absurd (omega (arith, h, e, v .station-fits, v .kind-fits, v .closed e .nothing-out)))
+
+pub rests-joined : (s : List ℕ) {r x h l q : ℕ} → length s ≡ stateLength → u32At s stationFrom < 512 → r ≡ joined s readSetFrom → x ≡ joined s writtenSetFrom → h ≡ whole s → l ≡ joined s locksFrom → q ≡ joined s keptFrom → leb (station s) 7 && eqb (bitOr (bitOr (bitOr (bitOr r x) h) l) q) 0 ≡ restsOk s
+unfolding u32At closedOk locklessOk
+rests-joined s z small er ex eh el eq =
+    let open-0 : opened s ≡ 0 = omega (arith, small) in
+    let wait-0 : wait s ≡ 0 = omega (arith, small) in
+    let kind-1 : kind s ≤ 1 = omega (arith, small) in
+    let read = joined s readSetFrom in
+    let written = joined s writtenSetFrom in
+    let locked = joined s locksFrom in
+    let kept = joined s keptFrom in
+    let test : leb (station s) 7 && eqb (bitOr (bitOr (bitOr (bitOr read written) (whole s)) locked) kept) 0 ≡ leb (station s) 7 && (leb (kind s) 1 && closedOk s && locklessOk s) =
+    rw (five read written (whole s) locked kept, none-joined s readSetFrom, none-joined s writtenSetFrom, none-joined s locksFrom, none-joined s keptFrom, le-leb (kind s) 1 kind-1, eq-eqb (wait s) 0 wait-0)
+    (in-order (leb (station s) 7) (noneIn s readSetFrom) (noneIn s writtenSetFrom) (eqb (whole s) 0) (noneIn s locksFrom) (noneIn s keptFrom)) in
+    rw (er, ex, eh, el, eq) (test ∙ valid-closed s z open-0 ∙ sym (valid-rests s open-0))

@@ -5,6 +5,7 @@ use mathlib.Core.Bool.{Bool, true, false, not, _&&_}
 use mathlib.Core.List.{List}
 use native.Mathlib.Omega.{arith}
 use lib.Count.{ones, ones-le}
+use lib.Bits.{bitOr}
 use lib.Dec.{eqb}
 use lib.ListN.{getD}
 use borrow.Author.Tests.{eqb-true, eq-eqb}
@@ -198,3 +199,7 @@ numbers-none s at e =
     let x : u32At s (at + k * 8) ≡ 0 = rw low at (e (k * 2) (omega arith)) in
     let y : u32At s (at + k * 8 + 4) ≡ 0 = rw high at (e (k * 2 + 1) (omega arith)) in
     omega (arith, x, y))
+
+-- the four words in one: 0 where the sets have nothing (`none-joined` of Facts.antt)
+unfoldable pub joined : List ℕ → ℕ → ℕ
+joined s at = bitOr (bitOr (bitOr (u64At s at) (u64At s (at + 8))) (u64At s (at + 16))) (u64At s (at + 24))

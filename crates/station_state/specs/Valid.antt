@@ -47,6 +47,10 @@ holdsOk s = cond (eqb (kind s) 0 && not (eqb (opened s) 0)) true (locklessOk s)
 unfoldable pub valid : List ℕ → Bool
 valid s = eqb (length s) stateLength && leb (station s) 7 && (fieldsOk s && not (ownKept s) && worksOk s && holdsOk s)
 
+-- .. and no transaction is open
+unfoldable pub restsOk : List ℕ → Bool
+restsOk s = eqb (opened s) 0 && valid s
+
 -- the number and the state afterwards
 pub record Freshened : Type 0 where
   pub state : List ℕ

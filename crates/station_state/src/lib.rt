@@ -4,8 +4,9 @@ ghost use mathlib.Core.Path.{_≡_};
 ghost use mathlib.Core.Logic.{_≢_};
 ghost use Prim.Native.Nat.{_+_, _^_, _≤_, _<_};
 ghost use lib.ListN.{length, replicate};
-ghost use Rattle.station_state.specs.Layout.{pageSetWidth, setRow, stateLength, station as Layout·station, opened, number, hasBit, member as Layout·member, countIn, noneIn, requestedB};
-ghost use Rattle.station_state.specs.Valid.{fieldsOk, ownKept, closedOk, firstOk, fewIn, limitedOk, worksOk, locklessOk, holdsOk, valid as Valid·valid, freshened, freshOf};
+ghost use Rattle.station_state.specs.Layout.{pageSetWidth, setRow, stateLength, number as Layout·number, cached as Layout·cached, whole as Layout·whole, station as Layout·station, opened, hasBit, member as Layout·member, countIn, noneIn, requestedB};
+ghost use Rattle.station_state.specs.Valid.{fieldsOk, ownKept, firstOk, fewIn, limitedOk, worksOk, locklessOk, holdsOk, valid as Valid·valid, restsOk, freshened, freshOf};
+ghost use Rattle.station_state.specs.Sets.{joined as Sets·joined};
 ghost use Rattle.station_state.specs.Changes.{addTo, pageOn, pageOff, clearTo, copyTo, beginB, recordReadB, usedB, firstUseB, writeLocalB, idleB, forReadB, forWriteB, forCommitB, loosenB, keepB, unkeepB, closedB};
 
 // Widths: of a value, of a transaction's number or a version, of a page set. An object set has one byte.
@@ -17,6 +18,9 @@ pub const PAGE_SET_WIDTH: usize = 4;
 
 // The bytes of a row of object sets, one for each page.
 pub const SET_ROW: usize = 32;
+
+// Objects of a page: address p * OBJECTS + o is object o of page p.
+pub const OBJECTS: usize = 8;
 
 // Places, each behind the field before it.
 pub const COPY: usize = 0;
@@ -61,6 +65,33 @@ pub const ADDRESS: usize = WAIT + 1;
 
 pub const LENGTH: usize = ADDRESS + 1;
 
+// The four bytes from the station on, as a number, are below this where the kind is in range, nothing open and nothing out.
+const RESTING: u32 = 512;
+
+// The transaction's number.
+pub fn number(s: &[u8]) -> u32
+    requires { ⌜ length (now s) ≡ stateLength ⌝ }
+    ensures { λ r. ⌜ r ≡ Layout·number (now (s .entry)) ⌝ }
+{
+    le::get_u32(s, NUMBER)
+}
+
+// The pages that are cached, as a set.
+pub fn cached(s: &[u8]) -> u32
+    requires { ⌜ length (now s) ≡ stateLength ⌝ }
+    ensures { λ r. ⌜ r ≡ Layout·cached (now (s .entry)) ⌝ }
+{
+    le::get_u32(s, CACHED)
+}
+
+// The pages that are locked whole.
+pub fn whole(s: &[u8]) -> u32
+    requires { ⌜ length (now s) ≡ stateLength ⌝ }
+    ensures { λ r. ⌜ r ≡ Layout·whole (now (s .entry)) ⌝ }
+{
+    le::get_u32(s, WHOLE)
+}
+
 pub fn bit8(k: usize) -> u8
     requires { ⌜ k < 8 ⌝ }
     ensures { λ r. ⌜ r ≡ 2 ^ k ⌝ }
@@ -97,15 +128,20 @@ pub fn member(s: &[u8], at: usize, a: usize) -> bool
     has_bit8(s[at + a / 8], a % 8)
 }
 
-// Whether the object sets from `at` have nothing. Eight at a time, and one test behind the last: most have nothing.
+// The object sets from `at`, eight at a time, in one word: 0 where they have nothing.
+fn joined(s: &[u8], at: usize) -> u64
+    requires { ⌜ at + setRow ≤ length (now s) ⌝ }
+    ensures { λ r. ⌜ r ≡ Sets·joined (now (s .entry)) at ⌝ }
+{
+    le::get_u64(s, at) | le::get_u64(s, at + 8) | le::get_u64(s, at + 16) | le::get_u64(s, at + 24)
+}
+
+// Whether the object sets from `at` have nothing.
 pub fn none_in(s: &[u8], at: usize) -> bool
     requires { ⌜ at + setRow ≤ length (now s) ⌝ }
     ensures { λ r. ⌜ r ≡ noneIn (now (s .entry)) at ⌝ }
 {
-    (le::get_u64(s, at) == 0)
-        & (le::get_u64(s, at + 8) == 0)
-        & (le::get_u64(s, at + 16) == 0)
-        & (le::get_u64(s, at + 24) == 0)
+    joined(s, at) == 0
 }
 
 // How many addresses the object sets from `at` have: the bits of four words.
@@ -132,10 +168,7 @@ pub fn fields_ok(s: &[u8]) -> bool
     requires { ⌜ length (now s) ≡ stateLength ⌝ }
     ensures { λ r. ⌜ r ≡ fieldsOk (now (s .entry)) ⌝ }
 {
-    (s[KIND] <= 1)
-        & (s[OPEN] <= 1)
-        & (s[WAIT] <= 3)
-        & ((s[OPEN] == 0) | (le::get_u32(s, NUMBER) != 0))
+    (s[KIND] <= 1) & (s[OPEN] <= 1) & (s[WAIT] <= 3) & ((s[OPEN] == 0) | (number(s) != 0))
 }
 
 // Whether a callback from the station itself is kept.
@@ -145,14 +178,6 @@ pub fn own_kept(s: &[u8]) -> bool
 {
     let st = s[STATION] as usize;
     le::get_u32(s, KEPT + st * NUMBER_WIDTH) != 0
-}
-
-// Whether nothing is out, read or written.
-fn closed_ok(s: &[u8]) -> bool
-    requires { ⌜ length (now s) ≡ stateLength ⌝ }
-    ensures { λ r. ⌜ r ≡ closedOk (now (s .entry)) ⌝ }
-{
-    (s[WAIT] == 0) & none_in(s, READ_SET) & none_in(s, WRITTEN_SET)
 }
 
 // Whether the object of the read that is out was neither read nor written.
@@ -200,7 +225,7 @@ fn lockless_ok(s: &[u8]) -> bool
     requires { ⌜ length (now s) ≡ stateLength ⌝ }
     ensures { λ r. ⌜ r ≡ locklessOk (now (s .entry)) ⌝ }
 {
-    (le::get_u32(s, WHOLE) == 0) & none_in(s, LOCKS) & none_in(s, KEPT)
+    (whole(s) == 0) & none_in(s, LOCKS) & none_in(s, KEPT)
 }
 
 // Of an open transaction.
@@ -214,6 +239,25 @@ fn holds_ok(s: &[u8]) -> bool
     lockless_ok(s)
 }
 
+// Whether a state passes number 1 and has no transaction open: nothing is out, read, written, locked or kept. Four fields are
+// one number, station and kind the low bytes of it, and all the sets one word, since a begin is little else than this.
+pub fn rests(s: &[u8]) -> bool
+    ensures { λ r. ⌜ r ≡ restsOk (now (s .entry)) ⌝ }
+{
+    if s.len() != LENGTH {
+        return false;
+    }
+    if le::get_u32(s, STATION) >= RESTING {
+        return false;
+    }
+    let sets = joined(s, READ_SET)
+        | joined(s, WRITTEN_SET)
+        | le::long(whole(s))
+        | joined(s, LOCKS)
+        | joined(s, KEPT);
+    (s[STATION] <= 7) & (sets == 0)
+}
+
 // False is number 1.
 pub fn valid(s: &[u8]) -> bool
     ensures { λ r. ⌜ r ≡ Valid·valid (now (s .entry)) ⌝ }
@@ -225,7 +269,7 @@ pub fn valid(s: &[u8]) -> bool
         return false;
     }
     if s[OPEN] == 0 {
-        return (s[KIND] <= 1) & closed_ok(s) & lockless_ok(s);
+        return rests(s);
     }
     if !(fields_ok(s) & !own_kept(s)) {
         return false;
@@ -316,10 +360,10 @@ pub fn copy_sets(s: &mut [u8], at: usize, sets: &[u8])
 
 // The next transaction is open.
 pub fn begin(s: &mut [u8])
-    requires { ⌜ (length (now s) ≡ stateLength) × (number (now s) < 4294967295) ⌝ }
+    requires { ⌜ (length (now s) ≡ stateLength) × (Layout·number (now s) < 4294967295) ⌝ }
     ensures { λ _. ⌜ now (s .exit) ≡ beginB (now (s .entry)) ⌝ }
 {
-    let n = le::get_u32(s, NUMBER);
+    let n = number(s);
     le::put_u32(s, NUMBER, n + 1);
     le::put_u8(s, OPEN, 1);
 }

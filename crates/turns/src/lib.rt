@@ -4,6 +4,9 @@ ghost use Prim.Native.Nat.{_<_};
 ghost use Rattle.lists.specs.Tests.{allTo};
 ghost use Rattle.turns.specs.Turn.{ready as Turn·ready, lowest as Turn·lowest, inRange, shareOk, rests as Turn·rests, refused, found, choiceOf};
 
+// One number of each line.
+pub const LINES: usize = 8;
+
 // Whom a turn is given to: its number, the line, and whether a round begins with it.
 pub struct Choice {
     pub number: u32,
@@ -11,7 +14,7 @@ pub struct Choice {
     pub begins: bool,
 }
 
-fn ready(share: [u8; 8], given: [u8; 8], waiting: [u8; 8], i: usize) -> bool
+fn ready(share: [u8; LINES], given: [u8; LINES], waiting: [u8; LINES], i: usize) -> bool
     requires { ⌜ i < 8 ⌝ }
     ensures { λ r. ⌜ r ≡ Turn·ready share given waiting i ⌝ }
 {
@@ -19,7 +22,7 @@ fn ready(share: [u8; 8], given: [u8; 8], waiting: [u8; 8], i: usize) -> bool
 }
 
 // The lowest waiting line with share left, 8 for none.
-fn lowest(share: [u8; 8], given: [u8; 8], waiting: [u8; 8]) -> usize
+fn lowest(share: [u8; LINES], given: [u8; LINES], waiting: [u8; LINES]) -> usize
     ensures { λ r. ⌜ r ≡ Turn·lowest share given waiting ⌝ }
 {
     let mut i: usize = 0;
@@ -32,7 +35,7 @@ fn lowest(share: [u8; 8], given: [u8; 8], waiting: [u8; 8]) -> usize
     8
 }
 
-fn in_range(share: [u8; 8], given: [u8; 8], waiting: [u8; 8]) -> bool
+fn in_range(share: [u8; LINES], given: [u8; LINES], waiting: [u8; LINES]) -> bool
     ensures { λ r. ⌜ r ≡ allTo (inRange share given waiting) 8 ⌝ }
 {
     let mut ok = true;
@@ -44,7 +47,7 @@ fn in_range(share: [u8; 8], given: [u8; 8], waiting: [u8; 8]) -> bool
     ok
 }
 
-fn shares_ok(share: [u8; 8]) -> bool
+fn shares_ok(share: [u8; LINES]) -> bool
     ensures { λ r. ⌜ r ≡ allTo (shareOk share) 8 ⌝ }
 {
     let mut ok = true;
@@ -56,7 +59,7 @@ fn shares_ok(share: [u8; 8]) -> bool
     ok
 }
 
-fn rests(waiting: [u8; 8]) -> bool
+fn rests(waiting: [u8; LINES]) -> bool
     ensures { λ r. ⌜ r ≡ allTo (Turn·rests waiting) 8 ⌝ }
 {
     let mut none = true;
@@ -79,7 +82,7 @@ fn refuse(number: u32) -> Choice
 }
 
 // The lowest waiting line with share left, in a new round where there is none in this one.
-fn find(share: [u8; 8], given: [u8; 8], waiting: [u8; 8]) -> Choice
+fn find(share: [u8; LINES], given: [u8; LINES], waiting: [u8; LINES]) -> Choice
     ensures { λ r. ⌜ r ≡ found share given waiting ⌝ }
 {
     let line = lowest(share, given, waiting);
@@ -90,7 +93,7 @@ fn find(share: [u8; 8], given: [u8; 8], waiting: [u8; 8]) -> Choice
             begins: false,
         };
     }
-    let line = lowest(share, [0; 8], waiting);
+    let line = lowest(share, [0; LINES], waiting);
     Choice {
         number: 0,
         line,
@@ -99,7 +102,7 @@ fn find(share: [u8; 8], given: [u8; 8], waiting: [u8; 8]) -> Choice
 }
 
 // Whose turn is next: 1, 19 or 20, else the line, and whether its turn begins a round.
-pub fn choose(share: [u8; 8], given: [u8; 8], waiting: [u8; 8]) -> Choice
+pub fn choose(share: [u8; LINES], given: [u8; LINES], waiting: [u8; LINES]) -> Choice
     ensures { λ r. ⌜ r ≡ choiceOf share given waiting ⌝ }
 {
     if !in_range(share, given, waiting) {

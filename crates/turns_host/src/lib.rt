@@ -3,6 +3,7 @@ ghost use mathlib.Core.Path.{_≡_};
 ghost use mathlib.Core.List.{[], _∷_};
 ghost use Rattle.turns_host.specs.Host.{withCounts, turned, takenOf, chosen, firstTurn, eightOf};
 use turns::Choice;
+use turns::LINES;
 
 // A line as its host lends it: its share of a round, the turns given in it, and its mark, 1 while a message waits.
 #[repr(C)]
@@ -62,10 +63,10 @@ fn choose(l0: Line, l1: Line, l2: Line, l3: Line, l4: Line, l5: Line, l6: Line, 
 }
 
 // The counts behind the first turn of a round, which line i is given.
-fn first_turn(i: usize) -> [u8; 8]
+fn first_turn(i: usize) -> [u8; LINES]
     ensures { λ r. ⌜ r ≡ firstTurn i ⌝ }
 {
-    let mut given = [0u8; 8];
+    let mut given = [0u8; LINES];
     if i < 8 {
         given[i] = 1;
         return given;
@@ -83,7 +84,7 @@ fn recounted(
     l5: Line,
     l6: Line,
     l7: Line,
-    given: [u8; 8],
+    given: [u8; LINES],
 ) -> Eight
     ensures { λ r. ⌜ r ≡ eightOf (withCounts (l0 ∷ l1 ∷ l2 ∷ l3 ∷ l4 ∷ l5 ∷ l6 ∷ l7 ∷ []) given) ⌝ }
 {
@@ -162,7 +163,7 @@ fn begun(
 pub extern "C" fn wax_turn_next(lines: &mut [Line], line: &mut usize) -> u32
     ensures { λ r. ⌜ turned (now (lines .exit)) (now (line .exit)) r ≡ takenOf (now (lines .entry)) (now (line .entry)) ⌝ }
 {
-    if lines.len() != 8 {
+    if lines.len() != LINES {
         return 1;
     }
     let l0 = lines[0];

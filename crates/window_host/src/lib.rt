@@ -32,7 +32,7 @@ pub extern "C" fn wax_window_write(
 ) -> u32
     ensures { λ n. ⌜ windowed (now (registers .exit)) (hosted (now (state .exit)) (now (messages .exit)) (now (commit .exit)) (now (told .exit)) n) ≡ windowOf (now (registers .entry)) (now (state .entry)) (now (messages .entry)) (now (commit .entry)) (now (told .entry)) (writeOf offset byte (now (registers .entry)) (now (state .entry)) (now (messages .entry)) (now (commit .entry))) ⌝ }
 {
-    if told.len() < 4 {
+    if told.len() < host::TOLD {
         return 1;
     }
     let x = window::write(offset, byte, registers, state, messages, commit);
@@ -50,7 +50,7 @@ pub extern "C" fn wax_window_step(
 ) -> u32
     ensures { λ n. ⌜ windowed (now (registers .exit)) (hosted (now (state .exit)) (now (messages .exit)) (now (commit .exit)) (now (told .exit)) n) ≡ windowOf (now (registers .entry)) (now (state .entry)) (now (messages .entry)) (now (commit .entry)) (now (told .entry)) (stepOf (now (message .entry)) (now (registers .entry)) (now (state .entry)) (now (messages .entry)) (now (commit .entry))) ⌝ }
 {
-    if told.len() < 4 {
+    if told.len() < host::TOLD {
         return 1;
     }
     let x = window::step(message, registers, state, messages, commit);

@@ -14,7 +14,7 @@ use Rattle.le.specs.Width.{numAt}
 use Rattle.cells.specs.Num.{AllBytes, num-frame}
 use Rattle.station_owner.specs.Owner.{called}
 use Rattle.station.specs.Station.{stationStepB}
-use Rattle.window_state.specs.Layout.{commandFrom, blankFrom, registers, raised}
+use Rattle.window_state.specs.Layout.{commandFrom, blankFrom, blankFourFrom, blankTwoFrom, registers, raised}
 use Rattle.window_state.specs.Registers.{registersOk}
 use Rattle.window_state.specs.Facts.{registers-are}
 use Rattle.window.specs.Window.{readyW, refusalOf, isCommand, performed, shown, commandOf, writeOf, stepOf}
@@ -57,15 +57,15 @@ follows-ok {r} {t} f h =
     let k = registers-are r h in
     let g = f .flags-stay (k .size) (k .own-flags) (k .low-flags) in
     let eight : u64At t blankFrom ≡ 0 = u64At-is t blankFrom ∙ number-same 8 r t blankFrom (omega arith) f ∙ sym (u64At-is r blankFrom) ∙ k .blank-8 in
-    let four : u32At t (blankFrom + 8) ≡ 0 = u32At-is t (blankFrom + 8) ∙ number-same 4 r t (blankFrom + 8) (omega arith) f ∙ sym (u32At-is r (blankFrom + 8)) ∙ k .blank-4 in
-    let two : u16At t (blankFrom + 12) ≡ 0 = u16At-is t (blankFrom + 12) ∙ number-same 2 r t (blankFrom + 12) (omega arith) f ∙ sym (u16At-is r (blankFrom + 12)) ∙ k .blank-2 in
+    let four : u32At t blankFourFrom ≡ 0 = u32At-is t blankFourFrom ∙ number-same 4 r t blankFourFrom (omega arith) f ∙ sym (u32At-is r blankFourFrom) ∙ k .blank-4 in
+    let two : u16At t blankTwoFrom ≡ 0 = u16At-is t blankTwoFrom ∙ number-same 2 r t blankTwoFrom (omega arith) f ∙ sym (u16At-is r blankTwoFrom) ∙ k .blank-2 in
     rw (
       eq-eqb (length t) registers (f .size ∙ k .size),
       eq-eqb (raised t % 4) 0 (g .0),
       lt-ltb (raised t) 16 (g .1),
       eq-eqb (u64At t blankFrom) 0 eight,
-      eq-eqb (u32At t (blankFrom + 8)) 0 four,
-      eq-eqb (u16At t (blankFrom + 12)) 0 two,
+      eq-eqb (u32At t blankFourFrom) 0 four,
+      eq-eqb (u16At t blankTwoFrom) 0 two,
     )
 
 -- registers that pass, of bytes

@@ -12,7 +12,7 @@ use Rattle.le.specs.Le.{u16At, u32At, u64At}
 use Rattle.station_state.specs.Layout.{stateLength, kind}
 use Rattle.station_state.specs.Valid as Station
 use Rattle.station_state.specs.Facts.{valid-ranged}
-use Rattle.window_state.specs.Layout.{blankFrom, registers, raised}
+use Rattle.window_state.specs.Layout.{blankFrom, blankFourFrom, blankTwoFrom, registers, raised}
 use Rattle.window_state.specs.Registers.{registersOk, valid}
 
 -- registers that pass
@@ -21,8 +21,8 @@ pub record Kept (r : List ℕ) : Type 0 where
   pub own-flags : raised r % 4 ≡ 0
   pub low-flags : raised r < 16
   pub blank-8 : u64At r blankFrom ≡ 0
-  pub blank-4 : u32At r (blankFrom + 8) ≡ 0
-  pub blank-2 : u16At r (blankFrom + 12) ≡ 0
+  pub blank-4 : u32At r blankFourFrom ≡ 0
+  pub blank-2 : u16At r blankTwoFrom ≡ 0
 
 pub registers-are : (r : List ℕ) → registersOk r ≡ true → Kept r
 unfolding registersOk
@@ -31,8 +31,8 @@ registers-are r h =
     let b = eqb (raised r % 4) 0 in
     let c = ltb (raised r) 16 in
     let d = eqb (u64At r blankFrom) 0 in
-    let e = eqb (u32At r (blankFrom + 8)) 0 in
-    let f = eqb (u16At r (blankFrom + 12)) 0 in
+    let e = eqb (u32At r blankFourFrom) 0 in
+    let f = eqb (u16At r blankTwoFrom) 0 in
     let all : (b && c && d && e && f) ≡ true = and-r a _ h in
     let four : (b && c && d && e) ≡ true = and-l (b && c && d && e) f all in
     let three : (b && c && d) ≡ true = and-l (b && c && d) e four in
@@ -42,8 +42,8 @@ registers-are r h =
       own-flags = eqb-true (raised r % 4) 0 (and-l b c two);
       low-flags = ltb-yes (raised r) 16 (and-r b c two);
       blank-8 = eqb-true (u64At r blankFrom) 0 (and-r (b && c) d three);
-      blank-4 = eqb-true (u32At r (blankFrom + 8)) 0 (and-r (b && c && d) e four);
-      blank-2 = eqb-true (u16At r (blankFrom + 12)) 0 (and-r (b && c && d && e) f all);
+      blank-4 = eqb-true (u32At r blankFourFrom) 0 (and-r (b && c && d) e four);
+      blank-2 = eqb-true (u16At r blankTwoFrom) 0 (and-r (b && c && d && e) f all);
     }
 
 pub valid-size : (s : List ℕ) → Station.valid s ≡ true → length s ≡ stateLength

@@ -36,6 +36,13 @@ maskFrom = flagsFrom + 1
 abbrev pub blankFrom : ℕ
 blankFrom = maskFrom + 1
 
+-- .. eight bytes, four and two
+abbrev pub blankFourFrom : ℕ
+blankFourFrom = blankFrom + 8
+
+abbrev pub blankTwoFrom : ℕ
+blankTwoFrom = blankFourFrom + 4
+
 -- "32 byte registers"
 abbrev pub registers : ℕ
 registers = 32

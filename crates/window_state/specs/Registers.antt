@@ -8,14 +8,14 @@ use lib.Dec.{eqb, ltb, leb}
 use Rattle.le.specs.Le.{u16At, u32At, u64At}
 use Rattle.station_state.specs.Layout.{kind, opened, wait}
 use Rattle.station_state.specs.Valid as Station
-use Rattle.window_state.specs.Layout.{commandFrom, valueFrom, commitFrom, flagsFrom, maskFrom, blankFrom, registers, page, object, raised, mask, openFlag, waitingFlag}
+use Rattle.window_state.specs.Layout.{commandFrom, valueFrom, commitFrom, flagsFrom, maskFrom, blankFrom, blankFourFrom, blankTwoFrom, registers, page, object, raised, mask, openFlag, waitingFlag}
 
 -- NUMBER 1
 
 -- done and aborted alone are kept in register 16, 0 in 18 to 31
 unfoldable pub registersOk : List ℕ → Bool
 registersOk r =
-    eqb (length r) registers && (eqb (raised r % 4) 0 && ltb (raised r) 16 && eqb (u64At r blankFrom) 0 && eqb (u32At r (blankFrom + 8)) 0 && eqb (u16At r (blankFrom + 12)) 0)
+    eqb (length r) registers && (eqb (raised r % 4) 0 && ltb (raised r) 16 && eqb (u64At r blankFrom) 0 && eqb (u32At r blankFourFrom) 0 && eqb (u16At r blankTwoFrom) 0)
 
 -- "1, which a locking station's state gets too": registers r, state s
 unfoldable pub valid : List ℕ → List ℕ → Bool

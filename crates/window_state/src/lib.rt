@@ -30,7 +30,12 @@ pub const FLAGS: usize = COMMIT + NUMBER_WIDTH;
 
 pub const MASK: usize = FLAGS + 1;
 
+// Eight bytes, four and two that are 0.
 pub const BLANK: usize = MASK + 1;
+
+const BLANK_FOUR: usize = BLANK + 8;
+
+const BLANK_TWO: usize = BLANK_FOUR + 4;
 
 pub const REGISTERS: usize = 32;
 
@@ -52,8 +57,8 @@ pub fn registers_ok(r: &[u8]) -> bool
     (r[FLAGS] % 4 == 0)
         & (r[FLAGS] < 16)
         & (le::get_u64(r, BLANK) == 0)
-        & (le::get_u32(r, BLANK + 8) == 0)
-        & (le::get_u16(r, BLANK + 12) == 0)
+        & (le::get_u32(r, BLANK_FOUR) == 0)
+        & (le::get_u16(r, BLANK_TWO) == 0)
 }
 
 // False is number 1: the registers of a window, and the state of a validating station.

@@ -17,6 +17,7 @@ use Rattle.station_answer.specs.declared.Answer.the-variants.{Refused, Begun, V
 use Rattle.station_answer.specs.Did.{Outcome, outcome, said, refuses, laid}
 use Rattle.station_answer.specs.Ask.{openB}
 use Rattle.station_owner.specs.Owner.{ready}
+use Rattle.host.specs.Host.{toldLength}
 use Rattle.call_meaning.specs.Relation.{answerOf}
 use Rattle.call_meaning.specs.Buffers.{messagesIn, sentBy}
 use Rattle.call_meaning.specs.Calls.{performB, stepB}
@@ -116,7 +117,7 @@ module _ (k b : ℕ) (r : List ℕ) where
       let z = unready r s o c e in
       unready-is s o c z (λ a. a .outcome ≡ laid o c (refuses 1 s)) refl
 
-  write-found : (s o c t : List ℕ) → Found ((writeHosted k b r s o c t) .hosted) (written k b r s (lent 4 t o) (lent 4 t c))
+  write-found : (s o c t : List ℕ) → Found ((writeHosted k b r s o c t) .hosted) (written k b r s (lent toldLength t o) (lent toldLength t c))
   unfolding windowOf
   write-found = same-call (written k b r) write-sure write-unready
 
@@ -129,7 +130,7 @@ module _ (m r : List ℕ) where
   deliver-unready s o c e =
       by-step m r s o c (λ a. a .outcome ≡ laid o c (refuses 1 s)) (λ f. refl) (λ f. absurd (false≢true (sym (unready r s o c e) ∙ f)))
 
-  deliver-found : (s o c t : List ℕ) → Found ((stepHosted m r s o c t) .hosted) (delivered m r s (lent 4 t o) (lent 4 t c))
+  deliver-found : (s o c t : List ℕ) → Found ((stepHosted m r s o c t) .hosted) (delivered m r s (lent toldLength t o) (lent toldLength t c))
   unfolding windowOf
   deliver-found = same-call (delivered m r) deliver-sure deliver-unready
 
@@ -173,7 +174,7 @@ noCall = OwnerH 8 Begin [] [] []
 
 -- whether a write is a command that number 1 lets pass
 abbrev pub isLive : ℕ → ℕ → List ℕ → List ℕ → List ℕ → List ℕ → List ℕ → Bool
-isLive k b r s o c t = readyW r s (lent 4 t o) (lent 4 t c) && eqb k commandFrom && isCommand b
+isLive k b r s o c t = readyW r s (lent toldLength t o) (lent toldLength t c) && eqb k commandFrom && isCommand b
 
 abbrev pub hostCall : CallW → WorldW → CallH
 hostCall (HostW c) w = c
@@ -183,7 +184,7 @@ hostCall (WriteW i k b o c t) w =
     let r = w .registers i in
     cond (isLive k b r (w .hosts .line .station i) o c t) (OwnerH i (opOf b r) o c t) noCall
 hostCall (StepW i o c t) w =
-    cond (readyW (w .registers i) (w .hosts .line .station i) (lent 4 t o) (lent 4 t c)) (StationH i o c t) noCall
+    cond (readyW (w .registers i) (w .hosts .line .station i) (lent toldLength t o) (lent toldLength t c)) (StationH i o c t) noCall
 
 none-acts : (h : WorldH) → actH noCall h ≡ h
 unfolding lineH
@@ -199,7 +200,7 @@ module _ (i k b : ℕ) (o c t r : List ℕ) (w : WorldB) where
   s = w .station i
 
   abbrev y : Outcome
-  y = written k b r s (lent 4 t o) (lent 4 t c)
+  y = written k b r s (lent toldLength t o) (lent toldLength t c)
 
   -- nothing is said, and the state stays
   record Still (z : Outcome) : Type 0 where
@@ -208,17 +209,17 @@ module _ (i k b : ℕ) (o c t r : List ℕ) (w : WorldB) where
     none-told : (v : WorldB) → tellB i (opOf b r) (answerOf (z .said .answer)) v ≡ v
     none-happened : toldBy i (opOf b r) (w .number i) (answerOf (z .said .answer)) ≡ []
 
-  quiet : (u : List ℕ) → Still ((stays u s (lent 4 t o) (lent 4 t c)) .outcome)
+  quiet : (u : List ℕ) → Still ((stays u s (lent toldLength t o) (lent toldLength t c)) .outcome)
   unfolding messagesIn tellB
   quiet u = record { state-stays = refl; none-sent = refl; none-told = λ v. refl; none-happened = refl }
 
-  turned : (n : ℕ) → Still ((refused n r s (lent 4 t o) (lent 4 t c)) .outcome)
+  turned : (n : ℕ) → Still ((refused n r s (lent toldLength t o) (lent toldLength t c)) .outcome)
   unfolding messagesIn tellB
   turned n = record { state-stays = refl; none-sent = refl; none-told = λ v. refl; none-happened = refl }
 
   still : isLive k b r s o c t ≡ false → Still y
   still d =
-      by-write k b r s (lent 4 t o) (lent 4 t c) (λ a. Still (a .outcome)) (λ e. turned 1) (turned 16) (λ e. quiet (storedOf k b r)) (λ e. quiet (set r commandFrom b))
+      by-write k b r s (lent toldLength t o) (lent toldLength t c) (λ a. Still (a .outcome)) (λ e. turned 1) (turned 16) (λ e. quiet (storedOf k b r)) (λ e. quiet (set r commandFrom b))
       (λ e g h. let live : isLive k b r s o c t ≡ true = rw (e, g, h) in absurd (false≢true (sym d ∙ live)))
 
   writes-none : isLive k b r s o c t ≡ false → writesW i k b o c t r w ≡ w
@@ -236,20 +237,20 @@ module _ (i k b : ℕ) (o c t r : List ℕ) (w : WorldB) where
 
   -- A COMMAND
   abbrev x : Outcome
-  x = performB (opOf b r) s (lent 4 t o) (lent 4 t c)
+  x = performB (opOf b r) s (lent toldLength t o) (lent toldLength t c)
 
-  live-at : readyW r s (lent 4 t o) (lent 4 t c) ≡ true → eqb k commandFrom ≡ true → isCommand b ≡ true → (P : Accessed → Type 0)
-      → P (commanded (set r commandFrom b) (performed b (set r commandFrom b) s (lent 4 t o) (lent 4 t c))) → P (writeOf k b r s (lent 4 t o) (lent 4 t c))
+  live-at : readyW r s (lent toldLength t o) (lent toldLength t c) ≡ true → eqb k commandFrom ≡ true → isCommand b ≡ true → (P : Accessed → Type 0)
+      → P (commanded (set r commandFrom b) (performed b (set r commandFrom b) s (lent toldLength t o) (lent toldLength t c))) → P (writeOf k b r s (lent toldLength t o) (lent toldLength t c))
   unfolding writeOf commandOf
   live-at e g h P z = rw (e, eqb-yes k commandFrom g, h) z
 
   live-is : isLive k b r s o c t ≡ true → y ≡ outcome (x .state) (x .messages) (x .commit) (takenSaid (x .said))
   live-is d =
-      let e : readyW r s (lent 4 t o) (lent 4 t c) ≡ true = and-l (readyW r s (lent 4 t o) (lent 4 t c)) (eqb k commandFrom) (and-l (readyW r s (lent 4 t o) (lent 4 t c) && eqb k commandFrom) (isCommand b) d) in
-      let g : eqb k commandFrom ≡ true = and-r (readyW r s (lent 4 t o) (lent 4 t c)) (eqb k commandFrom) (and-l (readyW r s (lent 4 t o) (lent 4 t c) && eqb k commandFrom) (isCommand b) d) in
-      let h : isCommand b ≡ true = and-r (readyW r s (lent 4 t o) (lent 4 t c) && eqb k commandFrom) (isCommand b) d in
+      let e : readyW r s (lent toldLength t o) (lent toldLength t c) ≡ true = and-l (readyW r s (lent toldLength t o) (lent toldLength t c)) (eqb k commandFrom) (and-l (readyW r s (lent toldLength t o) (lent toldLength t c) && eqb k commandFrom) (isCommand b) d) in
+      let g : eqb k commandFrom ≡ true = and-r (readyW r s (lent toldLength t o) (lent toldLength t c)) (eqb k commandFrom) (and-l (readyW r s (lent toldLength t o) (lent toldLength t c) && eqb k commandFrom) (isCommand b) d) in
+      let h : isCommand b ≡ true = and-r (readyW r s (lent toldLength t o) (lent toldLength t c) && eqb k commandFrom) (isCommand b) d in
       live-at e g h (λ a. a .outcome ≡ outcome (x .state) (x .messages) (x .commit) (takenSaid (x .said)))
-      (ap (λ (z : Outcome). outcome (z .state) (z .messages) (z .commit) (takenSaid (z .said))) (performed-own b r s (lent 4 t o) (lent 4 t c)))
+      (ap (λ (z : Outcome). outcome (z .state) (z .messages) (z .commit) (takenSaid (z .said))) (performed-own b r s (lent toldLength t o) (lent toldLength t c)))
 
   writes-live : isLive k b r s o c t ≡ true → writesW i k b o c t r w ≡ Hosts.ownerActsH i (opOf b r) o c t w
   unfolding writesW ownerActsB carryUpB
@@ -269,37 +270,37 @@ module _ (i : ℕ) (o c t r : List ℕ) (w : WorldB) where
   abbrev z : List ℕ
   z = w .station i
 
-  found-own : (m : List ℕ) → readyW r z (lent 4 t o) (lent 4 t c) ≡ true → Found ((stepHosted m r z o c t) .hosted) (stepB m z (lent 4 t o) (lent 4 t c))
-  found-own m e = subst (Found ((stepHosted m r z o c t) .hosted)) (deliver-own m r z (lent 4 t o) (lent 4 t c) e) (deliver-found m r z o c t)
+  found-own : (m : List ℕ) → readyW r z (lent toldLength t o) (lent toldLength t c) ≡ true → Found ((stepHosted m r z o c t) .hosted) (stepB m z (lent toldLength t o) (lent toldLength t c))
+  found-own m e = subst (Found ((stepHosted m r z o c t) .hosted)) (deliver-own m r z (lent toldLength t o) (lent toldLength t c) e) (deliver-found m r z o c t)
 
-  takes-live : (ms : List (List ℕ)) → readyW r z (lent 4 t o) (lent 4 t c) ≡ true → takesW i ms o c t r w ≡ Hosts.stationTakesH i ms o c t w
+  takes-live : (ms : List (List ℕ)) → readyW r z (lent toldLength t o) (lent toldLength t c) ≡ true → takesW i ms o c t r w ≡ Hosts.stationTakesH i ms o c t w
   unfolding takesW stationTakesB
   takes-live [] e = sym (station-same i [] o c t w)
   takes-live (m ∷ l) e =
       let f = found-own m e in
-      byB (isRefused (answerOf ((stepB m z (lent 4 t o) (lent 4 t c)) .said .answer)))
+      byB (isRefused (answerOf ((stepB m z (lent toldLength t o) (lent toldLength t c)) .said .answer)))
       (λ g. rw (f .answer, f .accepted, g, carry-up-same i _ _ w f) (sym (station-same i (m ∷ l) o c t w ∙ rw g)))
       (λ g. rw (f .answer, f .accepted, g, carry-up-same i _ _ (restDown i l w) f) (sym (station-same i (m ∷ l) o c t w ∙ rw g)))
 
-  takes-events : (ms : List (List ℕ)) → readyW r z (lent 4 t o) (lent 4 t c) ≡ true → stepEvents i ms o c t r w ≡ stationEvents i ms o c t w
+  takes-events : (ms : List (List ℕ)) → readyW r z (lent toldLength t o) (lent toldLength t c) ≡ true → stepEvents i ms o c t r w ≡ stationEvents i ms o c t w
   takes-events [] e = refl
   takes-events (m ∷ l) e = rw (found-own m e .state, step-found m z o c t .state)
 
   -- number 1
-  found-1 : (m : List ℕ) → readyW r z (lent 4 t o) (lent 4 t c) ≡ false → Found ((stepHosted m r z o c t) .hosted) ((refused 1 r z (lent 4 t o) (lent 4 t c)) .outcome)
+  found-1 : (m : List ℕ) → readyW r z (lent toldLength t o) (lent toldLength t c) ≡ false → Found ((stepHosted m r z o c t) .hosted) ((refused 1 r z (lent toldLength t o) (lent toldLength t c)) .outcome)
   found-1 m e =
       subst (Found ((stepHosted m r z o c t) .hosted))
-      (by-step m r z (lent 4 t o) (lent 4 t c) (λ a. a .outcome ≡ (refused 1 r z (lent 4 t o) (lent 4 t c)) .outcome) (λ f. refl) (λ f. absurd (false≢true (sym e ∙ f))))
+      (by-step m r z (lent toldLength t o) (lent toldLength t c) (λ a. a .outcome ≡ (refused 1 r z (lent toldLength t o) (lent toldLength t c)) .outcome) (λ f. refl) (λ f. absurd (false≢true (sym e ∙ f))))
       (deliver-found m r z o c t)
 
-  takes-none : (ms : List (List ℕ)) → readyW r z (lent 4 t o) (lent 4 t c) ≡ false → takesW i ms o c t r w ≡ w
+  takes-none : (ms : List (List ℕ)) → readyW r z (lent toldLength t o) (lent toldLength t c) ≡ false → takesW i ms o c t r w ≡ w
   unfolding takesW tellB messagesIn
   takes-none [] e = refl
   takes-none (m ∷ l) e =
       let f = found-1 m e in
       rw (f .answer, f .accepted) (carry-up-same i _ _ w f ∙ carry-none i _ w refl refl)
 
-  none-events : (ms : List (List ℕ)) → readyW r z (lent 4 t o) (lent 4 t c) ≡ false → stepEvents i ms o c t r w ≡ []
+  none-events : (ms : List (List ℕ)) → readyW r z (lent toldLength t o) (lent toldLength t c) ≡ false → stepEvents i ms o c t r w ≡ []
   none-events [] e = refl
   none-events (m ∷ l) e = rw (found-1 m e .state) (ended-same (λ n. Ended i n (kindOf m)) z)
 
@@ -350,10 +351,10 @@ step-same i o c t w =
     let r = w .registers i in
     byB (ltb i 8)
     (λ e.
-    byB (readyW r (l .station i) (lent 4 t o) (lent 4 t c))
+    byB (readyW r (l .station i) (lent toldLength t o) (lent toldLength t c))
     (λ d. rw (e, d, takes-live i o c t r l (l .down i) d, takes-events i o c t r l (l .down i) d) (sym (on-steps i o c t h e)))
     (λ d. rw (e, d, takes-none i o c t r l (l .down i) d, none-events i o c t r l (l .down i) d)))
-    (λ e. rw e (sym (either-call (readyW r (l .station i) (lent 4 t o) (lent 4 t c)) (StationH i o c t) h (off-steps i o c t h e))))
+    (λ e. rw e (sym (either-call (readyW r (l .station i) (lent toldLength t o) (lent toldLength t c)) (StationH i o c t) h (off-steps i o c t h e))))
 
 pub act-same : (c : CallW) (w : WorldW) → (actW c w) .hosts ≡ actH (hostCall c w) (w .hosts)
 unfolding actW

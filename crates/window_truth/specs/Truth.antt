@@ -13,6 +13,7 @@ use Rattle.sets.specs.Laws.{byB, byEq}
 use Rattle.station_state.specs.Layout.{kind}
 use Rattle.station_meaning.specs.Tests.{kind-at}
 use Rattle.server_state.specs.Valid.{kindsOk}
+use Rattle.host.specs.Host.{toldLength}
 use Rattle.call_meaning.specs.Calls.{OpFits}
 use Rattle.line_host.specs.Line.{CallH, OwnerH, StationH, FitsH, AllFitH, runH}
 use Rattle.line_host.specs.Same.{lent}
@@ -52,12 +53,12 @@ short-follows false f = f
 
 write-follows : (k b : ℕ) (r s o c t : List ℕ) → b < 256 → Follows r ((writeHosted k b r s o c t) .registers)
 unfolding windowOf
-write-follows k b r s o c t l = short-follows (ltb (length t) 4) (write-keeps r s o c k b l)
+write-follows k b r s o c t l = short-follows (ltb (length t) toldLength) (write-keeps r s o c k b l)
 
 step-follows : (ms : List (List ℕ)) (o c t r s : List ℕ) → Follows r (steppedRegisters ms o c t r s)
 unfolding windowOf
 step-follows [] o c t r s = follows-same r
-step-follows (m ∷ l) o c t r s = short-follows (ltb (length t) 4) (step-keeps r s o c m)
+step-follows (m ∷ l) o c t r s = short-follows (ltb (length t) toldLength) (step-keeps r s o c m)
 
 upd-fine : (f : ℕ → List ℕ) (i : ℕ) (x : List ℕ) → ((j : ℕ) → Fine (f j)) → Fine x → (j : ℕ) → Fine (upd f i x j)
 upd-fine f i x h g j = byEq j i (λ e. rw e g) (λ e. rw e (h j))
@@ -92,7 +93,7 @@ call-fits (HostW c) w f h = f
 call-fits (ReadW i k b) w f h = tt
 call-fits (InterruptW i b) w f h = tt
 call-fits (WriteW i k b o c t) w f h = either-fits (isLive k b (w .registers i) (w .hosts .line .station i) o c t) (OwnerH i (opOf b (w .registers i)) o c t) (op-fits b (w .registers i) (h i))
-call-fits (StepW i o c t) w f h = either-fits (readyW (w .registers i) (w .hosts .line .station i) (lent 4 t o) (lent 4 t c)) (StationH i o c t) tt
+call-fits (StepW i o c t) w f h = either-fits (readyW (w .registers i) (w .hosts .line .station i) (lent toldLength t o) (lent toldLength t c)) (StationH i o c t) tt
 
 calls-fit : (cs : List CallW) (w : WorldW) → AllFitW cs → AllFine w → AllFitH (hostCalls cs w)
 calls-fit [] w f h = tt

@@ -5,8 +5,8 @@ use borrow.Author.Needs.{needs}
 use Rattle.station_commit.proofs.put_commit.Statement.{statement}
 use Rattle.station_commit.proofs.put_commit.Tie as tie
 
-get-u32-requires : tie.Need-get-u32-requires
-get-u32-requires c κs = search needs
+number-requires : tie.Need-number-requires
+number-requires c κs = search needs
 
 shared-slice-read-put-up : tie.Need-shared-slice-read-put-up
 shared-slice-read-put-up c = search needs
@@ -39,7 +39,7 @@ add-at : tie.Need-add-at
 add-at c = let front = commit-parts (c .before .before .before .before .before .before .before .before .before .before .before .before .before .before .before .before .before .args .s .now) _ (c .before .before .before .before .before .before .before .before .before .before .before .before .before .before .before .before .before .pre .1) in omega (arith, front, c .before .before .before .before .before .before .put-versions .ensures .1)
 
 put-record-requires : tie.Need-put-record-requires
-put-record-requires c κs = let fits = record-fits _ _ (c .before .before .before .before .before .before .before .before .before .before .before .before .before .before .before .get-u32 .ensures) (c .before .before .before .wide .ensures .0) (c .before .wide2 .ensures .0) (c .before .before .before .before .before .before .before .put-versions .ensures .1) (c .before .before .before .before .before .before .before .before .before .before .before .before .before .before .before .before .before .before .pre .1) in (search needs, search needs, search needs, search needs, omega (arith, fits), search needs, search needs)
+put-record-requires c κs = let fits = record-fits _ _ (c .before .before .before .before .before .before .before .before .before .before .before .before .before .before .before .number .ensures) (c .before .before .before .wide .ensures .0) (c .before .wide2 .ensures .0) (c .before .before .before .before .before .before .before .put-versions .ensures .1) (c .before .before .before .before .before .before .before .before .before .before .before .before .before .before .before .before .before .before .pre .1) in (search needs, search needs, search needs, search needs, omega (arith, fits), search needs, search needs)
 
 add-result : tie.Need-add-result
 add-result c = let front = commit-parts (c .before .before .before .before .before .before .before .before .before .before .before .before .before .before .before .before .before .before .before .before .before .args .s .now) _ (c .before .before .before .before .before .before .before .before .before .before .before .before .before .before .before .before .before .before .before .before .before .pre .1) in omega (arith, front, c .before .before .before .before .before .before .before .before .before .before .put-versions .ensures .1)
@@ -48,13 +48,13 @@ same-length : tie.Need-same-length
 same-length c = search needs
 
 returns : tie.Need-returns
-returns c = commit-filled _ _ (c .before .before .before .before .before .before .before .before .before .before .before .before .before .before .before .before .before .before .get-u32 .ensures) (c .before .before .before .before .before .before .before .before .before .before .before .before .before .before .before .used-pages .ensures) (c .before .before .before .before .before .before .wide .ensures .0) (c .before .before .before .before .wide2 .ensures .0) (c .before .before .before .before .before .before .before .before .before .before .before .before .before .before .put-up .ensures) (c .before .before .before .before .before .before .before .before .before .before .put-versions .ensures) (c .before .before .put-record .ensures .0)
+returns c = commit-filled _ _ (c .before .before .before .before .before .before .before .before .before .before .before .before .before .before .before .before .before .before .number .ensures) (c .before .before .before .before .before .before .before .before .before .before .before .before .before .before .before .used-pages .ensures) (c .before .before .before .before .before .before .wide .ensures .0) (c .before .before .before .before .wide2 .ensures .0) (c .before .before .before .before .before .before .before .before .before .before .before .before .before .before .put-up .ensures) (c .before .before .before .before .before .before .before .before .before .before .put-versions .ensures) (c .before .before .put-record .ensures .0)
 
 pub put-commit-spec : {M : Type 1} → statement M
 put-commit-spec =
     tie.close
     (tie.spec
-    get-u32-requires
+    number-requires
     shared-slice-read-put-up
     used-pages-requires
     put-up-requires

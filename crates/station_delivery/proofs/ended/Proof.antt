@@ -10,12 +10,12 @@ shared-slice-read-result c = search needs
 live-requires : tie.Need-live-requires
 live-requires c κs = search needs
 
-get-u32-requires : tie.Need-get-u32-requires
-get-u32-requires c κs = search needs
+number-requires : tie.Need-number-requires
+number-requires c κs = search needs
 
 returns : tie.Need-returns
 unfolding endedB
 returns c = cc
 
 pub ended-spec : {M : Type 1} → statement M
-ended-spec = tie.close (tie.spec shared-slice-read-result live-requires get-u32-requires returns)
+ended-spec = tie.close (tie.spec shared-slice-read-result live-requires number-requires returns)

@@ -7,12 +7,12 @@ use Rattle.station_delivery.proofs.live.Tie as tie
 shared-slice-read-result : tie.Need-shared-slice-read-result
 shared-slice-read-result c = search needs
 
-get-u32-requires : tie.Need-get-u32-requires
-get-u32-requires c κs = search needs
+number-requires : tie.Need-number-requires
+number-requires c κs = search needs
 
 returns : tie.Need-returns
 unfolding liveB
 returns c = cc
 
 pub live-spec : {M : Type 1} → statement M
-live-spec = tie.close (tie.spec shared-slice-read-result get-u32-requires returns)
+live-spec = tie.close (tie.spec shared-slice-read-result number-requires returns)

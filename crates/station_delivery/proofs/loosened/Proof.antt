@@ -17,8 +17,8 @@ get-u32-requires c κs = search needs
 live-requires : tie.Need-live-requires
 live-requires c κs = search needs
 
-get-u32-requires-2 : tie.Need-get-u32-requires-2
-get-u32-requires-2 c κs = search needs
+whole-requires : tie.Need-whole-requires
+whole-requires c κs = search needs
 
 has-bit32-requires : tie.Need-has-bit32-requires
 has-bit32-requires c κs = search needs
@@ -31,14 +31,14 @@ same-length c = search needs
 
 returns : tie.Need-returns
 unfolding loosenedB
-returns c = simp (sym (c .before .before .before .before .before .before .before .before .before .get-u32 .ensures), sym (c .before .before .before .before .before .before .before .before .live .ensures), sym (c .before .before .before .before .before .before .get-u322 .ensures), sym (c .before .before .before .before .before .has-bit32 .ensures), c .before .before .before .before .if1 .taken) (c .before .before .loosen .ensures)
+returns c = simp (sym (c .before .before .before .before .before .before .before .before .before .get-u32 .ensures), sym (c .before .before .before .before .before .before .before .before .live .ensures), sym (c .before .before .before .before .before .before .whole .ensures), sym (c .before .before .before .before .before .has-bit32 .ensures), c .before .before .before .before .if1 .taken) (c .before .before .loosen .ensures)
 
 same-length-2 : tie.Need-same-length-2
 same-length-2 c = search needs
 
 returns-2 : tie.Need-returns-2
 unfolding loosenedB
-returns-2 c = simp (sym (c .before .before .before .before .before .get-u32 .ensures), sym (c .before .before .before .before .live .ensures), sym (c .before .before .get-u322 .ensures), sym (c .before .has-bit32 .ensures), c .if1 .left)
+returns-2 c = simp (sym (c .before .before .before .before .before .get-u32 .ensures), sym (c .before .before .before .before .live .ensures), sym (c .before .before .whole .ensures), sym (c .before .has-bit32 .ensures), c .if1 .left)
 
 pub loosened-spec : {M : Type 1} → statement M
 loosened-spec =
@@ -48,7 +48,7 @@ loosened-spec =
     cast-p
     get-u32-requires
     live-requires
-    get-u32-requires-2
+    whole-requires
     has-bit32-requires
     loosen-requires
     same-length

@@ -20,19 +20,19 @@ returns-2 c = simp (lt-ltb _ _ (c .before .before .if1 .left), sym (c .before .r
 used-page-requires : tie.Need-used-page-requires
 used-page-requires c κs = search needs
 
-get-u32-requires : tie.Need-get-u32-requires
-get-u32-requires c κs = search needs
+cached-requires : tie.Need-cached-requires
+cached-requires c κs = search needs
 
 has-bit32-requires : tie.Need-has-bit32-requires
 has-bit32-requires c κs = search needs
 
 returns-3 : tie.Need-returns-3
 unfolding checkPurgeB
-returns-3 c = simp (lt-ltb _ _ (c .before .before .before .before .before .before .if1 .left), sym (c .before .before .before .before .before .requested .ensures), c .before .before .before .before .if2 .left, sym (c .before .before .before .used-page .ensures), sym (c .before .before .get-u32 .ensures), sym (c .before .has-bit32 .ensures), c .if3 .taken)
+returns-3 c = simp (lt-ltb _ _ (c .before .before .before .before .before .before .if1 .left), sym (c .before .before .before .before .before .requested .ensures), c .before .before .before .before .if2 .left, sym (c .before .before .before .used-page .ensures), sym (c .before .before .cached .ensures), sym (c .before .has-bit32 .ensures), c .if3 .taken)
 
 returns-4 : tie.Need-returns-4
 unfolding checkPurgeB
-returns-4 c = simp (lt-ltb _ _ (c .before .before .before .before .before .before .if1 .left), sym (c .before .before .before .before .before .requested .ensures), c .before .before .before .before .if2 .left, sym (c .before .before .before .used-page .ensures), sym (c .before .before .get-u32 .ensures), sym (c .before .has-bit32 .ensures), c .if3 .left)
+returns-4 c = simp (lt-ltb _ _ (c .before .before .before .before .before .before .if1 .left), sym (c .before .before .before .before .before .requested .ensures), c .before .before .before .before .if2 .left, sym (c .before .before .before .used-page .ensures), sym (c .before .before .cached .ensures), sym (c .before .has-bit32 .ensures), c .if3 .left)
 
 pub check-purge-spec : {M : Type 1} → statement M
 check-purge-spec =
@@ -42,7 +42,7 @@ check-purge-spec =
     requested-requires
     returns-2
     used-page-requires
-    get-u32-requires
+    cached-requires
     has-bit32-requires
     returns-3
     returns-4)

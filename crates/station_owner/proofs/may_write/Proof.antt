@@ -12,15 +12,15 @@ shared-slice-read-if1 c = search needs
 member-requires : tie.Need-member-requires
 member-requires c κs = search needs
 
-get-u32-requires : tie.Need-get-u32-requires
-get-u32-requires c κs = search needs
+whole-requires : tie.Need-whole-requires
+whole-requires c κs = search needs
 
 has-bit32-requires : tie.Need-has-bit32-requires
 has-bit32-requires c κs = search needs
 
 returns : tie.Need-returns
 unfolding mayWriteB
-returns c = simp (eq-eqb _ _ (c .before .before .before .if1 .taken), sym (c .before .before .member .ensures), sym (c .before .get-u32 .ensures), sym (c .has-bit32 .ensures))
+returns c = simp (eq-eqb _ _ (c .before .before .before .if1 .taken), sym (c .before .before .member .ensures), sym (c .before .whole .ensures), sym (c .has-bit32 .ensures))
 
 shown-requires : tie.Need-shown-requires
 shown-requires c κs = search needs
@@ -35,7 +35,7 @@ may-write-spec =
     (tie.spec
     shared-slice-read-if1
     member-requires
-    get-u32-requires
+    whole-requires
     has-bit32-requires
     returns
     shown-requires

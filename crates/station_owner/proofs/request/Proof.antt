@@ -13,8 +13,8 @@ cast-put-up c = search needs
 cast-put-up-2 : tie.Need-cast-put-up-2
 cast-put-up-2 c = search needs
 
-get-u32-requires : tie.Need-get-u32-requires
-get-u32-requires c κs = search needs
+number-requires : tie.Need-number-requires
+number-requires c κs = search needs
 
 put-up-requires : tie.Need-put-up-requires
 put-up-requires c κs = search needs
@@ -23,7 +23,7 @@ same-length : tie.Need-same-length
 same-length c = search needs
 
 returns : tie.Need-returns
-returns c = simp (sym (c .before .before .before .get-u32 .ensures)) (c .before .before .put-up .ensures)
+returns c = simp (sym (c .before .before .before .number .ensures)) (c .before .before .put-up .ensures)
 
 pub request-spec : {M : Type 1} → statement M
 request-spec =
@@ -32,7 +32,7 @@ request-spec =
     shared-slice-read-put-up
     cast-put-up
     cast-put-up-2
-    get-u32-requires
+    number-requires
     put-up-requires
     same-length
     returns)

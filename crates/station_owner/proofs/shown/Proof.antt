@@ -4,8 +4,8 @@ use borrow.Author.Needs.{needs}
 use Rattle.station_owner.proofs.shown.Statement.{statement}
 use Rattle.station_owner.proofs.shown.Tie as tie
 
-get-u32-requires : tie.Need-get-u32-requires
-get-u32-requires c κs = search needs
+cached-requires : tie.Need-cached-requires
+cached-requires c κs = search needs
 
 has-bit32-requires : tie.Need-has-bit32-requires
 has-bit32-requires c κs = search needs
@@ -18,4 +18,4 @@ unfolding shownB
 returns c = cc
 
 pub shown-spec : {M : Type 1} → statement M
-shown-spec = tie.close (tie.spec get-u32-requires has-bit32-requires member-requires returns)
+shown-spec = tie.close (tie.spec cached-requires has-bit32-requires member-requires returns)

@@ -14,8 +14,8 @@ shared-slice-read-if1 c = search needs
 shared-slice-read-put-up : tie.Need-shared-slice-read-put-up
 shared-slice-read-put-up c = search needs
 
-get-u32-requires : tie.Need-get-u32-requires
-get-u32-requires c κs = search needs
+number-requires : tie.Need-number-requires
+number-requires c κs = search needs
 
 put-up-requires : tie.Need-put-up-requires
 put-up-requires c κs = search needs
@@ -25,7 +25,7 @@ same-length c = search needs
 
 returns : tie.Need-returns
 unfolding abortsB
-returns c = simp (eq-eqb _ _ (c .before .before .before .before .before .before .if1 .taken), sym (c .before .before .before .get-u32 .ensures)) (post-one _ _ _ (c .before .before .put-up .ensures))
+returns c = simp (eq-eqb _ _ (c .before .before .before .before .before .before .if1 .taken), sym (c .before .before .before .number .ensures)) (post-one _ _ _ (c .before .before .put-up .ensures))
 
 returns-2 : tie.Need-returns-2
 unfolding abortsB flat
@@ -37,7 +37,7 @@ tell-abort-spec =
     (tie.spec
     shared-slice-read-if1
     shared-slice-read-put-up
-    get-u32-requires
+    number-requires
     put-up-requires
     same-length
     returns

@@ -32,8 +32,8 @@ loop-again : tie.Need-loop-again Inv-loop μ-loop
 unfolding dropTo
 loop-again c = (search needs, search needs, rw add-one (cc))
 
-get-u32-requires : tie.Need-get-u32-requires Inv-loop μ-loop
-get-u32-requires c κs = search needs
+cached-requires : tie.Need-cached-requires Inv-loop μ-loop
+cached-requires c κs = search needs
 
 put-u32-requires : tie.Need-put-u32-requires Inv-loop μ-loop
 put-u32-requires c κs = search needs
@@ -56,7 +56,7 @@ drop-pages-spec =
     add-p
     loop-less
     loop-again
-    get-u32-requires
+    cached-requires
     put-u32-requires
     same-length
     returns)

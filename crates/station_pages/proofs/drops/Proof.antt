@@ -4,8 +4,8 @@ use borrow.Author.Needs.{needs}
 use Rattle.station_pages.proofs.drops.Statement.{statement}
 use Rattle.station_pages.proofs.drops.Tie as tie
 
-get-u32-requires : tie.Need-get-u32-requires
-get-u32-requires c κs = search needs
+cached-requires : tie.Need-cached-requires
+cached-requires c κs = search needs
 
 has-bit32-requires : tie.Need-has-bit32-requires
 has-bit32-requires c κs = search needs
@@ -27,7 +27,7 @@ pub drops-spec : {M : Type 1} → statement M
 drops-spec =
     tie.close
     (tie.spec
-    get-u32-requires
+    cached-requires
     has-bit32-requires
     shared-slice-read-result
     used-page-requires

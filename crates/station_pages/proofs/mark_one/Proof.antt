@@ -5,8 +5,8 @@ use borrow.Author.Needs.{needs}
 use Rattle.station_pages.proofs.mark_one.Statement.{statement}
 use Rattle.station_pages.proofs.mark_one.Tie as tie
 
-get-u32-requires : tie.Need-get-u32-requires
-get-u32-requires c κs = search needs
+cached-requires : tie.Need-cached-requires
+cached-requires c κs = search needs
 
 has-bit32-requires : tie.Need-has-bit32-requires
 has-bit32-requires c κs = search needs
@@ -31,20 +31,20 @@ same-length c = search needs
 
 returns : tie.Need-returns
 unfolding markOneB
-returns c = simp (sym (c .before .before .before .before .before .before .before .before .get-u32 .ensures), sym (c .before .before .before .before .before .before .before .has-bit32 .ensures), c .before .before .before .before .before .before .if1 .taken) (cc)
+returns c = simp (sym (c .before .before .before .before .before .before .before .before .cached .ensures), sym (c .before .before .before .before .before .before .before .has-bit32 .ensures), c .before .before .before .before .before .before .if1 .taken) (cc)
 
 same-length-2 : tie.Need-same-length-2
 same-length-2 c = search needs
 
 returns-2 : tie.Need-returns-2
 unfolding markOneB
-returns-2 c = simp (sym (c .before .before .get-u32 .ensures), sym (c .before .has-bit32 .ensures), c .if1 .left)
+returns-2 c = simp (sym (c .before .before .cached .ensures), sym (c .before .has-bit32 .ensures), c .if1 .left)
 
 pub mark-one-spec : {M : Type 1} → statement M
 mark-one-spec =
     tie.close
     (tie.spec
-    get-u32-requires
+    cached-requires
     has-bit32-requires
     add-x
     slice-read-x

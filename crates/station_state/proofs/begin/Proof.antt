@@ -4,8 +4,8 @@ use borrow.Author.Needs.{needs}
 use Rattle.station_state.proofs.begin.Statement.{statement}
 use Rattle.station_state.proofs.begin.Tie as tie
 
-get-u32-requires : tie.Need-get-u32-requires
-get-u32-requires c κs = search needs
+number-requires : tie.Need-number-requires
+number-requires c κs = search needs
 
 add-put-u32 : tie.Need-add-put-u32
 add-put-u32 c = search needs
@@ -26,4 +26,4 @@ returns c = cc
 pub begin-spec : {M : Type 1} → statement M
 begin-spec =
     tie.close
-    (tie.spec get-u32-requires add-put-u32 put-u32-requires put-u8-requires same-length returns)
+    (tie.spec number-requires add-put-u32 put-u32-requires put-u8-requires same-length returns)

@@ -16,8 +16,8 @@ shared-slice-read-result-3 c = search needs
 shared-slice-read-result-4 : tie.Need-shared-slice-read-result-4
 shared-slice-read-result-4 c = search needs
 
-get-u32-requires : tie.Need-get-u32-requires
-get-u32-requires c κs = search needs
+number-requires : tie.Need-number-requires
+number-requires c κs = search needs
 
 returns : tie.Need-returns
 unfolding fieldsOk
@@ -31,5 +31,5 @@ fields-ok-spec =
     shared-slice-read-result-2
     shared-slice-read-result-3
     shared-slice-read-result-4
-    get-u32-requires
+    number-requires
     returns)

@@ -1,44 +1,17 @@
 -- `station_state::none_in` meets its contract.
-use mathlib.Core.Path.{sym}
+use Prim.Native.Nat.{ℕ}
+use mathlib.Core.Path.{ap, _∙_}
+use lib.Dec.{eqb}
 use borrow.Author.Needs.{needs}
-use Rattle.station_state.specs.Layout.{noneIn}
+use Rattle.station_state.specs.Facts.{none-joined}
 use Rattle.station_state.proofs.none_in.Statement.{statement}
 use Rattle.station_state.proofs.none_in.Tie as tie
 
-get-u64-requires : tie.Need-get-u64-requires
-get-u64-requires c κs = search needs
-
-add-get-u64 : tie.Need-add-get-u64
-add-get-u64 c = search needs
-
-get-u64-requires-2 : tie.Need-get-u64-requires-2
-get-u64-requires-2 c κs = search needs
-
-add-get-u64-2 : tie.Need-add-get-u64-2
-add-get-u64-2 c = search needs
-
-get-u64-requires-3 : tie.Need-get-u64-requires-3
-get-u64-requires-3 c κs = search needs
-
-add-get-u64-3 : tie.Need-add-get-u64-3
-add-get-u64-3 c = search needs
-
-get-u64-requires-4 : tie.Need-get-u64-requires-4
-get-u64-requires-4 c κs = search needs
+joined-requires : tie.Need-joined-requires
+joined-requires c κs = search needs
 
 returns : tie.Need-returns
-unfolding noneIn
-returns c = simp (sym (c .before .before .before .get-u64 .ensures), sym (c .before .before .get-u642 .ensures), sym (c .before .get-u643 .ensures), sym (c .get-u644 .ensures))
+returns c = ap (λ (x : ℕ). eqb x 0) (c .joined .ensures) ∙ none-joined _ _
 
 pub none-in-spec : {M : Type 1} → statement M
-none-in-spec =
-    tie.close
-    (tie.spec
-    get-u64-requires
-    add-get-u64
-    get-u64-requires-2
-    add-get-u64-2
-    get-u64-requires-3
-    add-get-u64-3
-    get-u64-requires-4
-    returns)
+none-in-spec = tie.close (tie.spec joined-requires returns)

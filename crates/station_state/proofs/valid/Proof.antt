@@ -1,10 +1,10 @@
 -- `station_state::valid` meets its contract.
-use mathlib.Core.Path.{sym}
+use mathlib.Core.Path.{sym, _∙_}
 use mathlib.Core.Bool.{not, _&&_}
 use borrow.Author.Tests.{eq-eqb, ne-eqb, le-leb, lt-leb, not-true, not-false}
 use borrow.Author.Needs.{needs}
 use Rattle.station_state.specs.Valid.{valid as Valid·valid}
-use Rattle.station_state.specs.Facts.{valid-closed}
+use Rattle.station_state.specs.Facts.{valid-rests}
 use Rattle.station_state.proofs.valid.Statement.{statement}
 use Rattle.station_state.proofs.valid.Tie as tie
 
@@ -22,17 +22,11 @@ returns-2 c = simp (eq-eqb _ _ (c .before .before .if1 .left), lt-leb _ _ (c .if
 shared-slice-read-if3 : tie.Need-shared-slice-read-if3
 shared-slice-read-if3 c = search needs
 
-shared-slice-read-result : tie.Need-shared-slice-read-result
-shared-slice-read-result c = search needs
-
-closed-ok-requires : tie.Need-closed-ok-requires
-closed-ok-requires c κs = search needs
-
-lockless-ok-requires : tie.Need-lockless-ok-requires
-lockless-ok-requires c κs = search needs
+rests-requires : tie.Need-rests-requires
+rests-requires c κs = search needs
 
 returns-3 : tie.Need-returns-3
-returns-3 c = valid-closed (c .before .before .before .before .before .before .before .before .before .args .s .now) (c .before .before .before .before .before .before .before .if1 .left) (c .before .before .before .before .before .if2 .left) (c .before .before .before .if3 .taken) (c .before .closed-ok .ensures) (c .lockless-ok .ensures)
+returns-3 c = c .rests .ensures ∙ valid-rests _ (c .before .if3 .taken)
 
 fields-ok-requires : tie.Need-fields-ok-requires
 fields-ok-requires c κs = search needs
@@ -62,9 +56,7 @@ valid-spec =
     shared-slice-read-if2
     returns-2
     shared-slice-read-if3
-    shared-slice-read-result
-    closed-ok-requires
-    lockless-ok-requires
+    rests-requires
     returns-3
     fields-ok-requires
     own-kept-requires

@@ -19,14 +19,8 @@ shared-slice-read-result-2 c = search needs
 get-u64-requires : tie.Need-get-u64-requires
 get-u64-requires c κs = search needs
 
-add-get-u32 : tie.Need-add-get-u32
-add-get-u32 c = search needs
-
 get-u32-requires : tie.Need-get-u32-requires
 get-u32-requires c κs = search needs
-
-add-get-u16 : tie.Need-add-get-u16
-add-get-u16 c = search needs
 
 get-u16-requires : tie.Need-get-u16-requires
 get-u16-requires c κs = search needs
@@ -43,8 +37,6 @@ registers-ok-spec =
     shared-slice-read-result
     shared-slice-read-result-2
     get-u64-requires
-    add-get-u32
     get-u32-requires
-    add-get-u16
     get-u16-requires
     returns-2)
