@@ -11,11 +11,12 @@ use Rattle.sets.specs.Laws.{byB, byEq, eqb-yes, eqb-no, ltb-yes}
 use Rattle.line.specs.All.{All, all-append}
 use Rattle.line.specs.Messages.{pageOf, lastNumber, locking, Work, Up, ReadRequest, WriteRequest, Commit, Abort, Purge, Busy, Done, WrittenSet, Lock, NoLock, ObjectLock, WholeLock, Down, Page, Deescalate, Callback, Committed, Aborted, Invalidate, Sent, To, Rec, Answer, Nothing, Begun, Value, Waits, Written, CommittedAs, AbortedFor, Purged, Refused, Empty}
 use Rattle.line.specs.Station as S
-use Rattle.line.specs.Station.{Station, Did, unless, Wait, Idle, ForRead, ForWrite, ForCommit, waiting, Kept, NotKept, KeptCall, shown, mayWrite, usedAt, forCommit, live, ended, fits, checkBegin, openThen, checkOpen, longRead, longWrite, checkAddress, checkPurge, dropPages, recordRead, writeLocal, mark, doCallback, doKept, doAllKept, closed, close, undo, ownBegin, readLocal, readAsk, readAs, ownRead, writeAsk, ownWrite, ownCommit, ownAbort, ownPurge, arrive, takeLock, answerWait, onPage, onDeescalate, onCallback, onCommitted, onAborted, onInvalidate, onDown, stationStep}
+use Rattle.line.specs.Station.{Station, Did, unless, Wait, Idle, ForRead, ForWrite, ForCommit, waiting, Kept, NotKept, KeptCall, shown, usedAt, forCommit, live, ended, fits, checkBegin, openThen, checkOpen, longRead, checkPurge, dropPages, recordRead, writeLocal, mark, doCallback, doKept, doAllKept, closed, close, undo, ownBegin, readLocal, readAsk, readAs, ownRead, writeAsk, ownWrite, ownCommit, ownAbort, ownPurge, arrive, takeLock, answerWait, onPage, onDeescalate, onCallback, onCommitted, onAborted, onInvalidate, onDown, stationStep, orVal, someOn, badSet, checkRead, checkWrite, named, writeSet, ofPage}
 use Rattle.line.specs.Server.{Server, Serving, Waiter, noWaiter, Want, NoWant, WantRead, WantWrite, WantCommit, unexpected, notice, finish, join, leave, sendPage, abort, informed, write, archive, inform, informFrom, install, serveNow, joinRead, joinWrite, joinCommit, commitNow, unlist, openCall, markBusy, answered, openAsk, loosen, accept, ask, serveRead, concerned, callsFrom, call, grantPage, grantObject, installWaiter, start, serverStep}
 use Rattle.line.specs.Pass.{Atomic, if-keeps, step-keeps}
-use Rattle.line.specs.Line.{World, Op, Begin, Read, Write, Commits, Aborts, Purges, Call, Owner, ServerTakes, StationTakes, Broken, fresh, worldDown, tell, sentTo, carryUp, carryDown, perform, ownerActs, stationTakes, serverTakes, act, run, isRefused}
+use Rattle.line.specs.Line.{World, Op, Begin, Read, Write, Commits, Aborts, Purges, Call, Owner, ServerTakes, StationTakes, Broken, fresh, worldDown, tell, sentTo, carryUp, carryDown, perform, ownerActs, stationTakes, serverTakes, act, run, isRefused, WriteSet}
 use Rattle.entries.specs.Entries.{FitVal, Within}
+use Rattle.line.specs.Asks.{set-asks}
 
 -- WHAT FITS
 
@@ -35,14 +36,18 @@ pub record FitRec (r : Rec) : Type 0 where
   pub reads : FitMap (r .reads)
   pub writes : FitMap (r .writes)
 
--- the calls: a value written has 8 bytes
+-- the calls: each value written has 8 bytes
 abbrev pub FitOp : Op → Type 0
 FitOp Begin = Unit {0}
 FitOp (Read a) = Unit {0}
-FitOp (Write a v) = v < 2 ^ 64
+FitOp (WriteSet p f) = (a : ℕ) → FitVal (ofPage p f a)
 FitOp Commits = Unit {0}
 FitOp Aborts = Unit {0}
 FitOp (Purges p) = Unit {0}
+
+-- a write of one object
+pub one-fits : (a v : ℕ) → v < 2 ^ 64 → FitOp (Write a v)
+one-fits a v k b = byEq (pageOf b) (pageOf a) (λ q. rw q (byEq b a (λ e. rw e k) (λ e. rw e tt))) (λ q. rw q tt)
 
 abbrev pub FitCall : Call → Type 0
 FitCall (Owner i op) = FitOp op
@@ -62,7 +67,7 @@ record FitWork (w : Work) : Type 0 where
 
 abbrev FitUp : Up → Type 0
 FitUp (ReadRequest a t) = Unit {0}
-FitUp (WriteRequest a t) = Unit {0}
+FitUp (WriteRequest p t set) = Unit {0}
 FitUp (Commit w) = FitWork w
 FitUp (Abort t) = Unit {0}
 FitUp (Purge p) = Unit {0}
@@ -84,7 +89,7 @@ FitSent (To j m) = FitDown m
 abbrev FitWait : Wait → Type 0
 FitWait Idle = Unit {0}
 FitWait (ForRead a) = a < 256
-FitWait (ForWrite a v) = (a < 256) × (v < 2 ^ 64)
+FitWait (ForWrite p f) = FitMap f
 FitWait ForCommit = Unit {0}
 
 abbrev FitWaiter : Want → Work → Type 0
@@ -171,10 +176,18 @@ unfolding recordRead
 read-fits a s b h =
     record { begun = h .begun; most = h .most; copies = h .copies; reads = map-upd (s .rd) a (s .copy a) b (h .copies a) (h .reads); writes = h .writes; waits = h .waits }
 
-write-fits : (a v : ℕ) (s : Station) → a < 256 → v < 2 ^ 64 → StationFits s → StationFits (writeLocal a v s)
+-- what is written over what was
+map-over : (f g : ℕ → Val) → FitMap f → FitMap g → FitMap (λ a. orVal (f a) (g a))
+map-over f g h k = record { values = λ a. one (f a) (h .values a) (g a) (k .values a); within = λ a l. rw (h .within a l) (k .within a l) }
+  where
+    one : (v : Val) → FitVal v → (w : Val) → FitVal w → FitVal (orVal v w)
+    one none x w y = y
+    one (some n) x w y = x
+
+write-fits : (f : ℕ → Val) (s : Station) → FitMap f → StationFits s → StationFits (writeLocal f s)
 unfolding writeLocal
-write-fits a v s b k h =
-    record { begun = h .begun; most = h .most; copies = λ c. if-fits (eqb c a) v (s .copy c) k (h .copies c); reads = h .reads; writes = map-upd (s .wr) a v b k (h .writes); waits = h .waits }
+write-fits f s k h =
+    record { begun = h .begun; most = h .most; copies = λ c. val-or (f c) (s .copy c) (k .values c) (h .copies c); reads = h .reads; writes = map-over f (s .wr) k (h .writes); waits = h .waits }
 
 wait-fits : (w : Wait) (s : Station) → FitWait w → StationFits s → StationFits (S.setWait s w)
 wait-fits w s k h = record { begun = h .begun; most = h .most; copies = h .copies; reads = h .reads; writes = h .writes; waits = k }
@@ -228,8 +241,21 @@ module _ (s : Station) (h : StationFits s) where
   unless-fits : (n : ℕ) (d : Did) → (eqb n 0 ≡ true → DidFits d) → DidFits (unless n d s)
   unless-fits n d k = if-did DidFits (eqb n 0) k (λ e. (h, tt))
 
-  address-fits : (a : ℕ) (long : Bool) → eqb (checkAddress a long s) 0 ≡ true → a < 256
-  address-fits a long e = ltb-yes a 256 (address-passed (ltb a 256) (openThen s (turned long 15 0)) e)
+  address-fits : (a : ℕ) → eqb (checkRead a s) 0 ≡ true → a < 256
+  address-fits a e = ltb-yes a 256 (address-passed (ltb a 256) (openThen s (turned (longRead a s) 15 0)) e)
+
+  -- a set that 4 lets pass
+  set-fits : (p : ℕ) (f : ℕ → Val) → ((a : ℕ) → FitVal (ofPage p f a)) → eqb (checkWrite p (ofPage p f) s) 0 ≡ true → FitMap (ofPage p f)
+  set-fits p f k e =
+      let g = set-asks p f s (set-passed (badSet p (ofPage p f) s) _ e) in
+      record {
+        values = k;
+        within = λ a l. byEq (pageOf a) p (λ q. let r = g .in-range in absurd (omega (arith, eqb-yes (pageOf a) p q))) (λ q. rw q refl);
+      }
+    where
+      set-passed : (b : Bool) (n : ℕ) → eqb (turned b 4 n) 0 ≡ true → b ≡ false
+      set-passed true n z = absurd (false≢true z)
+      set-passed false n z = refl
 
   begin-fits : DidFits (ownBegin s)
   unfolding ownBegin
@@ -245,9 +271,9 @@ module _ (s : Station) (h : StationFits s) where
   readAs-fits a b none (some v) = (h, tt)
   readAs-fits a b (some v) r = (h, tt)
 
-  writeAsk-fits : (a v : ℕ) → a < 256 → v < 2 ^ 64 → DidFits (writeAsk a v s)
+  writeAsk-fits : (p : ℕ) (f : ℕ → Val) → FitMap f → DidFits (writeAsk p f s)
   unfolding writeAsk
-  writeAsk-fits a v b k = (wait-fits (ForWrite a v) s (b, k) h, (byB (locking (s .kind)) (λ e. rw e tt) (λ e. rw e tt), tt))
+  writeAsk-fits p f k = (wait-fits (ForWrite p f) s k h, (byB (locking (s .kind)) (λ e. rw e tt) (λ e. rw e tt), tt))
 
   commit-fits : DidFits (ownCommit s)
   unfolding ownCommit
@@ -265,14 +291,14 @@ module _ (s : Station) (h : StationFits s) where
       (λ e. close-fits _ (undo-fits s h, byB (locking (s .kind)) (λ k. rw k (tt, tt)) (λ k. rw k tt)))
 
   perform-fits : (op : Op) → FitOp op → DidFits (perform op s)
-  unfolding perform ownRead ownWrite ownPurge
+  unfolding perform ownRead ownWrite writeSet ownPurge
   perform-fits Begin k = begin-fits
-  perform-fits (Read a) k = unless-fits (checkAddress a (longRead a s) s) _ (λ e. readAs-fits a (address-fits a (longRead a s) e) (s .wr a) (s .rd a))
-  perform-fits (Write a v) k =
-      unless-fits (checkAddress a (longWrite a s) s) _
+  perform-fits (Read a) k = unless-fits (checkRead a s) _ (λ e. readAs-fits a (address-fits a e) (s .wr a) (s .rd a))
+  perform-fits (WriteSet p f) k =
+      unless-fits (checkWrite p (ofPage p f) s) _
       (λ e.
-      let b = address-fits a (longWrite a s) e in
-      if-did DidFits (mayWrite a s) (λ q. (write-fits a v s b k h, tt)) (λ q. writeAsk-fits a v b k))
+      let b = set-fits p f k e in
+      if-did DidFits (someOn p (named (ofPage p f) s)) (λ q. writeAsk-fits p (ofPage p f) b) (λ q. (write-fits (ofPage p f) s b h, tt)))
   perform-fits Commits k = commit-fits
   perform-fits Aborts k = ownAbort-fits
   perform-fits (Purges p) k = unless-fits (checkPurge p s) _ (λ e. (drop-fits _ s h, (tt, tt)))
@@ -301,7 +327,7 @@ answer-fits : (w : Wait) (s : Station) → FitWait w → StationFits s → DidFi
 unfolding answerWait
 answer-fits Idle s k h = (h, tt)
 answer-fits (ForRead a) s k h = (read-fits a s k h, tt)
-answer-fits (ForWrite a v) s k h = (write-fits a v s (k .0) (k .1) h, tt)
+answer-fits (ForWrite p f) s k h = (write-fits f s k h, tt)
 answer-fits ForCommit s k h = (h, tt)
 
 module _ (s : Station) (h : StationFits s) where
@@ -438,7 +464,7 @@ unfolding accept joinRead joinWrite joinCommit join serveNow finish unlist markB
 accept-fits i (ReadRequest a t) x b k h =
     let g : ServingFits (notice i t x) = notice-fits i t x h in
     if-keeps ServingFits (locking (x .server .kind i)) (λ e. waits-as i _ tt g) (λ e. page-fits NoLock i a nowhere (notice i t x) g)
-accept-fits i (WriteRequest a t) x b k h = waits-as i _ tt (notice-fits i t x h)
+accept-fits i (WriteRequest p t set) x b k h = waits-as i _ tt (notice-fits i t x h)
 accept-fits i (Commit w) x b k h =
     let g : ServingFits (notice i (w .transaction) x) = notice-fits i (w .transaction) x h in
     if-keeps ServingFits (locking (x .server .kind i)) (λ e. commitNow-fits i w (notice i (w .transaction) x) b k g) (λ e. waits-as i _ k g)

@@ -8,7 +8,7 @@ use native.Mathlib.Omega.{arith}
 use lib.Dec.{eqb, ltb}
 use lib.ListN.{getD, drop}
 use lib.Seq.{getD-take, getD-drop}
-use Rattle.sets.specs.Base.{upd, has}
+use Rattle.sets.specs.Base.{upd, Val, has}
 use Rattle.sets.specs.Laws.{byB, byEq, eqb-yes, eqb-no, ltb-yes, ltb-no}
 use Rattle.lists.specs.Bytes.{bytes-take, bytes-drop}
 use Rattle.cells.specs.Upd.{cond-rel}
@@ -60,9 +60,9 @@ module _ {i : ℕ} {m : Station} where
   unfolding recordRead
   sound-read a = sound-same (recordRead a m) refl refl refl refl
 
-  pub sound-write : (a v : ℕ) → Sound i m → Sound i (writeLocal a v m)
+  pub sound-write : (f : ℕ → Val) → Sound i m → Sound i (writeLocal f m)
   unfolding writeLocal
-  sound-write a v = sound-same (writeLocal a v m) refl refl refl refl
+  sound-write f = sound-same (writeLocal f m) refl refl refl refl
 
   pub sound-wait : (w : Wait) → Sound i m → Sound i (setWait m w)
   sound-wait w = sound-same (setWait m w) refl refl refl refl

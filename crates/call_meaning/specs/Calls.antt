@@ -1,7 +1,7 @@
 -- What a host finds in the lent bytes after a call is what document 01's operation or step gives: the answer, the station, and what is to
 -- be carried up, as the server reads it. Or it is a refusal, and nothing is changed.
 use Prim.Native.Nat.{ℕ, suc, _≤_, _<_, _^_}
-use mathlib.Core.Path.{_≡_, refl, sym, ap, _∙_}
+use mathlib.Core.Path.{_≡_, refl, sym, ap, subst, _∙_}
 use mathlib.Core.Bool.{Bool, true, false, not, _&&_, cond, false≢true}
 use mathlib.Core.List.{List, [], _∷_, append-nil}
 use mathlib.Core.Logic.{_≢_}
@@ -10,12 +10,14 @@ use lib.Dec.{eqb, leb}
 use lib.ListN.{length, getD, take, replicate}
 use borrow.Author.Tests.{eq-eqb, le-leb}
 use Rattle.lists.specs.Tests.{allTo, and-l}
+use Rattle.sets.specs.Base.{Val}
+use Rattle.entries.specs.Entries.{FitVal}
 use Rattle.cells.specs.Num.{AllBytes}
 use Rattle.cells.specs.Upd.{eqb-diff}
 use Rattle.line.specs.Messages.{Up}
-use Rattle.line.specs.Station.{Station, freshStation, stationStep}
+use Rattle.line.specs.Station.{Station, freshStation, writeSet, ofPage, ownWrite, stationStep}
 use Rattle.line.specs.Station as Model
-use Rattle.line.specs.Line.{Op, Begin, Read, Write, Commits, Aborts, Purges, perform}
+use Rattle.line.specs.Line.{Op, Begin, Read, WriteSet, Write, Commits, Aborts, Purges, perform}
 use Rattle.line.specs.Bounds.{owner-bound, station-bound}
 use Rattle.line.specs.Fit.{FitStation}
 use Rattle.line.specs.FitCalls.{recorded, FitDid, owner-fit, station-fit}
@@ -31,7 +33,7 @@ use Rattle.station_answer.specs.declared.Answer.{Answer}
 use Rattle.station_answer.specs.declared.Answer.the-variants.{Refused, Begun, Value, Waits, Written, Committed, Aborted, Purged, Nothing}
 use Rattle.station_answer.specs.Did.{Did, refuses, said, Outcome, outcome, laid}
 use Rattle.station_delivery.specs.Delivery.{endedB, answerWaitB, onPageB, onDeescalateB, onCallbackB, onCommittedB, onAbortedB, onInvalidateB, onDownB}
-use Rattle.station_owner.specs.Owner.{ready, called, checkBeginB, checkOpenB, longReadB, longWriteB, checkAddressB, checkPurgeB, commitCalled, ownBeginB, shownB, readLocalB, readAskB, readHereB, readAsB, ownReadB, mayWriteB, writeAskB, writeAsB, ownWriteB, ownAbortB, ownPurgeB}
+use Rattle.station_owner.specs.Owner.{ready, called, checkBeginB, checkOpenB, checkReadB, checkWriteB, checkPurgeB, commitCalled, ownBeginB, shownB, readLocalB, readAskB, readHereB, readAsB, ownReadB, namedB, writeAskB, writeAsB, ownWriteSetB, ownWriteB, ownAbortB, ownPurgeB}
 use Rattle.station_owner.specs.Facts.{ready-is}
 use Rattle.station.specs.Station.{checkStepB, stationStepB}
 use Rattle.station_meaning.specs.Meant.{meant, Is}
@@ -39,6 +41,7 @@ use Rattle.station_meaning.specs.Tests.{station-at}
 use Rattle.call_meaning.specs.Relation.{answerOf, Sound, AllRead, Means}
 use Rattle.call_meaning.specs.Valid.{valid-means, valid-kept, means-valid, fresh-means, fresh-valid}
 use Rattle.call_meaning.specs.Owner.{begin-means, read-means, write-means, abort-means, purge-means}
+use Rattle.call_meaning.specs.Sets.{objectsOf, valuesOf, objects-lt, values-fit, given-back, one-calls, ownSet, own-fits, set-calls}
 use Rattle.call_meaning.specs.Delivery.{step-means}
 use Rattle.call_meaning.specs.Names.{down-names}
 use Rattle.call_meaning.specs.Commit.{CommitRead, CommitMeans, commit-called-means}
@@ -151,19 +154,33 @@ commit-told {i} {b} {d} h f =
 abbrev pub performB : Op → List ℕ → List ℕ → List ℕ → Outcome
 performB Begin s o c = called s o c (ownBeginB s)
 performB (Read a) s o c = called s o c (ownReadB a s)
-performB (Write a v) s o c = called s o c (ownWriteB a v s)
+performB (WriteSet p f) s o c = called s o c (ownWriteSetB p (objectsOf p f) (valuesOf p f) s)
 performB Commits s o c = commitCalled s o c
 performB Aborts s o c = called s o c (ownAbortB s)
 performB (Purges p) s o c = called s o c (ownPurgeB p s)
 
--- "a value of 64 bits"; every other argument may be any number
+-- values of 64 bits; every other argument may be any number
 abbrev pub OpFits : Op → Type 0
 OpFits Begin = Unit {0}
 OpFits (Read a) = Unit {0}
-OpFits (Write a v) = v < 2 ^ 64
+OpFits (WriteSet p f) = (a : ℕ) → FitVal (ofPage p f a)
 OpFits Commits = Unit {0}
 OpFits Aborts = Unit {0}
 OpFits (Purges p) = Unit {0}
+
+-- the call that writes one object, and the call that writes a set, whatever the numbers
+
+pub one-called : (a v : ℕ) (s o c : List ℕ) → called s o c (ownWriteB a v s) ≡ performB (Write a v) s o c
+one-called a v s o c = ap (called s o c) (one-calls a v s)
+
+abbrev pub setOp : ℕ → ℕ → List ℕ → Op
+setOp p x f = WriteSet p (ownSet x f)
+
+pub set-called : (p x : ℕ) (f s o c : List ℕ) → called s o c (ownWriteSetB p x f s) ≡ performB (setOp p x f) s o c
+set-called p x f s o c = ap (called s o c) (set-calls p x f s)
+
+pub set-fits : (p x : ℕ) (f : List ℕ) → ((o : ℕ) → o < 8 → getD f o 0 < 2 ^ 64) → OpFits (setOp p x f)
+set-fits p x f h = own-fits p x f h
 
 pub ready-valid : (s o c : List ℕ) → ready s o c ≡ true → valid s ≡ true
 unfolding ready
@@ -173,6 +190,12 @@ module _ {i : ℕ} {s : List ℕ} {m : Station} (h : Is i s m) (q : Sound i m) (
   called-told : (b : Did) (d : Model.Did) → length (d .sent) ≤ 8 → Means i b d → FitDid i d → Told i (called s o c b) d
   called-told b d l k f = rw r (laid-told o c ((ready-is s o c r) .messages-fit) l k f)
 
+  set-means : (p : ℕ) (f : ℕ → Val) → ((a : ℕ) → FitVal (ofPage p f a)) → Means i (ownWriteSetB p (objectsOf p f) (valuesOf p f) s) (ownWrite p f m)
+  unfolding ownWrite
+  set-means p f k =
+      subst (λ (g : ℕ → Val). Means i (ownWriteSetB p (objectsOf p f) (valuesOf p f) s) (writeSet p g m)) (given-back p f)
+      (write-means h q p (objectsOf p f) (valuesOf p f) (objects-lt p f) (values-fit p f k))
+
   perform-told : (op : Op) → OpFits op → Told i (performB op s o c) (perform op m)
   unfolding perform
   perform-told op f = go op f (owner-bound i op m (q .own) (q .not-own)) (owner-fit i m z op)
@@ -180,7 +203,7 @@ module _ {i : ℕ} {s : List ℕ} {m : Station} (h : Is i s m) (q : Sound i m) (
       go : (op : Op) → OpFits op → length ((perform op m) .sent) ≤ 8 → FitDid i (perform op m) → Told i (performB op s o c) (perform op m)
       go Begin f l k = called-told _ _ l (begin-means h q) k
       go (Read a) f l k = called-told _ _ l (read-means h q a) k
-      go (Write a v) f l k = called-told _ _ l (write-means h q a v f) k
+      go (WriteSet p f) g l k = called-told _ _ l (set-means p f g) k
       go Commits f l k = commit-told (commit-called-means h q (recorded (z .few)) o c r) k
       go Aborts f l k = called-told _ _ l (abort-means h q) k
       go (Purges p) f l k = called-told _ _ l (purge-means h q p) k
@@ -196,7 +219,7 @@ pub owner-unready : (op : Op) (s o c : List ℕ) → ready s o c ≡ false → p
 unfolding commitCalled
 owner-unready Begin s o c r = rw r
 owner-unready (Read a) s o c r = rw r
-owner-unready (Write a v) s o c r = rw r
+owner-unready (WriteSet p f) s o c r = rw r
 owner-unready Commits s o c r = rw r
 owner-unready Aborts s o c r = rw r
 owner-unready (Purges p) s o c r = rw r
@@ -291,16 +314,16 @@ module _ (s : List ℕ) where
   unfolding ownReadB readAsB readHereB readLocalB readAskB
   read-still a =
       let here = either (shownB a s) (taken refl) (taken refl) in
-      let n = checkAddressB a (longReadB a s) s in
+      let n = checkReadB a s in
       either (eqb n 0)
       (either (member s writtenSetFrom a) (taken refl) (either (member s readSetFrom a) (taken refl) here))
       (refusal n)
 
-  write-still : (a v : ℕ) → Still s (ownWriteB a v s)
-  unfolding ownWriteB writeAsB writeAskB
-  write-still a v =
-      let n = checkAddressB a (longWriteB a s) s in
-      either (eqb n 0) (either (mayWriteB a s) (taken refl) (taken refl)) (refusal n)
+  write-still : (p x : ℕ) (f : List ℕ) → Still s (ownWriteSetB p x f s)
+  unfolding ownWriteSetB writeAsB writeAskB
+  write-still p x f =
+      let n = checkWriteB p x s in
+      either (eqb n 0) (either (eqb (namedB p x s) 0) (taken refl) (taken refl)) (refusal n)
 
   abort-still : Still s (ownAbortB s)
   unfolding ownAbortB
@@ -357,7 +380,7 @@ module _ (s : List ℕ) where
     pub owner-unchanged : (op : Op) → Unchanged (performB op s o c)
     owner-unchanged Begin = called-unchanged begin-still
     owner-unchanged (Read a) = called-unchanged (read-still a)
-    owner-unchanged (Write a v) = called-unchanged (write-still a v)
+    owner-unchanged (WriteSet p f) = called-unchanged (write-still p (objectsOf p f) (valuesOf p f))
     owner-unchanged Commits = commit-unchanged
     owner-unchanged Aborts = called-unchanged abort-still
     owner-unchanged (Purges p) = called-unchanged (purge-still p)

@@ -6,14 +6,15 @@ use mathlib.Core.List.{List, []}
 use mathlib.Core.Logic.{_≢_}
 use native.Mathlib.Omega.{arith}
 use lib.Dec.{eqb, ltb}
+use lib.ListN.{getD}
 use Rattle.sets.specs.Base.{has}
-use Rattle.sets.specs.Laws.{byB, byEq, eqb-same, eqb-yes, eqb-no}
+use Rattle.sets.specs.Laws.{byB, byEq, eqb-same, eqb-yes, eqb-no, and-r}
 use Rattle.cells.specs.Num.{AllBytes, bytes-all}
 use Rattle.cells.specs.Bits.{tb, tb-zero, tb-test}
 use Rattle.cells.specs.Upd.{cond-rel, eqb-diff}
 use Rattle.line.specs.Messages.{locking, Lock, NoLock, ObjectLock, WholeLock}
 use Rattle.line.specs.Messages as Line
-use Rattle.line.specs.Station.{Station, Idle, KeptCall, setWait, inUse, doCallback, live, ended, waiting, forRead, forWrite, forCommit, fits, arrive, takeLock, answerWait, onPage, writtenOn, loosen, onDeescalate, onCallback, onCommitted, onAborted, onInvalidate, onDown, stationStep}
+use Rattle.line.specs.Station.{Station, Idle, KeptCall, setWait, inUse, doCallback, live, ended, waiting, forRead, forWrite, forCommit, writesTo, ofPage, fitsPage, fits, arrive, takeLock, answerWait, onPage, writtenOn, loosen, onDeescalate, onCallback, onCommitted, onAborted, onInvalidate, onDown, stationStep}
 use Rattle.line.specs.Station as Model
 use Rattle.message.specs.Layout.{setsFrom, messageLength, kindOf, stationOf, pageOf, requesterOf, objectOf, causeOf, transactionOf, versionOf, setOf, upMessage}
 use Rattle.message.specs.Number.{downNumber}
@@ -21,20 +22,20 @@ use Rattle.message_meaning.specs.Meant.{objectsOn, objectsIn, setsOf, valuesOn,
 use Rattle.message_meaning.specs.Kinds.{down-16, down-17, down-18, down-19, down-20, down-21, down-22, down-23, sets-at}
 use Rattle.message.specs.Accepted.{DownAccepted, down-accepted, fields-fit}
 use Rattle.message_meaning.specs.Sent.{Reads, busy-sent, written-set-sent}
-use Rattle.station_state.specs.Layout.{writtenValue, station, wait, address, waitingValue, writtenSet, writtenSetFrom, whole, hasBit, member}
-use Rattle.station_state.specs.Changes.{loosenB}
+use Rattle.station_state.specs.Layout.{writtenValue, station, wait, address, waitingSet, writtenSet, writtenSetFrom, whole, hasBit, member}
+use Rattle.station_state.specs.Changes.{waitingValues, loosenB}
 use Rattle.station_pages.specs.Pages.{inUseB}
 use Rattle.station_callbacks.specs.Callbacks.{sends, setsAt}
 use Rattle.station_answer.specs.declared.Answer.{Answer}
 use Rattle.station_answer.specs.declared.Answer.the-variants.{Committed, Aborted, Nothing}
 use Rattle.station_answer.specs.Did.{refuses}
 use Rattle.station_answer.specs.Ask.{lockingB}
-use Rattle.station_delivery.specs.Delivery.{liveB, endedB, forReadOf, forWriteOf, fitsPageB, fitsLockB, fitsCommittedB, fitsAbortedB, fitsB, addressOf, takeLockB, arrivedB, answerWaitB, onPageB, writtenOnB, loosenedB, onDeescalateB, onCallbackB, onCommittedB, onAbortedB, onInvalidateB, onDownB}
+use Rattle.station_delivery.specs.Delivery.{liveB, endedB, forReadOf, forWriteOn, forWriteOf, fitsPageB, fitsLockB, fitsCommittedB, fitsAbortedB, fitsB, addressOf, takeLockB, arrivedB, answerWaitB, onPageB, writtenOnB, loosenedB, onDeescalateB, onCallbackB, onCommittedB, onAbortedB, onInvalidateB, onDownB}
 use Rattle.station.specs.Station.{checkStepB, stationStepB}
-use Rattle.station_meaning.specs.Meant.{Is, waitOf}
+use Rattle.station_meaning.specs.Meant.{given, waitOf, Is}
 use Rattle.station_meaning.specs.Named.{named}
-use Rattle.station_meaning.specs.Tests.{has-if, station-at, kind-at, number-at, open-at, wait-le, address-lt, waitingValue-lt, wait-is, waiting-at, forCommit-at, forRead-at, forWrite-at, whole-at, wrote-at, copy-at, inUse-at}
-use Rattle.station_meaning.specs.Changes.{recordRead-is, writeLocal-is, idle-is, lockObject-is, lockWhole-is, loosen-is, keep-is}
+use Rattle.station_meaning.specs.Tests.{has-if, station-at, kind-at, number-at, open-at, wait-le, address-lt, waitingValue-lt, wait-is, waiting-at, forCommit-at, forRead-at, writesTo-at, forWrite-at, whole-at, wrote-at, copy-at, inUse-at}
+use Rattle.station_meaning.specs.Changes.{recordRead-is, writeAll-is, idle-is, lockWaiting-is, lockWhole-is, loosen-is, keep-is}
 use Rattle.station_meaning.specs.Pages.{mark-is, arrive-is, versions-is}
 use Rattle.call_meaning.specs.Relation.{answerOf, Sound, ReadAs, Sending, Means}
 use Rattle.call_meaning.specs.Callbacks.{sound-same, sound-mark, sound-undo, sound-read, sound-write, sound-versions, sound-keep, sets-bytes, callback-means as done-means, ends-means, undo-means}
@@ -57,9 +58,17 @@ module _ {i : ℕ} {s : List ℕ} {m : Station} (h : Is i s m) where
   unfolding forReadOf
   forReadOf-at a = forRead-at h a
 
+  forWriteOn-at : (p : ℕ) → forWriteOn s p ≡ writesTo (m .wait) p
+  unfolding forWriteOn
+  forWriteOn-at p = writesTo-at h p
+
   forWriteOf-at : (a : ℕ) → forWriteOf s a ≡ forWrite (m .wait) a
-  unfolding forWriteOf
+  unfolding forWriteOf forWriteOn
   forWriteOf-at a = forWrite-at h a
+
+-- the page that a page message names
+address-page : (x : List ℕ) → objectOf x < 8 → addressOf x / 8 ≡ pageOf x
+address-page x l = omega arith
 
 -- the number, or a larger one
 or-more : {G : Type 0} (n k : ℕ) → n ≤ k → (k ≡ n → G) → (suc n ≤ k → G) → G
@@ -80,13 +89,13 @@ module _ {i : ℕ} {s : List ℕ} {m : Station} (h : Is i s m) (x : List ℕ) wh
       let t = transactionOf x in
       rw (ended-at h t, live-at h t, kind-at h, forReadOf-at h (addressOf x), forWriteOf-at h (addressOf x))
 
-  fits-object : fitsLockB x s ≡ fits (pageAt ObjectLock x) m
+  fits-object : objectOf x < 8 → fitsLockB x s ≡ fits (pageAt ObjectLock x) m
   unfolding fitsLockB pageAt
-  fits-object = rw (kind-at h, live-at h (transactionOf x), forWriteOf-at h (addressOf x))
+  fits-object l = rw (kind-at h, live-at h (transactionOf x), forWriteOn-at h (pageOf x), address-page x l)
 
-  fits-whole : fitsLockB x s ≡ fits (pageAt WholeLock x) m
+  fits-whole : objectOf x < 8 → fitsLockB x s ≡ fits (pageAt WholeLock x) m
   unfolding fitsLockB pageAt
-  fits-whole = rw (kind-at h, live-at h (transactionOf x), forWriteOf-at h (addressOf x))
+  fits-whole l = rw (kind-at h, live-at h (transactionOf x), forWriteOn-at h (pageOf x), address-page x l)
 
   fits-committed : fitsCommittedB x s ≡ (live m (transactionOf x) && forCommit (m .wait))
   unfolding fitsCommittedB
@@ -101,8 +110,8 @@ module _ {i : ℕ} {s : List ℕ} {m : Station} (h : Is i s m) (x : List ℕ) wh
   fits-at a =
       by-kind (kindOf x) (a .kind-from) (a .kind-to)
       (λ e. rw (down-16 x e, e) fits-none)
-      (λ e. rw (down-17 x e, e) fits-object)
-      (λ e. rw (down-18 x e, e) fits-whole)
+      (λ e. rw (down-17 x e, e) (fits-object (a .page (omega arith) .object-is)))
+      (λ e. rw (down-18 x e, e) (fits-whole (a .page (omega arith) .object-is)))
       (λ e. rw (down-19 x e, e) (locking-at h))
       (λ e. rw (down-20 x e, e) (locking-at h))
       (λ e. rw (down-21 x e, e) fits-committed)
@@ -125,44 +134,44 @@ sound-arrived {i} {m} ObjectLock a p v u x = sound-same (setWait (arrive p v u x
 sound-arrived {i} {m} WholeLock a p v u x = sound-same (setWait (arrive p v u x (takeLock WholeLock a m)) Idle) refl refl refl refl
 
 -- "the delivery that brings the page gives the owner's answer"
-answer-means : {i : ℕ} {s : List ℕ} {m : Station} → Is i s m → Sound i m → (w a v : ℕ) → w ≤ 3 → a < 256 → v < 2 ^ 64
-    → Means i (answerWaitB w a v s) (answerWait (waitOf w a v) m)
+answer-means : {i : ℕ} {s : List ℕ} {m : Station} → Is i s m → Sound i m → (w a x : ℕ) (f : List ℕ) → w ≤ 3 → a < 256 → ((o : ℕ) → o < 8 → getD f o 0 < 2 ^ 64)
+    → Means i (answerWaitB w a x f s) (answerWait (waitOf w a (given x (λ o. getD f o 0))) m)
 unfolding answerWaitB answerWait
-answer-means h q zero a v lw la lv = record { answer = refl; state = h; sound = q; sent = tt }
-answer-means h q (suc zero) a v lw la lv =
+answer-means h q zero a x f lw la lv = record { answer = refl; state = h; sound = q; sent = tt }
+answer-means h q (suc zero) a x f lw la lv =
     record { answer = ap Line.Value (copy-at h a la); state = recordRead-is h a la; sound = sound-read a q; sent = tt }
-answer-means h q (suc (suc zero)) a v lw la lv =
-    record { answer = refl; state = writeLocal-is h a v la lv; sound = sound-write a v q; sent = tt }
-answer-means h q (suc (suc (suc zero))) a v lw la lv = record { answer = refl; state = h; sound = q; sent = tt }
-answer-means h q (suc (suc (suc (suc w)))) a v lw la lv = absurd (omega arith)
+answer-means h q (suc (suc zero)) a x f lw la lv =
+    record { answer = refl; state = writeAll-is h (a / 8) x f (omega arith) lv; sound = sound-write (ofPage (a / 8) (given x (λ o. getD f o 0))) q; sent = tt }
+answer-means h q (suc (suc (suc zero))) a x f lw la lv = record { answer = refl; state = h; sound = q; sent = tt }
+answer-means h q (suc (suc (suc (suc w)))) a x f lw la lv = absurd (omega arith)
 
 module _ {i : ℕ} {s : List ℕ} {m : Station} (h : Is i s m) (x : List ℕ) (page-lt : pageOf x < 32) (object-lt : objectOf x < 8) where
-  address-page : addressOf x / 8 ≡ pageOf x
-  address-page = omega arith
-
-  takeLock-is : (l : Lock) → kindOf x ≡ kindFor l → Is i (takeLockB x s) (takeLock l (addressOf x) m)
+  -- a 17 locks what the write that is out is for, which is on its page
+  takeLock-is : (l : Lock) → kindOf x ≡ kindFor l → fitsPage l (addressOf x) (transactionOf x) m ≡ true → Is i (takeLockB x s) (takeLock l (addressOf x) m)
   unfolding takeLockB takeLock
-  takeLock-is NoLock e = rw e h
-  takeLock-is ObjectLock e = rw e (lockObject-is h (addressOf x) (omega arith))
-  takeLock-is WholeLock e = rw (e, address-page) (lockWhole-is h (pageOf x) page-lt)
+  takeLock-is NoLock e t = rw e h
+  takeLock-is ObjectLock e t =
+      let out : writesTo (m .wait) (pageOf x) ≡ true = rw (address-page x object-lt) at (and-r (locking (m .kind) && live m (transactionOf x)) _ t) in
+      rw e (lockWaiting-is h (pageOf x) page-lt out)
+  takeLock-is WholeLock e t = rw (e, address-page x object-lt) (lockWhole-is h (pageOf x) page-lt)
 
-  arrived-is : AllBytes x → (l : Lock) → kindOf x ≡ kindFor l
+  arrived-is : AllBytes x → (l : Lock) → kindOf x ≡ kindFor l → fitsPage l (addressOf x) (transactionOf x) m ≡ true
       → Is i (arrivedB x s)
       (setWait (arrive (addressOf x / 8) (versionsOn (pageOf x) x) (objectsOn (pageOf x) (setOf x 0)) (valuesOn (pageOf x) x) (takeLock l (addressOf x) m)) Idle)
   unfolding arrivedB
-  arrived-is b l e = rw address-page (idle-is (arrive-is (takeLock-is l e) x (pageOf x) b page-lt))
+  arrived-is b l e t = rw (address-page x object-lt) (idle-is (arrive-is (takeLock-is l e t) x (pageOf x) b page-lt))
 
-  lock-means : AllBytes x → Sound i m → (l : Lock) → kindOf x ≡ kindFor l → Means i (onPageB x s) (onDown (pageAt l x) m)
+  lock-means : AllBytes x → Sound i m → (l : Lock) → kindOf x ≡ kindFor l → fits (pageAt l x) m ≡ true → Means i (onPageB x s) (onDown (pageAt l x) m)
   unfolding onPageB onDown onPage pageAt
-  lock-means b q l e =
+  lock-means b q l e f =
       let t = transactionOf x in
       let u = objectsOn (pageOf x) (setOf x 0) in
       let v = valuesOn (pageOf x) x in
       let n = setWait (arrive (addressOf x / 8) (versionsOn (pageOf x) x) u v (takeLock l (addressOf x) m)) Idle in
       cond-rel (Means i) (endedB s t) (ended m t) (ended-at h t)
       (record { answer = refl; state = h; sound = q; sent = tt })
-      (subst (λ w. Means i (answerWaitB (wait s) (address s) (waitingValue s) (arrivedB x s)) (answerWait w n)) (sym (wait-is h))
-      (answer-means (arrived-is b l e) (sound-arrived l (addressOf x) (addressOf x / 8) (versionsOn (pageOf x) x) u v q) (wait s) (address s) (waitingValue s) (wait-le h) (address-lt h) (waitingValue-lt h)))
+      (subst (λ w. Means i (answerWaitB (wait s) (address s) (waitingSet s) (waitingValues s) (arrivedB x s)) (answerWait w n)) (sym (wait-is h))
+      (answer-means (arrived-is b l e f) (sound-arrived l (addressOf x) (addressOf x / 8) (versionsOn (pageOf x) x) u v q) (wait s) (address s) (waitingSet s) (waitingValues s) (wait-le h) (address-lt h) (waitingValue-lt h)))
 
 -- A LOCK LOOSENED
 
@@ -222,13 +231,13 @@ nothing-sent a h q = record { state = h; sound = q; sent = tt }
 
 module _ {i : ℕ} {s : List ℕ} {m : Station} (h : Is i s m) (q : Sound i m) (x : List ℕ) (b : AllBytes x) (a : DownAccepted i x) where
   -- "16 page ..; 17 the same with a lock on the object; 18 with a lock on the whole page"
-  pub page-means : kindOf x ≤ 18 → Means i (onPageB x s) (onDown (downOf x) m)
-  page-means k =
+  pub page-means : kindOf x ≤ 18 → fits (downOf x) m ≡ true → Means i (onPageB x s) (onDown (downOf x) m)
+  page-means k t =
       let f = a .page k in
       let means = lock-means h x (f .page-is) (f .object-is) b q in
-      or-more 16 (kindOf x) (a .kind-from) (λ e. rw (down-16 x e) (means NoLock e))
-      (λ l. or-more 17 (kindOf x) l (λ e. rw (down-17 x e) (means ObjectLock e))
-      (λ l. let e : kindOf x ≡ 18 = omega arith in rw (down-18 x e) (means WholeLock e)))
+      or-more 16 (kindOf x) (a .kind-from) (λ e. rw (down-16 x e) (means NoLock e (rw (down-16 x e) at t)))
+      (λ l. or-more 17 (kindOf x) l (λ e. rw (down-17 x e) (means ObjectLock e (rw (down-17 x e) at t)))
+      (λ l. let e : kindOf x ≡ 18 = omega arith in rw (down-18 x e) (means WholeLock e (rw (down-18 x e) at t))))
 
   transaction-lt : transactionOf x < 2 ^ 32
   transaction-lt = fields-fit x (bytes-all x b) .transaction-fits
@@ -296,13 +305,13 @@ module _ {i : ℕ} {s : List ℕ} {m : Station} (h : Is i s m) (q : Sound i m) (
       (ends-means (Aborted 2) (nothing-sent (Aborted 2) (undo-means k r) (sound-undo r)) refl)
       (record { answer = refl; state = k; sound = r; sent = tt }))
 
-  pub down-means : Means i (onDownB x s) (onDown (downOf x) m)
+  pub down-means : fits (downOf x) m ≡ true → Means i (onDownB x s) (onDown (downOf x) m)
   unfolding onDownB
-  down-means =
+  down-means t =
       by-kind (kindOf x) (a .kind-from) (a .kind-to)
-      (λ e. rw e (page-means (omega arith)))
-      (λ e. rw e (page-means (omega arith)))
-      (λ e. rw e (page-means (omega arith)))
+      (λ e. rw e (page-means (omega arith) t))
+      (λ e. rw e (page-means (omega arith) t))
+      (λ e. rw e (page-means (omega arith) t))
       (λ e. rw e (deescalate-means e))
       (λ e. rw e (callback-means e))
       (λ e. rw e (committed-means e))
@@ -316,7 +325,7 @@ unfolding stationStepB checkStepB stationStep
 step-means {i} {s} {m} h q x b n o =
     let a = down-accepted i x n in
     rw (station-at h, n, o, eqb-same i, fits-at h x a)
-    (byB (fits (downOf x) m) (λ e. rw e (down-means h q x b a)) (λ e. rw e (record { answer = refl; state = h; sound = q; sent = tt })))
+    (byB (fits (downOf x) m) (λ e. rw e (down-means h q x b a e)) (λ e. rw e (record { answer = refl; state = h; sound = q; sent = tt })))
 
 -- every other message is refused with its number and changes nothing
 pub step-refused : (x s : List ℕ) → checkStepB x s ≢ 0 → stationStepB x s ≡ refuses (checkStepB x s) s

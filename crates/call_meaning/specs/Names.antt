@@ -17,9 +17,15 @@ unfolding pageAt
 down-names i x n =
     let a : DownAccepted i x = down-accepted i x n in
     by-kind (kindOf x) (a .kind-from) (a .kind-to)
-    (λ e. let f = a .page (omega arith) in rw (down-16 x e) (omega (arith, f .page-is, f .object-is), f .transaction-not-0))
-    (λ e. let f = a .page (omega arith) in rw (down-17 x e) (omega (arith, f .page-is, f .object-is), f .transaction-not-0))
-    (λ e. let f = a .page (omega arith) in rw (down-18 x e) (omega (arith, f .page-is, f .object-is), f .transaction-not-0))
+    (λ e. let f = a .page (omega arith) in rw (down-16 x e) (omega (arith, f .page-is, f .object-is), f .transaction-not-0, tt))
+    (λ e.
+    let f = a .page (omega arith) in
+    let first = a .grant (omega arith) (omega arith) in
+    rw (down-17 x e) (omega (arith, f .page-is, f .object-is), f .transaction-not-0, omega (arith, first)))
+    (λ e.
+    let f = a .page (omega arith) in
+    let first = a .grant (omega arith) (omega arith) in
+    rw (down-18 x e) (omega (arith, f .page-is, f .object-is), f .transaction-not-0, omega (arith, first)))
     (λ e. let f = a .deescalate e in rw (down-19 x e) (f .page-is, f .transaction-not-0))
     (λ e. let f = a .callback e in rw (down-20 x e) (ne-eqb i (requesterOf x) (λ z. f .requester-other (sym z)), f .transaction-not-0))
     (λ e. rw (down-21 x e) (a .committed e .transaction-not-0))

@@ -1,5 +1,5 @@
 -- Number 1 of a station's state: a state that passes means a station that fits, a state that means one passes; and a fresh one.
-use Prim.Native.Nat.{ℕ, zero, suc, _+_, _≤_, _<_, _/_, _%_, _^_}
+use Prim.Native.Nat.{ℕ, zero, suc, _+_, _*_, _≤_, _<_, _/_, _%_, _^_}
 use mathlib.Core.Path.{_≡_, refl, sym, ap, subst, _∙_, fun-ext}
 use mathlib.Core.Bool.{Bool, true, false, not, cond, _&&_, _||_, or-false, false≢true}
 use mathlib.Core.List.{List}
@@ -15,21 +15,26 @@ use Rattle.sets.specs.Size.{size, size-same, size-empty, size-joined, size-new,
 use Rattle.limits.specs.Limit.{limit}
 use Rattle.cells.specs.Num.{AllBytes}
 use Rattle.cells.specs.Bits.{tb, tb-zero, tb-test, tb-tells}
+use Rattle.cells.specs.Loops.{any-same}
+use Rattle.cells.specs.Pages.{any-byte}
 use Rattle.cells.specs.Cells.{Cells, view, view-zero, view-col, view-row, cell-lt, upd3, Holds, begin, put8, get8, get32}
 use Rattle.line.specs.Messages.{locking}
-use Rattle.line.specs.Station.{Station, Wait, Idle, ForRead, waiting, forRead, forWrite, Kept, NotKept, KeptCall, setCached, setUnav, setRd, setWr, setSeen, setOl, setWl, freshStation}
+use Rattle.line.specs.Station.{Station, Wait, ForRead, ForWrite, waiting, forRead, forWrite, writesTo, ofPage, Kept, NotKept, KeptCall, setCached, setUnav, setRd, setWr, setSeen, setOl, setWl, freshStation}
 use Rattle.line.specs.Station as Model
+use Rattle.line.specs.Asks.{Asks}
 use Rattle.line.specs.Fit.{Works, Locked, KeptFits, Callbacks, LimitedStation, FitStation}
 use Rattle.line.specs.FitCalls.{fit-new}
-use Rattle.station_state.specs.Layout.{keptFrom, wholeFrom, readSetFrom, writtenSetFrom, locksFrom, stationFrom, kindFrom, openFrom, waitFrom, keptCell, wholeCell, locksCell, stationCell, kindCell, openCell, waitCell, table, stateLength, keptOf, number, whole, station, kind, opened, wait, address, namedFrom, readValue, writtenValue, hasBit, member, countIn, noneIn}
-use Rattle.station_state.specs.Valid.{fieldsOk, ownKept, closedOk, firstOk, fewIn, limitedOk, worksOk, locklessOk, holdsOk, valid, freshState}
-use Rattle.station_state.specs.Facts.{Lockless, Few, Ranged, valid-ranged}
+use Rattle.station_state.specs.Layout.{keptFrom, wholeFrom, readSetFrom, writtenSetFrom, locksFrom, stationFrom, kindFrom, openFrom, waitFrom, addressFrom, keptCell, wholeCell, locksCell, stationCell, kindCell, openCell, waitCell, addressCell, table, stateLength, keptOf, number, whole, station, kind, opened, wait, address, waitingSet, namedFrom, readValue, writtenValue, hasBit, member, countIn, writtenWith, noneIn}
+use Rattle.station_state.specs.Valid.{fieldsOk, ownKept, closedOk, firstOk, setOk, outOk, fewIn, fewWritten, limitedOk, worksOk, locklessOk, holdsOk, valid, freshState}
+use Rattle.station_state.specs.Facts.{Lockless, Few, FewWritten, Ranged, valid-ranged}
+use Rattle.station_state.specs.Changes.{waitingValues}
 use Rattle.station_state.specs.Sets.{none-member, members-none, none-numbers, numbers-none}
 use Rattle.station_callbacks.specs.Callbacks.{setsAt}
 use Rattle.station_answer.specs.Did.{Did}
-use Rattle.station_meaning.specs.Meant.{within, valueIf, keptIf, meantC, meant, Is, start}
+use Rattle.station_meaning.specs.Meant.{within, valueIf, given, keptIf, meantC, meant, Is, start}
 use Rattle.station_meaning.specs.Named.{named}
-use Rattle.station_meaning.specs.Tests.{has-if, station-at, kind-at, number-at, open-at, open-le, wait-le, address-lt, wait-is, waiting-at, forRead-at, forWrite-at, whole-at, lock-at, read-at, wrote-at, kept-at, read-high, wrote-high}
+use Rattle.station_meaning.specs.Tests.{has-if, bit-of, some-given, station-at, kind-at, number-at, open-at, open-le, wait-le, stands-at, address-lt, waitingSet-lt, wait-is, waiting-at, forRead-at, writesTo-at, forWrite-at, whole-at, lock-at, read-at, wrote-at, kept-at, read-high, wrote-high}
+use Rattle.station_meaning.specs.Counts.{writtenWith-at}
 use Rattle.call_meaning.specs.Relation.{Sound, Means}
 
 -- A STATE THAT PASSES
@@ -39,12 +44,14 @@ valid-is s b r =
     let h : Holds table 0 s s (view table 0 s) = begin table 0 s (omega (arith, r .size)) b in
     let flag : getD s openFrom 0 ≡ view table 0 s openCell 0 0 = get8 h openCell 0 0 openFrom refl refl (omega arith) (omega arith) in
     let out : getD s waitFrom 0 ≡ view table 0 s waitCell 0 0 = get8 h waitCell 0 0 waitFrom refl refl (omega arith) (omega arith) in
+    let place : getD s addressFrom 0 ≡ view table 0 s addressCell 0 0 = get8 h addressCell 0 0 addressFrom refl refl (omega arith) (omega arith) in
     record {
       len = r .size;
       bytes = b;
       own = sym (get8 h stationCell 0 0 stationFrom refl refl (omega arith) (omega arith));
       open-flag = rw (← flag) (r .open-fits);
       wait-flag = rw (← out) (r .wait-fits);
+      stands = rw (← out, ← place) (λ w. r .asks (λ z. omega (arith, r .closed z .nothing-out, w)) w .0);
       is = refl;
     }
 
@@ -79,13 +86,26 @@ few-with s at true l f =
     (λ e. rw e (lt-ltb (size 256 (member s at)) limit (omega (arith, size-new 256 (member s at) (address s) l e, f))))
 few-with s at false l f = le-leb (size 256 (member s at)) limit (omega (arith, size-same 256 (withOut s at false) (member s at) (λ a k. or-false (member s at a)), f))
 
+-- what is written, with all that a write that is out will write
+written-few : {s : List ℕ} → FewWritten s → cond (eqb (wait s) 2) (writtenWith s (address s / 8) (waitingSet s)) (countIn s writtenSetFrom) ≤ limit
+written-few {s} f = byB (eqb (wait s) 2) (λ e. rw e (f .room (eqb-true (wait s) 2 e))) (λ e. rw e (f .most))
+
+few-written : (s : List ℕ) → cond (eqb (wait s) 2) (writtenWith s (address s / 8) (waitingSet s)) (countIn s writtenSetFrom) ≤ limit → fewWritten s ≡ true
+unfolding fewWritten
+few-written s l =
+    byB (eqb (wait s) 2) (λ e. rw e (le-leb (writtenWith s (address s / 8) (waitingSet s)) limit (rw e at l))) (λ e. rw e (le-leb (countIn s writtenSetFrom) limit (rw e at l)))
+
 module _ {i : ℕ} {s : List ℕ} {m : Station} (h : Is i s m) where
   -- what the model counts is what the bytes have
   reads-with : size 256 (λ a. has (m .rd a) || forRead (m .wait) a) ≡ size 256 (withOut s readSetFrom (eqb (wait s) 1))
   reads-with = size-same 256 _ _ (λ a l. rw (read-at h a l, has-if (member s readSetFrom a) (readValue s a), ← forRead-at h a))
 
-  writes-with : size 256 (λ a. has (m .wr a) || forWrite (m .wait) a) ≡ size 256 (withOut s writtenSetFrom (eqb (wait s) 2))
-  writes-with = size-same 256 _ _ (λ a l. rw (wrote-at h a l, has-if (member s writtenSetFrom a) (writtenValue s a), ← forWrite-at h a))
+  writes-with : size 256 (λ a. has (m .wr a) || forWrite (m .wait) a) ≡ cond (eqb (wait s) 2) (writtenWith s (address s / 8) (waitingSet s)) (countIn s writtenSetFrom)
+  unfolding countIn
+  writes-with =
+      byB (eqb (wait s) 2)
+      (λ e. rw e (size-same 256 _ _ (λ a l. rw (← forWrite-at h a, e, bit-of (waitingSet s) (a % 8))) ∙ sym (writtenWith-at h (address s / 8) (waitingSet s) (omega (arith, address-lt h)) (waitingSet-lt h))))
+      (λ e. rw e (size-same 256 _ _ (λ a l. rw (wrote-at h a l, has-if (member s writtenSetFrom a) (writtenValue s a), ← forWrite-at h a, e, or-false))))
 
   lock-high : (a : ℕ) → 256 ≤ a → m .ol a ≡ false
   lock-high a l = sym (ap (λ (n : Station). n .ol a) (h .is)) ∙ rw (view-col table 0 s locksCell 0 (a / 8) (omega arith), tb-zero (a % 8))
@@ -126,6 +146,28 @@ module _ {i : ℕ} {s : List ℕ} {m : Station} (h : Is i s m) where
         let small : a < 256 = omega (arith, here, address-lt h) in
         (read-at h a small ∙ value-none (member s readSetFrom a) (readValue s a) (rw here (first .0)), wrote-at h a small ∙ value-none (member s writtenSetFrom a) (writtenValue s a) (rw here (first .1)))
 
+    -- a write that is out
+    write-out : (p : ℕ) (f : ℕ → Val) → m .wait ≡ ForWrite p f → Asks p f
+    write-out p f e =
+        let both : (eqb (wait s) 2 && eqb p (address s / 8)) ≡ true = writesTo-at h p ∙ ap (λ (w : Wait). writesTo w p) e ∙ eqb-same p in
+        let out : wait s ≡ 2 = eqb-true (wait s) 2 (and-l (eqb (wait s) 2) _ both) in
+        let page : p ≡ address s / 8 = eqb-true p (address s / 8) (and-r (eqb (wait s) 2) _ both) in
+        let set = r .asks (λ z. omega (arith, r .closed z .nothing-out, out)) out in
+        let writes : (a : ℕ) → has (f a) ≡ (eqb (a / 8) p && tb (waitingSet s) (a % 8)) =
+        λ a. sym (ap (λ (w : Wait). forWrite w a) e) ∙ sym (forWrite-at h a) ∙ rw (eq-eqb (wait s) 2 out, ← page, bit-of (waitingSet s) (a % 8)) in
+        record {
+          in-range = omega (arith, page, address-lt h);
+          some-written =
+              any-same (λ o. has (f (p * 8 + o))) (tb (waitingSet s)) 8 (λ o l. writes (p * 8 + o) ∙ on-page p o l) ∙ sym (any-byte (waitingSet s) (waitingSet-lt h)) ∙ ap not (ne-eqb (waitingSet s) 0 (set .1));
+          page-only = λ a t. eqb-true (a / 8) p (and-l (eqb (a / 8) p) _ (sym (writes a) ∙ t));
+        }
+      where
+        on-page : (p o : ℕ) → o < 8 → (eqb ((p * 8 + o) / 8) p && tb (waitingSet s) ((p * 8 + o) % 8)) ≡ tb (waitingSet s) o
+        on-page p o l =
+            let d : (p * 8 + o) / 8 ≡ p = omega arith in
+            let r : (p * 8 + o) % 8 ≡ o = omega arith in
+            rw (d, r, eqb-same p)
+
     works-of : Works (m .opened) (m .num) (m .rd) (m .wr) (m .wait)
     works-of =
         record {
@@ -136,6 +178,7 @@ module _ {i : ℕ} {s : List ℕ} {m : Station} (h : Is i s m) where
           unwritten = λ e.
               by-address (λ a l. wrote-at h a l ∙ value-none _ _ (none-member s (h .bytes) writtenSetFrom (r .closed (closed-at e) .nothing-written) a l)) (wrote-high h);
           first = read-out;
+          asks = write-out;
         }
 
     -- within the limit: an open transaction by its bytes, and of none there is nothing
@@ -143,7 +186,7 @@ module _ {i : ℕ} {s : List ℕ} {m : Station} (h : Is i s m) where
     few-open e =
         record {
           reads-few = rw reads-with (with-few s readSetFrom (eqb (wait s) 1) (r .reads-few (open-not e)));
-          writes-few = rw writes-with (with-few s writtenSetFrom (eqb (wait s) 2) (r .writes-few (open-not e)));
+          writes-few = rw writes-with (written-few (r .writes-few (open-not e)));
         }
 
     few-closed : m .opened ≡ false → LimitedStation (m .rd) (m .wr) (m .wait)
@@ -234,31 +277,46 @@ module _ {i : ℕ} {s : List ℕ} {m : Station} (h : Is i s m) (q : Sound i m) (
   limited-ok : limitedOk s ≡ true
   unfolding limitedOk
   limited-ok =
-      let l = address-lt h in
       rw (
-        few-with s readSetFrom (eqb (wait s) 1) l (rw (← reads-with h) (f .few .reads-few)),
-        few-with s writtenSetFrom (eqb (wait s) 2) l (rw (← writes-with h) (f .few .writes-few)),
+        few-with s readSetFrom (eqb (wait s) 1) (address-lt h) (rw (← reads-with h) (f .few .reads-few)),
+        few-written s (rw (← writes-with h) (f .few .writes-few)),
       )
 
+  first-ok : wait s ≡ 1 → firstOk s ≡ true
+  unfolding firstOk
+  first-ok w =
+      let out : m .wait ≡ ForRead (address s) = wait-is h ∙ rw w refl in
+      let u = f .works .first (address s) out in
+      let l = address-lt h in
+      let read : member s readSetFrom (address s) ≡ false = member-of _ _ (read-at h (address s) l) (u .0) in
+      let written : member s writtenSetFrom (address s) ≡ false = member-of _ _ (wrote-at h (address s) l) (u .1) in
+      rw (read, written)
+
+  -- what is asked for is in the set
+  set-ok : wait s ≡ 2 → setOk s ≡ true
+  unfolding setOk
+  set-ok w =
+      let p : ℕ = address s / 8 in
+      let v : ℕ → ℕ = λ o. getD (waitingValues s) o 0 in
+      let asked = f .works .asks p (ofPage p (given (waitingSet s) v)) (wait-is h ∙ rw w refl) in
+      let some-asked : not (eqb (waitingSet s) 0) ≡ true = sym (some-given p (waitingSet s) v (waitingSet-lt h)) ∙ asked .some-written in
+      rw (stands-at h w, some-asked)
+
+  out-ok : outOk s ≡ true
+  unfolding outOk
+  out-ok =
+      byEq (wait s) 1 (λ w. rw w (first-ok (eqb-yes (wait s) 1 w)))
+      (λ w. rw w (byEq (wait s) 2 (λ q. rw q (set-ok (eqb-yes (wait s) 2 q))) (λ q. rw q)))
+
   works-ok : worksOk s ≡ true
-  unfolding worksOk closedOk firstOk
+  unfolding worksOk closedOk
   works-ok =
       byEq (opened s) 0
       (λ e.
       let shut : m .opened ≡ false = sym (open-at h) ∙ rw e refl in
       let idle : eqb (wait s) 0 ≡ true = not-false (eqb (wait s) 0) (waiting-at h ∙ ap waiting (f .works .idle shut)) in
       rw (e, idle, unread-none shut, unwritten-none shut))
-      (λ e.
-      byEq (wait s) 1
-      (λ w.
-      let k = eqb-yes (wait s) 1 w in
-      let out : m .wait ≡ ForRead (address s) = wait-is h ∙ rw k refl in
-      let u = f .works .first (address s) out in
-      let l = address-lt h in
-      let read : member s readSetFrom (address s) ≡ false = member-of _ _ (read-at h (address s) l) (u .0) in
-      let written : member s writtenSetFrom (address s) ≡ false = member-of _ _ (wrote-at h (address s) l) (u .1) in
-      rw (e, w, read, written, limited-ok))
-      (λ w. rw (e, w, limited-ok)))
+      (λ e. rw (e, out-ok, limited-ok))
 
   module _ (e : (locking (m .kind) && m .opened) ≡ false) where
     neither : {b : Bool} → (b ≡ true → m .opened ≡ true) → (b ≡ true → locking (m .kind) ≡ true) → b ≡ false
@@ -360,6 +418,7 @@ fresh-is n i k e l q =
       own = cell stationCell;
       open-flag = rw (cell openCell) (omega arith);
       wait-flag = rw (cell waitCell) (omega arith);
+      stands = rw (cell waitCell, cell addressCell) (λ w. absurd (omega arith));
       is = ap meantC (h .is) ∙ fresh-cells i k;
     }
 

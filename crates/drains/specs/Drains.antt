@@ -94,7 +94,7 @@ drains (c ∷ cs) w h = omega (arith, drains cs ((act c w) .world) (h .2), deliv
 
 weigh-28 : (m : Up) → weighUp m ≤ 28
 weigh-28 (ReadRequest a t) = omega arith
-weigh-28 (WriteRequest a t) = omega arith
+weigh-28 (WriteRequest p t set) = omega arith
 weigh-28 (Commit w) = omega arith
 weigh-28 (Abort t) = omega arith
 weigh-28 (Purge p) = omega arith

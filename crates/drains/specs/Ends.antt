@@ -14,7 +14,7 @@ use Rattle.line.specs.Messages.{locking, Lock, NoLock, ObjectLock, WholeLock, U
 use Rattle.line.specs.Station.{Station, Did, does, didStation, setKept, setWait, Wait, Idle, ForRead, ForWrite, ForCommit, waiting, forCommit, NotKept, KeptCall, recordRead, writeLocal, arrive, takeLock, loosen, live, dropPages, mark, doCallback, closed, close, undo, readLocal, readAsk, writeAsk, ownCommit, ownAbort, onDeescalate, onCommitted, onAborted, stationStep}
 use Rattle.line.specs.Server.{unexpected}
 use Rattle.line.specs.Truth.{count}
-use Rattle.line.specs.Line.{World, worldDown, Op, Begin, Read, Write, Commits, Aborts, Purges, Call, Owner, ServerTakes, StationTakes, Broken, perform, tell, carryUp, carryDown, isRefused, ownerActs, stationTakes, serverTakes, act, run}
+use Rattle.line.specs.Line.{World, worldDown, Op, Begin, Read, WriteSet, Commits, Aborts, Purges, Call, Owner, ServerTakes, StationTakes, Broken, perform, tell, carryUp, carryDown, isRefused, ownerActs, stationTakes, serverTakes, act, run}
 use Rattle.truth.specs.Frame.{Owns, performs, closes, Takes, takes}
 use Rattle.truth.specs.ValidatedMoves.{perform-kind, step-kind}
 
@@ -22,7 +22,7 @@ use Rattle.truth.specs.ValidatedMoves.{perform-kind, step-kind}
 abbrev pub isEnding : Op → Bool
 isEnding Begin = false
 isEnding (Read a) = false
-isEnding (Write a v) = false
+isEnding (WriteSet p f) = false
 isEnding Commits = true
 isEnding Aborts = true
 isEnding (Purges p) = false
@@ -91,7 +91,7 @@ step-ended m s =
       refused = λ m f h. h;
       old-page = λ a t v u x e h. h;
       page-read = λ a t v u x e w h. not-ended s t e (ap forCommit w) h;
-      page-write = λ l a t v u x y e w o h. not-ended s t e (ap forCommit w) h;
+      page-write = λ l a t v u x p y e w o c h. not-ended s t e (ap forCommit w) h;
       deescalates = λ p t o h. same-ended (loosen-opened (live s t && s .wl p) p _ s) (loosen-wait (live s t && s .wl p) p _ s) h;
       keeps = λ r t set o f h. h;
       dones = λ r t set o f h. same-ended (done-opened r t set _) (done-wait r t set _) h;
@@ -126,7 +126,7 @@ step-still m s =
       refused = λ m f h. (refl, refl);
       old-page = λ a t v u x e h. (refl, refl);
       page-read = λ a t v u x e w h. no-wait s (ForRead a) refl w h;
-      page-write = λ l a t v u x y e w o h. no-wait s (ForWrite a y) refl w h;
+      page-write = λ l a t v u x p y e w o c h. no-wait s (ForWrite p y) refl w h;
       deescalates = λ p t o h. (loosen-opened (live s t && s .wl p) p _ s, loosen-wait (live s t && s .wl p) p _ s);
       keeps = λ r t set o f h. (refl, refl);
       dones = λ r t set o f h. (done-opened r t set _, done-wait r t set _);
@@ -157,7 +157,7 @@ step-closed m s =
       refused = λ m f h. h;
       old-page = λ a t v u x e h. h;
       page-read = λ a t v u x e w h. absurd (false≢true (sym h ∙ live-open s t e));
-      page-write = λ l a t v u x y e w o h. absurd (false≢true (sym h ∙ live-open s t e));
+      page-write = λ l a t v u x p y e w o c h. absurd (false≢true (sym h ∙ live-open s t e));
       deescalates = λ p t o h. loosen-opened (live s t && s .wl p) p _ s ∙ h;
       keeps = λ r t set o f h. h;
       dones = λ r t set o f h. done-opened r t set _ ∙ h;
@@ -181,8 +181,8 @@ module _ (s : Station) (P : Did → Type 0) (same : (n : ℕ) → P (does (Refus
         reads-again = λ a v b c f g e. absurd (false≢true e);
         reads-here = λ a b c f g k e. absurd (false≢true e);
         reads-ask = λ a b c f g k e. absurd (false≢true e);
-        writes-here = λ a v b c f e. absurd (false≢true e);
-        writes-ask = λ a v b c f e. absurd (false≢true e);
+        writes-here = λ p v b c f e. absurd (false≢true e);
+        writes-ask = λ p v b c f e. absurd (false≢true e);
         commits = λ c e. asked _;
         aborts = λ c e. over _;
         purges = λ p b c f g e. absurd (false≢true e);
@@ -199,7 +199,7 @@ pub work-ends : (op : Op) (s : Station) → isEnding op ≡ true → AtWork s �
 unfolding perform ownCommit ownAbort
 work-ends Begin s e h = absurd (false≢true e)
 work-ends (Read a) s e h = absurd (false≢true e)
-work-ends (Write a v) s e h = absurd (false≢true e)
+work-ends (WriteSet p f) s e h = absurd (false≢true e)
 work-ends Commits s e h = rw (h .idle, h .opened) (inr refl)
 work-ends Aborts s e h = rw (h .idle, h .opened) (inl (close-closed _))
 work-ends (Purges p) s e h = absurd (false≢true e)

@@ -7,8 +7,8 @@ use Prim.Native.Nat.{ℕ, _+_, _≤_, _<_}
 use native.Mathlib.Omega.{arith}
 use lib.ListN.{length}
 use Rattle.sets.specs.Laws.{byB, any-some, and-l, and-r}
-use Rattle.line.specs.Messages.{locking, Up, Down}
-use Rattle.line.specs.Station.{Station, Wait, Idle, ForRead, ForWrite, ForCommit, waiting, forRead, forWrite, forCommit}
+use Rattle.line.specs.Messages.{locking, Up, Down, pageOf}
+use Rattle.line.specs.Station.{Station, Wait, Idle, ForRead, ForWrite, ForCommit, waiting, forRead, writesTo, forCommit}
 use Rattle.line.specs.Server.{Want, NoWant, WantRead, WantWrite, WantCommit, isWant, waits}
 use Rattle.line.specs.Truth.{count}
 use Rattle.line.specs.Line.{World, Call, ServerTakes, StationTakes, isRefused, act, run, fresh}
@@ -32,13 +32,13 @@ run-more (c ∷ cs) ds w = run-more cs ds _
 not-listed : (kind num : ℕ) (opened : Bool) (w : Wait) (latest : ℕ) (v : Want) (a : ℕ) → locking kind ≡ true → w ≡ ForCommit → isWant v ≡ true → FitWaiter kind num opened w latest v a → ⊥
 not-listed kind num opened w latest NoWant a l e i f = false≢true i
 not-listed kind num opened w latest WantRead a l e i f = false≢true (sym (ap (λ z. forRead z a) e) ∙ and-r (locking kind) _ (f .waits refl))
-not-listed kind num opened w latest WantWrite a l e i f = false≢true (sym (ap (λ z. forWrite z a) e) ∙ and-r (locking kind) _ (f .waits refl))
+not-listed kind num opened w latest WantWrite a l e i f = false≢true (sym (ap (λ z. writesTo z (pageOf a)) e) ∙ and-r (locking kind) _ (f .waits refl))
 not-listed kind num opened w latest WantCommit a l e i f = false≢true (rw l at (f .waits refl))
 
 is-commit : (w : Wait) → forCommit w ≡ true → (w ≡ ForCommit) × (waiting w ≡ true)
 is-commit Idle e = absurd (false≢true e)
 is-commit (ForRead a) e = absurd (false≢true e)
-is-commit (ForWrite a v) e = absurd (false≢true e)
+is-commit (ForWrite p f) e = absurd (false≢true e)
 is-commit ForCommit e = (refl, refl)
 
 -- the only token, where nothing is under way, is an entry of the waiting list

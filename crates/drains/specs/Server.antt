@@ -20,7 +20,7 @@ use Rattle.drains.specs.Weights.{weighUp, weighUps, weighKept, weighLine
 -- what may come of the message itself, in messages down
 abbrev pub share : Up → ℕ
 share (ReadRequest a t) = 9
-share (WriteRequest a t) = 9
+share (WriteRequest p t set) = 9
 share (Commit w) = 9
 share (Abort t) = 0
 share (Purge p) = 0
@@ -30,7 +30,7 @@ share (WrittenSet p t set) = 0
 
 share-weighs : (m : Up) → 3 * share m + 1 ≤ weighUp m
 share-weighs (ReadRequest a t) = omega arith
-share-weighs (WriteRequest a t) = omega arith
+share-weighs (WriteRequest p t set) = omega arith
 share-weighs (Commit w) = omega arith
 share-weighs (Abort t) = omega arith
 share-weighs (Purge p) = omega arith
@@ -104,9 +104,9 @@ accept-share i (ReadRequest a t) s b =
     byB (locking (s .kind i))
     (λ e. rw e (omega (arith, join-room i (readWaiter (x .server) a) x b)))
     (λ e. rw e (omega (arith, now-total i a x)))
-accept-share i (WriteRequest a t) s b =
+accept-share i (WriteRequest p t set) s b =
     let x : Serving = notice i t (start s) in
-    omega (arith, ap length (notice-sent i t (start s)), notice-room i t (start s), join-room i (writeWaiter (x .server) a) x b)
+    omega (arith, ap length (notice-sent i t (start s)), notice-room i t (start s), join-room i (writeWaiter (x .server) p set) x b)
 accept-share i (Commit w) s b =
     let x : Serving = notice i (w .transaction) (start s) in
     let n = ap length (notice-sent i (w .transaction) (start s)) in

@@ -50,7 +50,7 @@ wait-weighs : (v : Wait) (s : Station) → weighDid (answerWait v s) ≡ weighKe
 unfolding answerWait recordRead writeLocal
 wait-weighs Idle s = omega arith
 wait-weighs (ForRead a) s = omega arith
-wait-weighs (ForWrite a v) s = omega arith
+wait-weighs (ForWrite p f) s = omega arith
 wait-weighs ForCommit s = omega arith
 
 arrive-kept : (l : Lock) (a p : ℕ) (v : ℕ → ℕ) (u : ℕ → Bool) (x : ℕ → ℕ) (s : Station) → (arrive p v u x (takeLock l a s)) .kept ≡ s .kept

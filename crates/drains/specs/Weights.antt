@@ -20,7 +20,7 @@ use Rattle.progress.specs.Clauses.{isKept}
 
 abbrev pub weighUp : Up → ℕ
 weighUp (ReadRequest a t) = 28
-weighUp (WriteRequest a t) = 28
+weighUp (WriteRequest p t set) = 28
 weighUp (Commit w) = 28
 weighUp (Abort t) = 1
 weighUp (Purge p) = 1

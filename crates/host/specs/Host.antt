@@ -1,13 +1,14 @@
 -- What a station's call says, as numbers for C: "Where an answer is an enum, the promises use a definition that gives this paper's number
 -- and values for each of its cases."
 use Prim.Native.Nat.{ℕ}
-use mathlib.Core.Path.{_≡_, refl, ap, _∙_}
+use mathlib.Core.Path.{_≡_, ap}
 use mathlib.Core.Logic.{_≢_}
 use mathlib.Core.List.{List, [], _∷_}
-use mathlib.Core.Bool.{cond, true, false}
-use lib.ListN.{length}
+use mathlib.Core.Bool.{cond, false}
+use lib.ListN.{length, getD}
 use lib.Dec.{ltb}
 use lib.Seq.{sets}
+use Rattle.station_state.specs.Changes.{valuesTo}
 use Rattle.station_answer.specs.declared.Answer.{Answer}
 use Rattle.station_answer.specs.declared.Answer.the-variants.{Refused, Begun, Value, Waits, Written, Committed, Aborted, Purged, Nothing}
 use Rattle.station_answer.specs.declared.Said.{Said}
@@ -73,3 +74,14 @@ host-made s o c t {s′} {o′} {c′} {t′} {y} {n} {x} h e f =
   where
     record-of : Told → Hosted
     record-of z = record { state = s′; messages = o′; commit = c′; told = z }
+
+-- a write of a set: the eight values that are lent, number 1 where there are fewer
+unfoldable pub eightOf : List ℕ → List ℕ
+eightOf f = valuesTo (λ o. getD f o 0) 8
+
+unfoldable pub hostSetOf : List ℕ → List ℕ → List ℕ → List ℕ → List ℕ → Outcome → Hosted
+hostSetOf f s o c t x = cond (ltb (length f) 8) (hosted s o c t 1) (hostOf s o c t x)
+
+pub set-made : (f s o c t : List ℕ) (x : Outcome) {h : Hosted} → ltb (length f) 8 ≡ false → h ≡ hostOf s o c t x → h ≡ hostSetOf f s o c t x
+unfolding hostSetOf
+set-made f s o c t x q e = rw q e

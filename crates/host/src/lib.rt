@@ -5,11 +5,12 @@ ghost use lib.ListN.{length};
 ghost use lib.Seq.{sets};
 ghost use Rattle.message.specs.Number.{downNumber, upNumber};
 ghost use Rattle.station_state.specs.Valid.{freshened, freshOf};
-ghost use Rattle.station_owner.specs.Owner.{called, commitCalled, ownBeginB, ownReadB, ownWriteB, ownAbortB, ownPurgeB};
+ghost use Rattle.station_owner.specs.Owner.{called, commitCalled, ownBeginB, ownReadB, ownWriteSetB, ownWriteB, ownAbortB, ownPurgeB};
 ghost use Rattle.station.specs.Station.{stationStepB};
-ghost use Rattle.host.specs.Host.{told as Host·told, toldLength, accepted, NoValue, toldOf, toldSaid, hosted, hostOf};
+ghost use Rattle.host.specs.Host.{told as Host·told, toldLength, accepted, NoValue, toldOf, toldSaid, hosted, hostOf, eightOf, hostSetOf};
 use station_answer::Answer;
 use station_answer::Said;
+use station_state::OBJECTS;
 
 // Where a call tells each of its numbers, and how many they are.
 const ANSWER: usize = 0;
@@ -119,6 +120,43 @@ pub extern "C" fn wax_station_write(
         return 1;
     }
     let x = station_owner::write(address, value, state, messages, commit);
+    tell(x, told)
+}
+
+// The first eight values.
+fn eight(values: &[u64]) -> [u64; 8]
+    requires { ⌜ 8 ≤ length (now values) ⌝ }
+    ensures { λ r. ⌜ r ≡ eightOf (now (values .entry)) ⌝ }
+{
+    let mut v = [0u64; 8];
+    let mut o = 0;
+    while o < OBJECTS {
+        v[o] = values[o];
+        o += 1;
+    }
+    v
+}
+
+#[no_mangle]
+pub extern "C" fn wax_station_write_set(
+    page: u32,
+    set: u32,
+    values: &[u64],
+    state: &mut [u8],
+    messages: &mut [u8],
+    commit: &mut [u8],
+    told: &mut [u64],
+) -> u32
+    ensures { λ r. ⌜ hosted (now (state .exit)) (now (messages .exit)) (now (commit .exit)) (now (told .exit)) r ≡ hostSetOf (now (values .entry)) (now (state .entry)) (now (messages .entry)) (now (commit .entry)) (now (told .entry)) (called (now (state .entry)) (now (messages .entry)) (now (commit .entry)) (ownWriteSetB page set (eightOf (now (values .entry))) (now (state .entry)))) ⌝ }
+{
+    if values.len() < OBJECTS {
+        return 1;
+    }
+    if told.len() < TOLD {
+        return 1;
+    }
+    let v = eight(values);
+    let x = station_owner::write_set(page, set, &v, state, messages, commit);
     tell(x, told)
 }
 

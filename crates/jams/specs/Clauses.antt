@@ -9,8 +9,8 @@ use lib.Dec.{eqb}
 use Rattle.sets.specs.Base.{Val, has, any}
 use Rattle.line.specs.All.{All}
 use Rattle.line.specs.Messages.{pageOf, address, locking, Up, ReadRequest, WriteRequest, Commit, Abort, Purge, Busy, Done, WrittenSet, Lock, NoLock, ObjectLock, WholeLock, Down, Page, Deescalate, Callback, Committed, Aborted, Invalidate}
-use Rattle.line.specs.Station.{Station, NotKept}
-use Rattle.line.specs.Server.{Server, Want, WantWrite, lockOn}
+use Rattle.line.specs.Station.{Station, NotKept, Wait, forWrite, writesTo, someOn}
+use Rattle.line.specs.Server.{Server, Want, WantWrite, lockOn, Waiter}
 use Rattle.line.specs.Line.{World}
 use Rattle.line.specs.Truth.{count}
 use Rattle.truth.specs.Clauses.{dropped, askOf, setOf, askTokens}
@@ -21,7 +21,7 @@ use Rattle.truth.specs.Inv.{Inv}
 -- "2, 4, 6, 7, 8 from a validating station" are refused
 abbrev pub KindUp : ℕ → Up → Type 0
 KindUp kind (ReadRequest a t) = Unit {0}
-KindUp kind (WriteRequest a t) = locking kind ≡ true
+KindUp kind (WriteRequest p t set) = locking kind ≡ true
 KindUp kind (Commit w) = Unit {0}
 KindUp kind (Abort t) = locking kind ≡ true
 KindUp kind (Purge p) = Unit {0}
@@ -43,7 +43,7 @@ KindDown kind (Invalidate d) = locking kind ≡ false
 -- kinds 1 to 4 name the station's own transaction
 abbrev pub numbered : Up → Bool
 numbered (ReadRequest a t) = true
-numbered (WriteRequest a t) = true
+numbered (WriteRequest p t set) = true
 numbered (Commit w) = true
 numbered (Abort t) = true
 numbered (Purge p) = false
@@ -53,7 +53,7 @@ numbered (WrittenSet p t set) = false
 
 abbrev pub named : Up → ℕ
 named (ReadRequest a t) = t
-named (WriteRequest a t) = t
+named (WriteRequest p t set) = t
 named (Commit w) = w .transaction
 named (Abort t) = t
 named (Purge p) = 0
@@ -76,7 +76,7 @@ Next latest fin m = numbered m ≡ true → (latest < named m) ⊎ ((named m ≡
 -- a 4 of transaction t
 abbrev pub abortOf : ℕ → Up → Bool
 abortOf t (ReadRequest a u) = false
-abortOf t (WriteRequest a u) = false
+abortOf t (WriteRequest p u set) = false
 abortOf t (Commit w) = false
 abortOf t (Abort u) = eqb u t
 abortOf t (Purge p) = false
@@ -87,7 +87,7 @@ abortOf t (WrittenSet p u set) = false
 -- a 4 names a transaction that is over
 abbrev pub AbortOver : ℕ → Bool → Up → Type 0
 AbortOver num opened (ReadRequest a t) = Unit {0}
-AbortOver num opened (WriteRequest a t) = Unit {0}
+AbortOver num opened (WriteRequest p t set) = Unit {0}
 AbortOver num opened (Commit w) = Unit {0}
 AbortOver num opened (Abort t) = (t < num) ⊎ ((t ≡ num) × (opened ≡ false))
 AbortOver num opened (Purge p) = Unit {0}
@@ -133,16 +133,16 @@ KeptAt t i = locking (t i .kind) ≡ false → (r : ℕ) → t i .kept r ≡ Not
 
 -- 2. LOCKS, of one station i; OL and WL are the server's, ol and wl the station's own
 
--- a 17 for the address, an 18 for the page
+-- a 17 for the page, an 18 for the page
 abbrev pub grantsObject : ℕ → Down → Bool
-grantsObject b (Page NoLock a t v u x) = false
-grantsObject b (Page ObjectLock a t v u x) = eqb b a
-grantsObject b (Page WholeLock a t v u x) = false
-grantsObject b (Deescalate p t) = false
-grantsObject b (Callback r t set) = false
-grantsObject b (Committed t n) = false
-grantsObject b (Aborted t c) = false
-grantsObject b (Invalidate d) = false
+grantsObject p (Page NoLock a t v u x) = false
+grantsObject p (Page ObjectLock a t v u x) = eqb p (pageOf a)
+grantsObject p (Page WholeLock a t v u x) = false
+grantsObject p (Deescalate q t) = false
+grantsObject p (Callback r t set) = false
+grantsObject p (Committed t n) = false
+grantsObject p (Aborted t c) = false
+grantsObject p (Invalidate d) = false
 
 abbrev pub grantsWhole : ℕ → Down → Bool
 grantsWhole p (Page NoLock a t v u x) = false
@@ -157,7 +157,7 @@ grantsWhole p (Invalidate d) = false
 -- a 2 for the page
 abbrev pub asksLock : ℕ → Up → Bool
 asksLock p (ReadRequest a t) = false
-asksLock p (WriteRequest a t) = eqb p (pageOf a)
+asksLock p (WriteRequest q t set) = eqb p q
 asksLock p (Commit w) = false
 asksLock p (Abort t) = false
 asksLock p (Purge q) = false
@@ -174,20 +174,20 @@ abbrev pub NoneUntil : (Up → Bool) → (Up → Bool) → List Up → Type 0
 NoneUntil ends bad [] = Unit {0}
 NoneUntil ends bad (m ∷ l) = (bad m ≡ false) × ((ends m ≡ true) ⊎ NoneUntil ends bad l)
 
--- a lock brought by a page message stands at the server
-abbrev pub Granted : ℕ → (ℕ → ℕ) → (ℕ → ℕ) → Down → Type 0
-Granted i OL WL (Page NoLock a t v u x) = Unit {0}
-Granted i OL WL (Page ObjectLock a t v u x) = OL a ≡ suc i
-Granted i OL WL (Page WholeLock a t v u x) = WL (pageOf a) ≡ suc i
-Granted i OL WL (Deescalate p t) = Unit {0}
-Granted i OL WL (Callback r t set) = Unit {0}
-Granted i OL WL (Committed t n) = Unit {0}
-Granted i OL WL (Aborted t c) = Unit {0}
-Granted i OL WL (Invalidate d) = Unit {0}
+-- a lock brought by a page message stands at the server; `due` is what the owner waits to write, all of it locked then
+abbrev pub Granted : ℕ → (ℕ → ℕ) → (ℕ → ℕ) → (ℕ → Bool) → (ℕ → Bool) → Down → Type 0
+Granted i OL WL due ol (Page NoLock a t v u x) = Unit {0}
+Granted i OL WL due ol (Page ObjectLock a t v u x) = (b : ℕ) → due b ≡ true → (OL b ≡ suc i) ⊎ (ol b ≡ true)
+Granted i OL WL due ol (Page WholeLock a t v u x) = WL (pageOf a) ≡ suc i
+Granted i OL WL due ol (Deescalate p t) = Unit {0}
+Granted i OL WL due ol (Callback r t set) = Unit {0}
+Granted i OL WL due ol (Committed t n) = Unit {0}
+Granted i OL WL due ol (Aborted t c) = Unit {0}
+Granted i OL WL due ol (Invalidate d) = Unit {0}
 
-pub record Locks (i kind num : ℕ) (opened : Bool) (wr : ℕ → Val) (ol wl : ℕ → Bool) (OL WL : ℕ → ℕ) (latest : ℕ) (U : List Up) (D : List Down) : Type 0 where
-  -- an object lock: its 4 is under way, or the object is written, or its 17 is under way
-  pub K1a : (a : ℕ) → OL a ≡ suc i → (1 ≤ count (abortOf latest) U) ⊎ ((opened ≡ true) × (has (wr a) ≡ true)) ⊎ (1 ≤ count (grantsObject a) D)
+pub record Locks (i kind num : ℕ) (opened : Bool) (wr : ℕ → Val) (ol wl due : ℕ → Bool) (OL WL : ℕ → ℕ) (latest : ℕ) (U : List Up) (D : List Down) : Type 0 where
+  -- an object lock: its 4 is under way, or the object is written, or it is to be written and a 17 for its page is under way
+  pub K1a : (a : ℕ) → OL a ≡ suc i → (1 ≤ count (abortOf latest) U) ⊎ ((opened ≡ true) × (has (wr a) ≡ true)) ⊎ ((1 ≤ count (grantsObject (pageOf a)) D) × (due a ≡ true))
   -- a whole lock: its 4 is under way, or the page is written and the station has it whole or its 8 is under way, or its 18 is under way
   pub K1b : (p : ℕ) → WL p ≡ suc i → (1 ≤ count (abortOf latest) U) ⊎ ((opened ≡ true) × (meets wr p ≡ true) × ((wl p ≡ true) ⊎ (1 ≤ count (setOf p latest) U))) ⊎ (1 ≤ count (grantsWhole p) D)
   -- what is written and not ended is locked at the server
@@ -196,7 +196,7 @@ pub record Locks (i kind num : ℕ) (opened : Bool) (wr : ℕ → Val) (ol wl : 
   -- own locks are on what is written
   pub K3a : (a : ℕ) → ol a ≡ true → has (wr a) ≡ true
   pub K3b : (p : ℕ) → wl p ≡ true → meets wr p ≡ true
-  pub K7 : All (Granted i OL WL) D
+  pub K7 : All (Granted i OL WL due ol) D
   -- who has written under a lock is known to the server
   pub K9 : locking kind ≡ true → opened ≡ true → (a : ℕ) → has (wr a) ≡ true → latest ≡ num
   -- a drop of a page with a lock of its own comes behind the 4
@@ -204,7 +204,7 @@ pub record Locks (i kind num : ℕ) (opened : Bool) (wr : ℕ → Val) (ol wl : 
 
 abbrev pub LocksAt : Server → (ℕ → Station) → (ℕ → List Up) → (ℕ → List Down) → ℕ → Type 0
 LocksAt s t u d i =
-    Locks i (t i .kind) (t i .num) (t i .opened) (t i .wr) (t i .ol) (t i .wl) (s .ol) (s .wl) (s .latest i) (u i) (d i)
+    Locks i (t i .kind) (t i .num) (t i .opened) (t i .wr) (t i .ol) (t i .wl) (forWrite (t i .wait)) (s .ol) (s .wl) (s .latest i) (u i) (d i)
 
 -- 3. DE-ESCALATION of page p at station i; WL and asked are the server's for p, OL its object locks, wl the station's own
 
@@ -219,7 +219,7 @@ AskBelow t (Invalidate d) = Unit {0}
 
 abbrev pub SetBelow : ℕ → Up → Type 0
 SetBelow t (ReadRequest a u) = Unit {0}
-SetBelow t (WriteRequest a u) = Unit {0}
+SetBelow t (WriteRequest q u set) = Unit {0}
 SetBelow t (Commit w) = Unit {0}
 SetBelow t (Abort u) = Unit {0}
 SetBelow t (Purge q) = Unit {0}
@@ -230,7 +230,7 @@ SetBelow t (WrittenSet q u set) = u ≤ t
 -- an 8 of (p, t) has every written object of the page that is not locked by itself already ..
 abbrev pub SetFull : ℕ → ℕ → ℕ → (ℕ → Val) → (ℕ → ℕ) → Up → Type 0
 SetFull i p t wr OL (ReadRequest a u) = Unit {0}
-SetFull i p t wr OL (WriteRequest a u) = Unit {0}
+SetFull i p t wr OL (WriteRequest q u set) = Unit {0}
 SetFull i p t wr OL (Commit w) = Unit {0}
 SetFull i p t wr OL (Abort u) = Unit {0}
 SetFull i p t wr OL (Purge q) = Unit {0}
@@ -241,7 +241,7 @@ SetFull i p t wr OL (WrittenSet q u set) = q ≡ p → u ≡ t → (a : ℕ) →
 -- .. and nothing that is not written
 abbrev pub SetWritten : ℕ → ℕ → (ℕ → Val) → Up → Type 0
 SetWritten p t wr (ReadRequest a u) = Unit {0}
-SetWritten p t wr (WriteRequest a u) = Unit {0}
+SetWritten p t wr (WriteRequest q u set) = Unit {0}
 SetWritten p t wr (Commit w) = Unit {0}
 SetWritten p t wr (Abort u) = Unit {0}
 SetWritten p t wr (Purge q) = Unit {0}
@@ -274,7 +274,33 @@ abbrev pub DeescalationAt : Server → (ℕ → Station) → (ℕ → List Up) �
 DeescalationAt s t u d i p =
     Deescalation i p (t i .kind) (t i .num) (t i .opened) (t i .wr) (t i .wl p) (s .ol) (s .wl p) (s .asked p) (s .queue i .want) (s .queue i .req) (s .latest i) (s .fin i) (u i) (d i)
 
+-- 4. SETS: what a 2, or the waiter that it became, names is what the owner waits to write and has no lock on yet
+
+abbrev pub NamesSet : Wait → (ℕ → Bool) → ℕ → (ℕ → Bool) → Type 0
+NamesSet w ol p set = writesTo w p ≡ true → ((b : ℕ) → pageOf b ≡ p → set b ≡ true → forWrite w b ≡ true) × ((b : ℕ) → forWrite w b ≡ true → (set b ≡ true) ⊎ (ol b ≡ true))
+
+abbrev pub NamesUp : Wait → (ℕ → Bool) → Up → Type 0
+NamesUp w ol (ReadRequest a t) = Unit {0}
+NamesUp w ol (WriteRequest p t set) = NamesSet w ol p set
+NamesUp w ol (Commit k) = Unit {0}
+NamesUp w ol (Abort t) = Unit {0}
+NamesUp w ol (Purge p) = Unit {0}
+NamesUp w ol (Busy r t) = Unit {0}
+NamesUp w ol (Done r t d) = Unit {0}
+NamesUp w ol (WrittenSet p t set) = Unit {0}
+
+pub record Sets (w : Wait) (ol : ℕ → Bool) (q : Waiter) (U : List Up) : Type 0 where
+  pub S8-up : All (NamesUp w ol) U
+  pub K11 : (p : ℕ) → writesTo w p ≡ true → (someOn p (forWrite w) ≡ true) × ((a : ℕ) → forWrite w a ≡ true → pageOf a ≡ p)  -- what is to be written is some of one page
+  pub S8-waiter : q .want ≡ WantWrite → NamesSet w ol (pageOf (q .req)) (q .writes)
+
+abbrev pub SetsAt : Server → (ℕ → Station) → (ℕ → List Up) → ℕ → Type 0
+SetsAt s t u i = Sets (t i .wait) (t i .ol) (s .queue i) (u i)
+
 -- THE WHOLE, of a world
+abbrev pub SetsOf : World → Type 0
+SetsOf w = (i : ℕ) → i < 8 → SetsAt (w .server) (w .station) (w .up) i
+
 abbrev pub NumbersOf : World → Type 0
 NumbersOf w = (i : ℕ) → i < 8 → NumbersAt (w .server) (w .station) (w .up) (w .down) i
 
@@ -293,3 +319,4 @@ pub record Orderly (w : World) : Type 0 where
   pub kept : KeptOf w
   pub locks : LocksOf w
   pub deescalation : DeescalationOf w
+  pub sets : SetsOf w

@@ -6,7 +6,7 @@ use mathlib.Core.Logic.{_⊎_, _≢_, inl, inr}
 use Prim.Native.Nat.{ℕ, zero, suc, _+_, _≤_, _<_}
 use native.Mathlib.Omega.{arith}
 use lib.Dec.{eqb}
-use Rattle.sets.specs.Base.{upd, snoc, Val, some, has, noneAt}
+use Rattle.sets.specs.Base.{upd, snoc, Val, some, has, noneAt, none}
 use Rattle.sets.specs.Laws.{byB, byEq, eqb-same, eqb-yes, and-l, and-r}
 use Rattle.line.specs.All.{All, all-map}
 use Rattle.line.specs.Messages.{pageOf, Up, ReadRequest, WriteRequest, Commit, Abort, Purge, Busy, Done, WrittenSet, Down, Page, Deescalate, Callback, Committed, Aborted, Invalidate}
@@ -17,6 +17,7 @@ use Rattle.truth.specs.Frame.{one-most, count-snoc, all-snoc, count-none, none-
 use Rattle.truth.specs.GoalsLists.{either}
 use Rattle.jams.specs.Until.{until-snoc, until-none, until-pop}
 use Rattle.jams.specs.Clauses.{grantsWhole, asksLock, AskBelow, SetBelow, SetFull, SetWritten, NoWholeBehind, givesUp, Deescalation}
+use Rattle.line.specs.Station.{orVal}
 
 -- a wait for a lock
 abbrev pub isWrite : Want → Bool
@@ -57,7 +58,7 @@ ask-below L T b (Invalidate d) c = tt
 
 set-below : (L T : ℕ) → L ≤ T → (m : Up) → SetBelow L m → SetBelow T m
 set-below L T b (ReadRequest a u) c = tt
-set-below L T b (WriteRequest a u) c = tt
+set-below L T b (WriteRequest p′ u set) c = tt
 set-below L T b (Commit w) c = tt
 set-below L T b (Abort u) c = tt
 set-below L T b (Purge q) c = tt
@@ -79,7 +80,7 @@ ask-above p L T b (Invalidate d) c = refl
 
 set-above : (p L T : ℕ) → L < T → (m : Up) → SetBelow L m → setOf p T m ≡ false
 set-above p L T b (ReadRequest a u) c = refl
-set-above p L T b (WriteRequest a u) c = refl
+set-above p L T b (WriteRequest p′ u set) c = refl
 set-above p L T b (Commit w) c = refl
 set-above p L T b (Abort u) c = refl
 set-above p L T b (Purge q) c = refl
@@ -94,7 +95,7 @@ token q p u L e f = rw (e, f, eqb-same p, eqb-same L) refl
 -- no token, so nothing that K4 and K4b speak of
 full-none : (i p L : ℕ) (wr : ℕ → Val) (OL : ℕ → ℕ) (m : Up) → setOf p L m ≡ false → SetFull i p L wr OL m
 full-none i p L wr OL (ReadRequest a u) c = tt
-full-none i p L wr OL (WriteRequest a u) c = tt
+full-none i p L wr OL (WriteRequest p′ u set) c = tt
 full-none i p L wr OL (Commit w) c = tt
 full-none i p L wr OL (Abort u) c = tt
 full-none i p L wr OL (Purge q) c = tt
@@ -104,7 +105,7 @@ full-none i p L wr OL (WrittenSet q u set) c = λ e f. absurd (false≢true (sym
 
 written-none : (p L : ℕ) (wr : ℕ → Val) (m : Up) → setOf p L m ≡ false → SetWritten p L wr m
 written-none p L wr (ReadRequest a u) c = tt
-written-none p L wr (WriteRequest a u) c = tt
+written-none p L wr (WriteRequest p′ u set) c = tt
 written-none p L wr (Commit w) c = tt
 written-none p L wr (Abort u) c = tt
 written-none p L wr (Purge q) c = tt
@@ -121,7 +122,7 @@ full-keeps : (i p L : ℕ) (wr wr′ : ℕ → Val) (OL OL′ : ℕ → ℕ)
     → ((a : ℕ) → pageOf a ≡ p → has (wr′ a) ≡ true → (has (wr a) ≡ true) ⊎ (OL′ a ≡ suc i))
     → (m : Up) → SetFull i p L wr OL m → SetFull i p L wr′ OL′ m
 full-keeps i p L wr wr′ OL OL′ l w (ReadRequest a u) c = tt
-full-keeps i p L wr wr′ OL OL′ l w (WriteRequest a u) c = tt
+full-keeps i p L wr wr′ OL OL′ l w (WriteRequest p′ u set) c = tt
 full-keeps i p L wr wr′ OL OL′ l w (Commit k) c = tt
 full-keeps i p L wr wr′ OL OL′ l w (Abort u) c = tt
 full-keeps i p L wr wr′ OL OL′ l w (Purge q) c = tt
@@ -132,7 +133,7 @@ full-keeps i p L wr wr′ OL OL′ l w (WrittenSet q u set) c =
 
 written-keeps : (p L : ℕ) (wr wr′ : ℕ → Val) → ((a : ℕ) → has (wr a) ≡ true → has (wr′ a) ≡ true) → (m : Up) → SetWritten p L wr m → SetWritten p L wr′ m
 written-keeps p L wr wr′ w (ReadRequest a u) c = tt
-written-keeps p L wr wr′ w (WriteRequest a u) c = tt
+written-keeps p L wr wr′ w (WriteRequest p′ u set) c = tt
 written-keeps p L wr wr′ w (Commit k) c = tt
 written-keeps p L wr wr′ w (Abort u) c = tt
 written-keeps p L wr wr′ w (Purge q) c = tt
@@ -269,19 +270,19 @@ module _ {i p kind num : ℕ} {o : Bool} {wr : ℕ → Val} {wl : Bool} {OL : �
         K10-up = h .K10-up;
       }
 
-  -- an object is written; where an 8 of its page is under way it was written before, or is locked by itself
-  pub writes : (a v : ℕ) → (F ≡ false → 1 ≤ count (setOf p L) U → pageOf a ≡ p → (has (wr a) ≡ true) ⊎ (OL a ≡ suc i)) → Deescalation i p kind num o (upd wr a (some v)) wl OL WL asked want req L F U D
-  writes a v e =
+  -- a set is written; where an 8 of its page is under way each was written before, or is locked by itself
+  pub writes : (f : ℕ → Val) → (F ≡ false → 1 ≤ count (setOf p L) U → (a : ℕ) → has (f a) ≡ true → pageOf a ≡ p → (has (wr a) ≡ true) ⊎ (OL a ≡ suc i)) → Deescalation i p kind num o (λ a. orVal (f a) (wr a)) wl OL WL asked want req L F U D
+  writes f e =
       record {
-        K4 = λ x f n w.
+        K4 = λ x g n w.
             some-or-none (count (setOf p L) U)
             (λ s.
-            all-map (SetFull i p L wr OL) (SetFull i p L (upd wr a (some v)) OL)
-            (full-keeps i p L wr (upd wr a (some v)) OL OL (λ b g k. k)
-            (λ b g k. byEq b a (λ z. let y : b ≡ a = eqb-yes b a z in rw y (e f s (rw y at g))) (λ z. inl (rw z at k))))
-            U (h .K4 x f n w))
-            (λ s. all-full-none i p L (upd wr a (some v)) OL U s);
-        K4b = λ x f n. all-map (SetWritten p L wr) (SetWritten p L (upd wr a (some v))) (written-keeps p L wr (upd wr a (some v)) (λ b k. byEq b a (λ z. rw z refl) (λ z. rw z k))) U (h .K4b x f n);
+            all-map (SetFull i p L wr OL) (SetFull i p L (λ a. orVal (f a) (wr a)) OL)
+            (full-keeps i p L wr (λ a. orVal (f a) (wr a)) OL OL (λ b c k. k)
+            (λ b c k. before b (f b) refl c k (e g s)))
+            U (h .K4 x g n w))
+            (λ s. all-full-none i p L (λ a. orVal (f a) (wr a)) OL U s);
+        K4b = λ x g n. all-map (SetWritten p L wr) (SetWritten p L (λ a. orVal (f a) (wr a))) (written-keeps p L wr (λ a. orVal (f a) (wr a)) (λ b k. still (f b) (wr b) k)) U (h .K4b x g n);
         K6a-down = h .K6a-down;
         K6a-up = h .K6a-up;
         K6b = h .K6b;
@@ -291,6 +292,14 @@ module _ {i p kind num : ℕ} {o : Bool} {wr : ℕ → Val} {wl : Bool} {OL : �
         K10 = h .K10;
         K10-up = h .K10-up;
       }
+    where
+      still : (v w : Val) → has w ≡ true → has (orVal v w) ≡ true
+      still none w k = k
+      still (some x) w k = refl
+
+      before : (b : ℕ) (v : Val) → f b ≡ v → pageOf b ≡ p → has (orVal v (wr b)) ≡ true → ((a : ℕ) → has (f a) ≡ true → pageOf a ≡ p → (has (wr a) ≡ true) ⊎ (OL a ≡ suc i)) → (has (wr b) ≡ true) ⊎ (OL b ≡ suc i)
+      before b none q c k g = inl k
+      before b (some x) q c k g = g b (ap has q) c
 
   -- the station has the page whole, or no more
   pub holds : (wl′ : Bool) → (F ≡ false → 1 ≤ count (setOf p L) U → wl′ ≡ false) → Deescalation i p kind num o wr wl′ OL WL asked want req L F U D

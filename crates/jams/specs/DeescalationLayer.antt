@@ -7,8 +7,8 @@ use Prim.Native.Nat.{ℕ, suc, _≤_, _<_}
 use native.Mathlib.Omega.{arith}
 use lib.Dec.{eqb}
 use Rattle.sets.specs.Base.{upd, nowhere}
-use Rattle.sets.specs.Laws.{byB, byEq, eqb-same, eqb-yes, and-l, and-r}
-use Rattle.line.specs.Messages.{pageOf, Up, ReadRequest, WriteRequest, Commit, Abort, Purge, Busy, Done, WrittenSet, NoLock, Down}
+use Rattle.sets.specs.Laws.{byB, byEq, eqb-same, eqb-yes, and-l, and-r, any-some}
+use Rattle.line.specs.Messages.{pageOf, Up, ReadRequest, WriteRequest, Commit, Abort, Purge, Busy, Done, WrittenSet, NoLock, Down, address}
 use Rattle.line.specs.Station.{Station, Did, stationStep}
 use Rattle.line.specs.Server.{ByMessage, Server, Serving, WantWrite, Waiter, badNumber, unexpected, notice, finish, join, sendPage, serveNow, joinRead, joinWrite, joinCommit, readWaiter, writeWaiter, commitWaiter, commitNow, unlist, markBusy, answered, openAsk, accept, installWaiter, start}
 use Rattle.line.specs.Pass.{Clear}
@@ -16,7 +16,7 @@ use Rattle.line.specs.Apart.{passed}
 use Rattle.line.specs.Runs.{tell-keeps}
 use Rattle.line.specs.Line.{World, worldDown, Op, perform, carryUp, carryDown, sentTo, isRefused, fresh}
 use Rattle.line.specs.Truth.{count}
-use Rattle.truth.specs.Clauses.{stale, tokenUp, tokens}
+use Rattle.truth.specs.Clauses.{stale, tokenUp, tokens, Shape}
 use Rattle.truth.specs.Inv.{afterOwner, afterStation, taken, Acts, Over}
 use Rattle.truth.specs.Frame.{append-nil, count-less, Accepts, accepts}
 use Rattle.jams.specs.Clauses.{asksLock, givesUp, DeescalationAt, DeescalationOf, Orderly}
@@ -24,6 +24,7 @@ use Rattle.jams.specs.Freed.{answers-open}
 use Rattle.jams.specs.Deescalation.{isWrite}
 use Rattle.jams.specs.DeescalationStation.{Known, owner-de, station-de}
 use Rattle.jams.specs.DeescalationServer.{DeIn, finished-free, finish-de, join-de, notice-de, taken-de, abort-de, install-de, commit-de, page-de, read-de, object-de, whole-de, ask-de, call-de, busy-de, answered-de, loosen-de}
+use Rattle.truth.specs.Tokens.{of-page, in-page}
 
 -- THE START
 
@@ -49,7 +50,7 @@ abbrev DeAll : Server → (ℕ → Station) → (ℕ → List Up) → (ℕ → L
 DeAll s t u d = (i p : ℕ) → i < 8 → p < 32 → DeescalationAt s t u d i p
 
 known : (w : World) → Orderly w → (i : ℕ) → i < 8 → Known (w .server) i (w .station i) (w .up i) (w .down i)
-known w h i b = record { numbers = h .numbers i b; locks = h .locks i b; tokens = h .inv .tokens i }
+known w h i b = record { numbers = h .numbers i b; locks = h .locks i b; sets = h .sets i b; tokens = h .inv .tokens i }
 
 de-owner : (i : ℕ) (op : Op) (w : World) → i < 8 → Orderly w → DeescalationOf (afterOwner i op w)
 unfolding carryUp
@@ -76,7 +77,7 @@ de-station i m l w b q n h =
 -- a 2 is a token
 asks-token : (old : ℕ → Bool) (p : ℕ) (m : Up) → asksLock p m ≡ true → tokenUp old m ≡ true
 asks-token old p (ReadRequest a t) e = absurd (false≢true e)
-asks-token old p (WriteRequest a t) e = refl
+asks-token old p (WriteRequest q t set) e = refl
 asks-token old p (Commit w) e = absurd (false≢true e)
 asks-token old p (Abort t) e = absurd (false≢true e)
 asks-token old p (Purge q) e = absurd (false≢true e)
@@ -98,9 +99,18 @@ module _ (w : World) (i : ℕ) (x : Serving) (b : i < 8) (e : x .server .queue i
   -- who passed the gates is shut out by no other, and has not got the page whole [K10]
   granted-free : Clear i x → (p : ℕ) → p < 32 → pageOf (x .server .queue i .req) ≡ p → (j : ℕ) → x .server .wl p ≡ suc j → eqb j i ≡ true
   unfolding carryDown
-  granted-free c p k q j z =
-      let same : j ≡ i = passed i x b (h .inv .apart) e c (omega arith) j (rw q z) in
+  granted-free c p k q j held =
+      let r : ℕ = pageOf (x .server .queue i .req) in
+      let z : Shape WantWrite (x .server .queue i) = rw e at (h .inv .tokens i .S7) in
+      let y = any-some 8 (λ o. x .server .queue i .writes (address r o)) (z .2) in
+      let page : pageOf (address r (y .0)) ≡ p = of-page r (y .0) (y .1) ∙ q in
+      let same : j ≡ i = passed i x b (h .inv .apart) c (address r (y .0)) (y .2) (in-page k page) j (rw page held) in
       rw same (eqb-same i)
+
+  -- its objects are of one page [S7]
+  one-page : (a : ℕ) → x .server .queue i .writes a ≡ true → pageOf a ≡ pageOf (x .server .queue i .req)
+  unfolding carryDown
+  one-page a v = let z : Shape WantWrite (x .server .queue i) = rw e at (h .inv .tokens i .S7) in z .1 a v
 
   grant-free : Clear i x → (p : ℕ) → p < 32 → pageOf (x .server .queue i .req) ≡ p → (j : ℕ) → x .server .wl p ≢ suc j
   unfolding carryDown
@@ -118,7 +128,7 @@ de-acts w =
       asks = λ i g q x b e f h j p k l. ask-de t u d j p g q x (e .held) f (h .deescalation j p k l);
       reads = λ i x b e c h j p k l. read-de t u d j p i x (h .deescalation j p k l);
       calls = λ i x b e f n c h j p k l. call-de t u d j p i x (h .deescalation j p k l);
-      objects = λ i x b e c h j p k l. object-de t u d j p i x (λ n q. grant-free w i x b e h (c .clear) p l q j) (h .deescalation j p k l);
+      objects = λ i x b e c h j p k l. object-de t u d j p i x (λ n q. grant-free w i x b e h (c .clear) p l q j) (one-page w i x b e h) (h .deescalation j p k l);
       pages = λ i x b e c f h j p k l.
           whole-de t u d j p i x (λ q. grant-free w i x b e h (c .clear) p l q j) (λ q. rw (eqb-yes j i q) (asked-once w i x b e h p)) (h .deescalation j p k l);
       installs = λ i x b e f c h j p k l. install-de t u d j p i (x .server .queue i .work) x (h .deescalation j p k l);
@@ -137,9 +147,9 @@ module _ (i : ℕ) (l : List Up) (w : World) (b : i < 8) (h : Orderly w) where
   noted T j p n c k = notice-de (w .station) (w .up) (w .down) j p i T (start (w .server)) n (h .inv .apart) (first j p c k)
 
   -- who asks for a lock on a page has not got it whole [K10]
-  asked-free : (a T j p : ℕ) → badNumber (w .server) i T ≡ false → w .up i ≡ WriteRequest a T ∷ l → j < 8 → p < 32 → eqb j i ≡ true → pageOf a ≡ p → (notice i T (start (w .server))) .server .wl p ≢ suc j
-  asked-free a T j p n q c k e f z =
-      let head : w .up j ≡ WriteRequest a T ∷ l = rw (eqb-yes j i e) q in
+  asked-free : (a T j p : ℕ) (set : ℕ → Bool) → badNumber (w .server) i T ≡ false → w .up i ≡ WriteRequest a T set ∷ l → j < 8 → p < 32 → eqb j i ≡ true → a ≡ p → (notice i T (start (w .server))) .server .wl p ≢ suc j
+  asked-free a T j p set n q c k e f z =
+      let head : w .up j ≡ WriteRequest a T set ∷ l = rw (eqb-yes j i e) q in
       let g = (rw head at (noted T j p n c k)) .K10-up z .0 in
       false≢true (sym g ∙ (rw f (eqb-same p)))
 
@@ -178,10 +188,10 @@ module _ (i : ℕ) (l : List Up) (w : World) (b : i < 8) (h : Orderly w) where
         read-now = λ a T n e.
             let y : Serving = notice i T x in
             took (ReadRequest a T) (sendPage NoLock i a nowhere y) (λ p o. refl) (λ j p c k. page-de t u d j p NoLock i a nowhere y (λ f g r z. refl) (noted T j p n c k));
-        write-waits = λ a T n e q.
+        write-waits = λ a T set n e q.
             let y : Serving = notice i T x in
-            let v : Waiter = writeWaiter (y .server) a in
-            took (WriteRequest a T) (join i v y) (λ p o. refl) (λ j p c k. join-de t u d j p i v y (λ f z g. asked-free a T j p n q c k f g) (noted T j p n c k)) q;
+            let v : Waiter = writeWaiter (y .server) a set in
+            took (WriteRequest a T set) (join i v y) (λ p o. refl) (λ j p c k. join-de t u d j p i v y (λ f z g. asked-free a T j p set n q c k f (sym (of-page a 0 (omega arith)) ∙ g)) (noted T j p n c k)) q;
         commit-now = λ v n f e.
             let y : Serving = notice i (v .transaction) x in
             took (Commit v) (commitNow i v y) (λ p o. refl) (λ j p c k. commit-de t u d j p i v y (noted (v .transaction) j p n c k));

@@ -1,7 +1,7 @@
 -- The server's actions and de-escalation of page p at station j, under a server's step: t are the stations, u the up lines, d the down
 -- lines before the step.
-use mathlib.Core.Path.{_≡_, refl, sym, ap}
-use mathlib.Core.Bool.{Bool, true, false, false≢true}
+use mathlib.Core.Path.{_≡_, refl, sym, ap, _∙_}
+use mathlib.Core.Bool.{Bool, true, false, not, _&&_, cond, false≢true}
 use mathlib.Core.List.{List, _∷_, _++_}
 use mathlib.Core.Logic.{_≢_}
 use Prim.Native.Nat.{ℕ, suc, _<_}
@@ -122,18 +122,20 @@ module _ (t : ℕ → Station) (u : ℕ → List Up) (d : ℕ → List Down) (j 
       page-de NoLock i a (unavailable (x .server) i a) (leave i x) (λ b T n y. refl) (leave-de i x h)
 
   -- 17: no other has the page whole
-  pub object-de : (i : ℕ) (x : Serving) → (eqb j i ≡ false → pageOf (x .server .queue i .req) ≡ p → x .server .wl p ≢ suc j) → DeIn t u d j p x → DeIn t u d j p (grantObject i x)
+  pub object-de : (i : ℕ) (x : Serving) → (eqb j i ≡ false → pageOf (x .server .queue i .req) ≡ p → x .server .wl p ≢ suc j) → ((b : ℕ) → x .server .queue i .writes b ≡ true → pageOf b ≡ pageOf (x .server .queue i .req))
+      → DeIn t u d j p x → DeIn t u d j p (grantObject i x)
   unfolding grantObject leave
-  object-de i x n h =
+  object-de i x n page h =
       let s : Server = x .server in
       let a : ℕ = s .queue i .req in
       let y : Serving = leave i x in
       let g : DeIn t u d j p y = leave-de i x h in
-      page-de ObjectLock i a (unavailable s i a) (onServer y (setOl (y .server) (upd (s .ol) a (suc i)))) (λ b T k z. refl)
-      (others g (upd (s .ol) a (suc i)) (s .wl p) (s .asked p) (λ w. w) (λ w k. (w, k))
+      let OL′ : ℕ → ℕ = λ b. cond (s .queue i .writes b) (suc i) (s .ol b) in
+      page-de ObjectLock i a (unavailable s i a) (onServer y (setOl (y .server) OL′)) (λ b T k z. refl)
+      (others g OL′ (s .wl p) (s .asked p) (λ w. w) (λ w k. (w, k))
       (λ w b q e.
-      byEq b a
-      (λ z. rw z (byEq j i (λ f. ap suc (sym (eqb-yes j i f))) (λ f. absurd (n f (rw (← eqb-yes b a z) q) w))))
+      byB (s .queue i .writes b)
+      (λ z. rw z (byEq j i (λ f. ap suc (sym (eqb-yes j i f))) (λ f. absurd (n f (sym (page b z) ∙ q) w))))
       (λ z. rw z e)))
 
   -- 18: nobody had the page whole

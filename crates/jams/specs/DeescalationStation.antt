@@ -1,31 +1,33 @@
 -- The moves of station i and its owner, and de-escalation of page p there. A 19 becomes an 8; what is written meanwhile is locked by
 -- itself, or the page is held whole and no 8 is under way.
 use mathlib.Core.Path.{_≡_, refl, sym, _∙_}
-use mathlib.Core.Bool.{Bool, true, false, _&&_, _||_, false≢true}
+use mathlib.Core.Bool.{Bool, true, false, _&&_, _||_, false≢true, cond}
 use mathlib.Core.List.{List, [], _∷_, _++_}
 use mathlib.Core.Logic.{_⊎_, inl, inr}
 use Prim.Native.Nat.{ℕ, suc, _≤_}
 use native.Mathlib.Omega.{arith}
 use lib.Dec.{eqb}
 use Rattle.sets.specs.Base.{upd, Val, none, has}
-use Rattle.sets.specs.Laws.{byB, byEq, eqb-same, eqb-yes, and-r, or-yes, or-no, any-some}
+use Rattle.sets.specs.Laws.{byB, byEq, eqb-same, eqb-yes, and-r, or-yes, or-no, any-some, not-yes}
 use Rattle.line.specs.All.{all-map}
 use Rattle.line.specs.Messages.{pageOf, address, locking, Up, ReadRequest, WriteRequest, Commit, Abort, Purge, Busy, Done, WrittenSet, Lock, NoLock, ObjectLock, WholeLock, Down, Page, Deescalate, Callback, Committed, Aborted, Invalidate, Written}
-use Rattle.line.specs.Station.{Station, Did, does, didStation, setKept, NotKept, KeptCall, workOf, live, mayWrite, drops, mark, dropPages, recordRead, writeLocal, doCallback, closed, close, readLocal, readAsk, writeAsk, arrive, takeLock, writtenOn, loosen, onDeescalate, onCommitted, onAborted, stationStep}
+use Rattle.line.specs.Station.{Station, Did, does, didStation, setKept, NotKept, KeptCall, workOf, live, mayWrite, drops, mark, dropPages, recordRead, writeLocal, doCallback, closed, close, readLocal, readAsk, writeAsk, arrive, takeLock, writtenOn, loosen, onDeescalate, onCommitted, onAborted, stationStep, ForWrite, forWrite, someOn, lowestOn, named, ofPage}
 use Rattle.line.specs.Server.{Server}
 use Rattle.line.specs.Line.{Op, perform}
 use Rattle.line.specs.Truth.{count}
 use Rattle.truth.specs.Clauses.{stale, tokenDown, setOf, Tokens}
-use Rattle.truth.specs.Tokens.{idle-quiet}
-use Rattle.truth.specs.Frame.{none-count, count-less, append-nil, append-assoc, Active, Owns, performs, closes, isLock, arrived, Takes, takes}
+use Rattle.truth.specs.Tokens.{idle-quiet, of-page}
+use Rattle.truth.specs.Frame.{none-count, count-less, append-nil, append-assoc, Active, Owns, performs, closes, isLock, arrived, Takes, takes, ForPage}
 use Rattle.truth.specs.GoalsLists.{either}
-use Rattle.jams.specs.Clauses.{KindUp, Numbers, Locks, abortOf, grantsWhole, givesUp, Deescalation}
+use Rattle.jams.specs.Clauses.{KindUp, Numbers, Locks, abortOf, grantsWhole, givesUp, Deescalation, Sets}
 use Rattle.jams.specs.Deescalation.{pop-down, push-up, answers, opens, ends, writes, holds}
+use Rattle.jams.specs.LocksStation.{may-write}
+use Rattle.jams.specs.SetsLayer.{may-locks}
 
 -- no 8 from a validating station
 set-kind : (kind p t : ℕ) → locking kind ≡ false → (m : Up) → KindUp kind m → setOf p t m ≡ false
 set-kind kind p t e (ReadRequest a u) k = refl
-set-kind kind p t e (WriteRequest a u) k = refl
+set-kind kind p t e (WriteRequest p′ u set) k = refl
 set-kind kind p t e (Commit w) k = refl
 set-kind kind p t e (Abort u) k = refl
 set-kind kind p t e (Purge q) k = refl
@@ -47,7 +49,8 @@ whole-token old p (Invalidate d) e = absurd (false≢true e)
 -- what else is known of the station and its lines
 pub record Known (S : Server) (i : ℕ) (s : Station) (U : List Up) (D : List Down) : Type 0 where
   pub numbers : Numbers (s .kind) (s .num) (s .opened) (S .latest i) (S .fin i) U D
-  pub locks : Locks i (s .kind) (s .num) (s .opened) (s .wr) (s .ol) (s .wl) (S .ol) (S .wl) (S .latest i) U D
+  pub locks : Locks i (s .kind) (s .num) (s .opened) (s .wr) (s .ol) (s .wl) (forWrite (s .wait)) (S .ol) (S .wl) (S .latest i) U D
+  pub sets : Sets (s .wait) (s .ol) (S .queue i) U
   pub tokens : Tokens (S .kind i) (s .kind) (s .num) (s .opened) (s .rd) (s .wr) (s .wait) (S .queue i) (S .latest i) (S .fin i) U D
 
 abbrev pub DeAt : Server → ℕ → ℕ → Station → List Up → List Down → Type 0
@@ -66,11 +69,14 @@ module _ (S : Server) (i p : ℕ) (s : Station) (U : List Up) (D : List Down) (k
       omega arith
 
   -- who asks for a lock on a page that it holds gave it up before [K1b, S1b]
-  given-up : (a : ℕ) → Active s → locking (s .kind) ≡ true → mayWrite a s ≡ false → eqb p (pageOf a) ≡ true → S .wl p ≡ suc i → 1 ≤ count (givesUp p (S .latest i)) U
-  given-up a c e m q w =
+  given-up : (pg : ℕ) (f : ℕ → Val) → Active s → locking (s .kind) ≡ true → someOn pg (named f s) ≡ true → eqb p pg ≡ true → S .wl p ≡ suc i → 1 ≤ count (givesUp p (S .latest i)) U
+  given-up pg f c e m q w =
       let L : ℕ = S .latest i in
-      let z : (s .ol a || s .wl (pageOf a)) ≡ false = rw e at m in
-      let free : s .wl p ≡ false = rw (eqb-yes p (pageOf a) q) (or-no (s .ol a) (s .wl (pageOf a)) z .1) in
+      let r = any-some 8 (λ o. named f s (address pg o)) m in
+      let a : ℕ = address pg (r .0) in
+      let y : mayWrite a s ≡ false = not-yes (mayWrite a s) (and-r (has (f a)) _ (r .2)) in
+      let z : (s .ol a || s .wl (pageOf a)) ≡ false = sym (may-locks s a e) ∙ y in
+      let free : s .wl p ≡ false = rw (eqb-yes p pg q, ← of-page pg (r .0) (r .1)) (or-no (s .ol a) (s .wl (pageOf a)) z .1) in
       let by4 : count (abortOf L) U ≤ count (givesUp p L) U = count-less (abortOf L) (givesUp p L) (λ n t. byB (setOf p L n) (λ x. rw x refl) (λ x. rw (x, t) refl)) U in
       let by8 : count (setOf p L) U ≤ count (givesUp p L) U = count-less (setOf p L) (givesUp p L) (λ n t. rw t refl) U in
       let old : ℕ → Bool = stale (s .kind) (s .num) (s .opened) in
@@ -121,6 +127,14 @@ module _ (S : Server) (i p : ℕ) (U : List Up) (D : List Down) where
 
   -- THE OWNER'S MOVES
   module _ (s : Station) (k : Known S i s U D) (h : DeAt S i p s U D) where
+    asked : (q : ℕ) (f : ℕ → Val) → Active s → someOn q (named f s) ≡ true → DeDid S i p U D (writeAsk q f s)
+    unfolding writeAsk
+    asked q f c e = by-kind (locking (s .kind)) refl
+      where
+        by-kind : (b : Bool) → locking (s .kind) ≡ b → DeAt S i p s (U ++ (cond b (WriteRequest q (s .num) (named f s)) (ReadRequest (lowestOn q (named f s)) (s .num)) ∷ [])) D
+        by-kind true z = push-up (WriteRequest q (s .num) (named f s)) refl tt (λ g w. given-up S i p s U D k q f c z e g w) h
+        by-kind false z = push-up (ReadRequest (lowestOn q (named f s)) (s .num)) refl tt (λ g. absurd (false≢true g)) h
+
     owns-de : Owns s (λ op d. DeDid S i p U D d)
     unfolding readLocal recordRead readAsk writeLocal writeAsk dropPages
     owns-de =
@@ -131,11 +145,8 @@ module _ (S : Server) (i p : ℕ) (U : List Up) (D : List Down) where
           reads-again = λ a v b c e f. still s h;
           reads-here = λ a b c e f g. still s h;
           reads-ask = λ a b c e f g. push-up (ReadRequest a (s .num)) refl tt (λ q. absurd (false≢true q)) h;
-          writes-here = λ a v b c e. rw (append-nil U) (writes h a v (written-here S i p s U D k a e h));
-          writes-ask = λ a v b c e.
-              byB (locking (s .kind))
-              (λ z. rw z (push-up (WriteRequest a (s .num)) refl tt (λ q w. given-up S i p s U D k a c z e q w) h))
-              (λ z. rw z (push-up (ReadRequest a (s .num)) refl tt (λ q. absurd (false≢true q)) h));
+          writes-here = λ q f b c e. rw (append-nil U) (writes h (ofPage q f) (λ x n a w. written-here S i p s U D k a (may-write s q (ofPage q f) b e a w) h x n));
+          writes-ask = λ q f b c e. asked q (ofPage q f) c e;
           commits = λ a. push-up (Commit (workOf s)) refl tt (λ q. absurd (false≢true q)) h;
           aborts = λ a.
               byB (locking (s .kind))
@@ -153,14 +164,15 @@ module _ (S : Server) (i p : ℕ) (U : List Up) (D : List Down) where
     Took m d = Known S i s U (m ∷ D) → DeAt S i p s U (m ∷ D) → DeDid S i p U D d
 
     -- a page brings the lock under which the owner's write is done [K7, K6d, N1]
-    wrote : (l : Lock) (a t : ℕ) (v : ℕ → ℕ) (u : ℕ → Bool) (x : ℕ → ℕ) (y : ℕ) → locking (s .kind) ≡ isLock l → Took (Page l a t v u x) (does Written (writeLocal a y (arrived l a v u x s)) [])
+    wrote : (l : Lock) (a t : ℕ) (v : ℕ → ℕ) (u : ℕ → Bool) (x : ℕ → ℕ) (pg : ℕ) (y : ℕ → Val) → s .wait ≡ ForWrite pg y → locking (s .kind) ≡ isLock l → ForPage l a pg y → Took (Page l a t v u x) (does Written (writeLocal y (arrived l a v u x s)) [])
     unfolding writeLocal arrive takeLock
-    wrote NoLock a t v u x y e k h = rw (append-nil U) (writes (pop-down _ h) a y (λ f n q. absurd (unset S i p s U _ k e n)))
-    wrote ObjectLock a t v u x y e k h = rw (append-nil U) (writes (pop-down _ h) a y (λ f n q. inr (k .locks .K7 .0)))
-    wrote WholeLock a t v u x y e k h =
+    wrote NoLock a t v u x pg y w e c k h = rw (append-nil U) (writes (pop-down _ h) y (λ f n b g q. absurd (unset S i p s U _ k e n)))
+    wrote ObjectLock a t v u x pg y w e c k h = rw (append-nil U) (writes (pop-down _ h) y (λ f n b g q. either (k .locks .K7 .0 b (rw w g)) (λ z. inr z) (λ z. inl (k .locks .K3a b z))))
+    wrote WholeLock a t v u x pg y w e c k h =
         let far : S .fin i ≡ false → 1 ≤ count (setOf p (S .latest i)) U → eqb p (pageOf a) ≡ false =
         λ f n. byB (eqb p (pageOf a)) (λ z. absurd (omega (arith, rw z at (h .K6d-up f n .1)))) (λ z. z) in
-        let g = writes (pop-down _ h) a y (λ f n q. absurd (false≢true (sym (far f n) ∙ (rw q (eqb-same p))))) in
+        let page : (b : ℕ) → has (y b) ≡ true → pageOf b ≡ pageOf a = λ b z. k .sets .K11 pg (rw w (eqb-same pg)) .1 b (rw w z) ∙ sym c in
+        let g = writes (pop-down _ h) y (λ f n b z q. absurd (false≢true (sym (far f n) ∙ (rw (← page b z, q) (eqb-same p))))) in
         rw (append-nil U) (holds g (upd (s .wl) (pageOf a) true p) (λ f n. rw (far f n) (h .K6d-up f n .0)))
 
     -- 19
@@ -186,7 +198,7 @@ module _ (S : Server) (i p : ℕ) (U : List Up) (D : List Down) where
           refused = λ m e k h. still s (pop-down m h);
           old-page = λ a t v u x e k h. still s (pop-down _ h);
           page-read = λ a t v u x e f k h. still s (pop-down _ h);
-          page-write = λ l a t v u x y e f g k h. wrote l a t v u x y g k h;
+          page-write = λ l a t v u x pg y e f g c k h. wrote l a t v u x pg y f g c k h;
           deescalates = λ q t e k h. asked-de q t e k h;
           keeps = λ r t set e f k h. push-up (Busy r t) refl tt (λ q. absurd (false≢true q)) (pop-down _ h);
           dones = λ r t set e f k h. push-up (Done r t _) refl tt (λ q. absurd (false≢true q)) (pop-down _ h);

@@ -10,6 +10,8 @@ pub mod NumbersStation
 pub mod NumbersServer
 pub mod NumbersAccept
 pub mod NumbersLayer
+-- the layer of sets
+pub mod SetsLayer
 -- de-escalation
 pub mod Deescalation
 pub mod DeescalationStation

@@ -8,15 +8,18 @@ use native.Mathlib.Omega.{arith}
 use lib.Dec.{eqb}
 use Rattle.sets.specs.Base.{upd, snoc, nowhere, Val, none, some, has, noneAt}
 use Rattle.sets.specs.Laws.{byB, byEq, eqb-same, eqb-yes, or-yes, any-yes, any-some}
-use Rattle.line.specs.All.{All}
+use Rattle.line.specs.All.{All, all-map}
 use Rattle.line.specs.Messages.{pageOf, address, locking, Up, Abort, WrittenSet, NoLock, ObjectLock, WholeLock, Down, Page, Deescalate, Callback, Committed, Aborted, Invalidate}
 use Rattle.line.specs.Truth.{count}
-use Rattle.truth.specs.Clauses.{dropped, setOf, brings}
-use Rattle.truth.specs.Frame.{count-snoc, count-less, all-snoc}
+use Rattle.truth.specs.Clauses.{dropped, setOf, brings, stale, tokenDown}
+use Rattle.truth.specs.Frame.{count-snoc, count-less, all-snoc, count-none}
 use Rattle.truth.specs.Coverage.{on-page}
 use Rattle.truth.specs.GoalsLists.{either}
 use Rattle.jams.specs.Clauses.{abortOf, isEnd, grantsObject, grantsWhole, meets, NoneUntil, Granted, Locks}
 use Rattle.jams.specs.Until.{until-ended, until-snoc, until-pop}
+use Rattle.line.specs.Station.{orVal}
+use Rattle.truth.specs.Tokens.{Quiet}
+use Rattle.line.specs.Server.{Waiter}
 
 -- WHAT IS WRITTEN ON A PAGE
 
@@ -28,21 +31,40 @@ meets-some wr p e =
     let r = any-some 8 (λ o. has (wr (address p o))) e in
     (address p (r .0), omega (arith, r .1), r .2)
 
-pub wrote-more : (wr : ℕ → Val) (a v b : ℕ) → has (wr b) ≡ true → has (upd wr a (some v) b) ≡ true
-wrote-more wr a v b e = byEq b a (λ f. rw f refl) (λ f. rw f e)
+-- a set written over it
+has-over : (v w : Val) → has w ≡ true → has (orVal v w) ≡ true
+has-over none w e = e
+has-over (some x) w e = refl
 
-pub meets-more : (wr : ℕ → Val) (a v p : ℕ) → meets wr p ≡ true → meets (upd wr a (some v)) p ≡ true
-meets-more wr a v p e = let r = meets-some wr p e in meets-yes (upd wr a (some v)) p (r .0) (r .1) (wrote-more wr a v (r .0) (r .2))
+has-first : (v w : Val) → has v ≡ true → has (orVal v w) ≡ true
+has-first none w e = absurd (false≢true e)
+has-first (some x) w e = refl
+
+pub has-either : (v w : Val) → has (orVal v w) ≡ true → (has v ≡ true) ⊎ (has w ≡ true)
+has-either none w e = inr e
+has-either (some x) w e = inl refl
+
+abbrev pub over : (ℕ → Val) → (ℕ → Val) → ℕ → Val
+over f wr b = orVal (f b) (wr b)
+
+pub wrote-more : (f wr : ℕ → Val) (b : ℕ) → has (wr b) ≡ true → has (over f wr b) ≡ true
+wrote-more f wr b e = has-over (f b) (wr b) e
+
+pub wrote-now : (f wr : ℕ → Val) (b : ℕ) → has (f b) ≡ true → has (over f wr b) ≡ true
+wrote-now f wr b e = has-first (f b) (wr b) e
+
+pub meets-more : (f wr : ℕ → Val) (p : ℕ) → meets wr p ≡ true → meets (over f wr) p ≡ true
+meets-more f wr p e = let r = meets-some wr p e in meets-yes (over f wr) p (r .0) (r .1) (wrote-more f wr (r .0) (r .2))
 
 -- WHO HAS NO LOCK
 
-module _ {i kind num : ℕ} {opened : Bool} {wr : ℕ → Val} {ol wl : ℕ → Bool} {OL WL : ℕ → ℕ} {latest : ℕ} {U : List Up} {D : List Down} where
+module _ {i kind num : ℕ} {opened : Bool} {wr : ℕ → Val} {ol wl due : ℕ → Bool} {OL WL : ℕ → ℕ} {latest : ℕ} {U : List Up} {D : List Down} where
   -- .. and has ended at the server or written nothing
   pub bare : ((a : ℕ) → ol a ≡ true → has (wr a) ≡ true) → ((p : ℕ) → wl p ≡ true → meets wr p ≡ true)
       → ((a : ℕ) → OL a ≢ suc i) → ((p : ℕ) → WL p ≢ suc i)
       → (locking kind ≡ true → opened ≡ true → count isEnd D ≡ 0 → (a : ℕ) → has (wr a) ≡ true → ⊥)
       → (locking kind ≡ true → opened ≡ true → (a : ℕ) → has (wr a) ≡ true → latest ≡ num)
-      → All (Granted i OL WL) D → Locks i kind num opened wr ol wl OL WL latest U D
+      → All (Granted i OL WL due ol) D → Locks i kind num opened wr ol wl due OL WL latest U D
   bare x y no-object no-whole over known g =
       record {
         K1a = λ a e. absurd (no-object a e);
@@ -57,9 +79,9 @@ module _ {i kind num : ℕ} {opened : Bool} {wr : ℕ → Val} {ol wl : ℕ → 
       }
 
 -- the server notices transaction T: the latest already, or no lock is left of the one before
-pub renumbered : {i kind num : ℕ} {opened : Bool} {wr : ℕ → Val} {ol wl : ℕ → Bool} {OL WL : ℕ → ℕ} {latest : ℕ} {U : List Up} {D : List Down} (T : ℕ)
+pub renumbered : {i kind num : ℕ} {opened : Bool} {wr : ℕ → Val} {ol wl due : ℕ → Bool} {OL WL : ℕ → ℕ} {latest : ℕ} {U : List Up} {D : List Down} (T : ℕ)
     → (eqb T latest ≡ false → ((a : ℕ) → OL a ≢ suc i) × ((p : ℕ) → WL p ≢ suc i)) → (locking kind ≡ true → T ≡ num)
-    → Locks i kind num opened wr ol wl OL WL latest U D → Locks i kind num opened wr ol wl OL WL T U D
+    → Locks i kind num opened wr ol wl due OL WL latest U D → Locks i kind num opened wr ol wl due OL WL T U D
 renumbered {latest = latest} T n k h =
     byEq T latest (λ e. rw (eqb-yes T latest e) h)
     (λ e.
@@ -71,12 +93,12 @@ renumbered {latest = latest} T n k h =
 pub record Settled (i : ℕ) (OL WL : ℕ → ℕ) (latest : ℕ) (U : List Up) (D : List Down) : Type 0 where
   pub object : (a : ℕ) → OL a ≡ suc i → 1 ≤ count (abortOf latest) U
   pub whole : (p : ℕ) → WL p ≡ suc i → 1 ≤ count (abortOf latest) U
-  pub granted : All (Granted i OL WL) D
+  pub granted : All (Granted i OL WL nowhere nowhere) D
   pub behind-object : (a : ℕ) → OL a ≡ suc i → NoneUntil (abortOf latest) (dropped (pageOf a)) U
   pub behind-whole : (p : ℕ) → WL p ≡ suc i → NoneUntil (abortOf latest) (dropped p) U
 
 -- who has no lock may close
-pub free : {i : ℕ} {OL WL : ℕ → ℕ} {latest : ℕ} {U : List Up} {D : List Down} → ((a : ℕ) → OL a ≢ suc i) → ((p : ℕ) → WL p ≢ suc i) → All (Granted i OL WL) D → Settled i OL WL latest U D
+pub free : {i : ℕ} {OL WL : ℕ → ℕ} {latest : ℕ} {U : List Up} {D : List Down} → ((a : ℕ) → OL a ≢ suc i) → ((p : ℕ) → WL p ≢ suc i) → All (Granted i OL WL nowhere nowhere) D → Settled i OL WL latest U D
 free x y g =
     record {
       object = λ a e. absurd (x a e);
@@ -98,7 +120,7 @@ module _ {i : ℕ} {OL WL : ℕ → ℕ} {latest : ℕ} {U : List Up} {D : List 
         behind-whole = λ p e. until-ended (abortOf latest) (dropped p) U (m ∷ []) (h .whole p e) (h .behind-whole p e);
       }
 
-  pub settled-locks : (kind num : ℕ) → Locks i kind num false noneAt nowhere nowhere OL WL latest U D
+  pub settled-locks : (kind num : ℕ) → Locks i kind num false noneAt nowhere nowhere nowhere OL WL latest U D
   settled-locks kind num =
       record {
         K1a = λ a e. inl (h .object a e);
@@ -118,9 +140,9 @@ module _ {i : ℕ} {OL WL : ℕ → ℕ} {latest : ℕ} {U : List Up} {D : List 
 abbrev pub Leaving : ℕ → (ℕ → ℕ) → (ℕ → ℕ) → ℕ → List Up → ℕ → Type 0
 Leaving i OL WL latest U p = ((a : ℕ) → pageOf a ≡ p → OL a ≡ suc i → 1 ≤ count (abortOf latest) U) × (WL p ≡ suc i → 1 ≤ count (abortOf latest) U)
 
-module _ {i kind num : ℕ} {opened : Bool} {wr : ℕ → Val} {ol wl : ℕ → Bool} {OL WL : ℕ → ℕ} {latest : ℕ} {U : List Up} {D : List Down} where
+module _ {i kind num : ℕ} {opened : Bool} {wr : ℕ → Val} {ol wl due : ℕ → Bool} {OL WL : ℕ → ℕ} {latest : ℕ} {U : List Up} {D : List Down} where
   -- a message goes up; a drop of a page that is locked comes behind the 4
-  pub push-up : (m : Up) → ((p : ℕ) → dropped p m ≡ true → Leaving i OL WL latest U p) → Locks i kind num opened wr ol wl OL WL latest U D → Locks i kind num opened wr ol wl OL WL latest (snoc U m) D
+  pub push-up : (m : Up) → ((p : ℕ) → dropped p m ≡ true → Leaving i OL WL latest U p) → Locks i kind num opened wr ol wl due OL WL latest U D → Locks i kind num opened wr ol wl due OL WL latest (snoc U m) D
   push-up m k h =
       let more : (f : Up → Bool) → count f U ≤ count f (snoc U m) = λ f. omega (arith, count-snoc f U m) in
       record {
@@ -141,12 +163,12 @@ module _ {i kind num : ℕ} {opened : Bool} {wr : ℕ → Val} {ol wl : ℕ → 
       }
 
   -- .. one that drops nothing
-  pub plain-up : (m : Up) → ((p : ℕ) → dropped p m ≡ false) → Locks i kind num opened wr ol wl OL WL latest U D → Locks i kind num opened wr ol wl OL WL latest (snoc U m) D
+  pub plain-up : (m : Up) → ((p : ℕ) → dropped p m ≡ false) → Locks i kind num opened wr ol wl due OL WL latest U D → Locks i kind num opened wr ol wl due OL WL latest (snoc U m) D
   plain-up m e h = push-up m (λ p f. absurd (false≢true (sym (e p) ∙ f))) h
 
   -- the server takes a message: no 4 of the latest, no 8 that a whole lock needs
   pub pop-up : (m : Up) → abortOf latest m ≡ false → ((p : ℕ) → WL p ≡ suc i → meets wr p ≡ true → setOf p latest m ≡ false)
-      → Locks i kind num opened wr ol wl OL WL latest (m ∷ U) D → Locks i kind num opened wr ol wl OL WL latest U D
+      → Locks i kind num opened wr ol wl due OL WL latest (m ∷ U) D → Locks i kind num opened wr ol wl due OL WL latest U D
   pop-up m e f h =
       record {
         K1a = λ a g. either (h .K1a a g) (λ x. inl (omega (arith, rw e at x))) (λ x. inr x);
@@ -163,30 +185,30 @@ module _ {i kind num : ℕ} {opened : Bool} {wr : ℕ → Val} {ol wl : ℕ → 
       }
 
   -- a message comes down; the lock that it brings stands at the server
-  pub push-down : (m : Down) → Granted i OL WL m → Locks i kind num opened wr ol wl OL WL latest U D → Locks i kind num opened wr ol wl OL WL latest U (snoc D m)
+  pub push-down : (m : Down) → Granted i OL WL due ol m → Locks i kind num opened wr ol wl due OL WL latest U D → Locks i kind num opened wr ol wl due OL WL latest U (snoc D m)
   push-down m g h =
       let more : (f : Down → Bool) → count f D ≤ count f (snoc D m) = λ f. omega (arith, count-snoc f D m) in
       record {
-        K1a = λ a e. either (h .K1a a e) (λ x. inl x) (λ x. inr (either x (λ y. inl y) (λ y. inr (omega (arith, more (grantsObject a))))));
+        K1a = λ a e. either (h .K1a a e) (λ x. inl x) (λ x. inr (either x (λ y. inl y) (λ y. inr (omega (arith, y .0, more (grantsObject (pageOf a))), y .1))));
         K1b = λ p e. either (h .K1b p e) (λ x. inl x) (λ x. inr (either x (λ y. inl y) (λ y. inr (omega (arith, more (grantsWhole p))))));
         K2a = λ k o n. h .K2a k o (omega (arith, more isEnd));
         K2b = λ k o n. h .K2b k o (omega (arith, more isEnd));
         K3a = h .K3a;
         K3b = h .K3b;
-        K7 = all-snoc (Granted i OL WL) D m (h .K7) g;
+        K7 = all-snoc (Granted i OL WL due ol) D m (h .K7) g;
         K9 = h .K9;
         N9 = h .N9;
       }
 
   -- the station takes a message that does not end its transaction; what it locks is written
-  pub pop-down : (m : Down) → isEnd m ≡ false → ((a : ℕ) → grantsObject a m ≡ true → (opened ≡ true) × (has (wr a) ≡ true))
+  pub pop-down : (m : Down) → isEnd m ≡ false → ((a : ℕ) → grantsObject (pageOf a) m ≡ true → due a ≡ true → (opened ≡ true) × (has (wr a) ≡ true))
       → ((p : ℕ) → grantsWhole p m ≡ true → (opened ≡ true) × (meets wr p ≡ true) × (wl p ≡ true))
-      → Locks i kind num opened wr ol wl OL WL latest U (m ∷ D) → Locks i kind num opened wr ol wl OL WL latest U D
+      → Locks i kind num opened wr ol wl due OL WL latest U (m ∷ D) → Locks i kind num opened wr ol wl due OL WL latest U D
   pop-down m e f g h =
       record {
         K1a = λ a x.
             either (h .K1a a x) (λ y. inl y)
-            (λ y. inr (either y (λ z. inl z) (λ z. byB (grantsObject a m) (λ t. inl (f a t)) (λ t. inr (omega (arith, rw t at z))))));
+            (λ y. inr (either y (λ z. inl z) (λ z. byB (grantsObject (pageOf a) m) (λ t. inl (f a t (z .1))) (λ t. inr (omega (arith, rw t at (z .0)), z .1)))));
         K1b = λ p x.
             either (h .K1b p x) (λ y. inl y)
             (λ y. inr (either y (λ z. inl z) (λ z. byB (grantsWhole p m) (λ t. let w = g p t in inl (w .0, w .1, inl (w .2))) (λ t. inr (omega (arith, rw t at z))))));
@@ -199,16 +221,77 @@ module _ {i kind num : ℕ} {opened : Bool} {wr : ℕ → Val} {ol wl : ℕ → 
         N9 = h .N9;
       }
 
+-- less is due, more is locked
+pub more-granted : (i : ℕ) (OL WL : ℕ → ℕ) (due due′ ol ol′ : ℕ → Bool) → ((b : ℕ) → due′ b ≡ true → due b ≡ true) → ((b : ℕ) → ol b ≡ true → ol′ b ≡ true) → (m : Down) → Granted i OL WL due ol m → Granted i OL WL due′ ol′ m
+more-granted i OL WL due due′ ol ol′ x y (Page NoLock a t v u z) g = tt
+more-granted i OL WL due due′ ol ol′ x y (Page ObjectLock a t v u z) g = λ b e. either (g b (x b e)) (λ k. inl k) (λ k. inr (y b k))
+more-granted i OL WL due due′ ol ol′ x y (Page WholeLock a t v u z) g = g
+more-granted i OL WL due due′ ol ol′ x y (Deescalate p t) g = tt
+more-granted i OL WL due due′ ol ol′ x y (Callback r t set) g = tt
+more-granted i OL WL due due′ ol ol′ x y (Committed t n) g = tt
+more-granted i OL WL due due′ ol ol′ x y (Aborted t c) g = tt
+more-granted i OL WL due due′ ol ol′ x y (Invalidate d) g = tt
+
+-- who waits to write nothing
+pub none-due : (i : ℕ) (OL WL : ℕ → ℕ) (due ol : ℕ → Bool) (ol′ : ℕ → Bool) (D : List Down) → All (Granted i OL WL due ol) D → All (Granted i OL WL nowhere ol′) D
+none-due i OL WL due ol ol′ D g = all-map (Granted i OL WL due ol) (Granted i OL WL nowhere ol′) (undue i OL WL due ol ol′) D g
+  where
+    undue : (i : ℕ) (OL WL : ℕ → ℕ) (due ol ol′ : ℕ → Bool) (m : Down) → Granted i OL WL due ol m → Granted i OL WL nowhere ol′ m
+    undue i OL WL due ol ol′ (Page NoLock a t v u z) g = tt
+    undue i OL WL due ol ol′ (Page ObjectLock a t v u z) g = λ b e. absurd (false≢true e)
+    undue i OL WL due ol ol′ (Page WholeLock a t v u z) g = g
+    undue i OL WL due ol ol′ (Deescalate p t) g = tt
+    undue i OL WL due ol ol′ (Callback r t set) g = tt
+    undue i OL WL due ol ol′ (Committed t n) g = tt
+    undue i OL WL due ol ol′ (Aborted t c) g = tt
+    undue i OL WL due ol ol′ (Invalidate d) g = tt
+
+-- no token is on its way down, so no lock
+token-granted : (old : ℕ → Bool) (j : ℕ) (OL WL : ℕ → ℕ) (due ol : ℕ → Bool) (m : Down) → tokenDown old m ≡ false → Granted j OL WL due ol m
+token-granted old j OL WL due ol (Page NoLock a t v u x) e = tt
+token-granted old j OL WL due ol (Page ObjectLock a t v u x) e = absurd (false≢true (sym e))
+token-granted old j OL WL due ol (Page WholeLock a t v u x) e = absurd (false≢true (sym e))
+token-granted old j OL WL due ol (Deescalate p t) e = tt
+token-granted old j OL WL due ol (Callback r t set) e = tt
+token-granted old j OL WL due ol (Committed t n) e = tt
+token-granted old j OL WL due ol (Aborted t c) e = tt
+token-granted old j OL WL due ol (Invalidate d) e = tt
+
+-- whatever the server's locks and whatever is due, none is on its way to station j
+abbrev pub NoGrants : ℕ → List Down → Type 0
+NoGrants j D = (OL WL : ℕ → ℕ) (due ol : ℕ → Bool) → All (Granted j OL WL due ol) D
+
+pub quiet-grants : {skind kind num : ℕ} {opened : Bool} {q : Waiter} {U : List Up} {D : List Down} → Quiet skind kind num opened q U D → (j : ℕ) → NoGrants j D
+quiet-grants {kind = kind} {num = num} {opened = opened} {D = D} h j OL WL due ol =
+    let old : ℕ → Bool = stale kind num opened in
+    all-map (λ m. tokenDown old m ≡ false) (Granted j OL WL due ol) (token-granted old j OL WL due ol) D (count-none (tokenDown old) D (h .no-down))
+
+-- .. nor a 17
+object-token : (old : ℕ → Bool) (p : ℕ) (m : Down) → grantsObject p m ≡ true → tokenDown old m ≡ true
+object-token old p (Page NoLock a t v u x) e = absurd (false≢true e)
+object-token old p (Page ObjectLock a t v u x) e = refl
+object-token old p (Page WholeLock a t v u x) e = refl
+object-token old p (Deescalate q t) e = absurd (false≢true e)
+object-token old p (Callback r t set) e = absurd (false≢true e)
+object-token old p (Committed t n) e = refl
+object-token old p (Aborted t c) e = refl
+object-token old p (Invalidate d) e = absurd (false≢true e)
+
+pub quiet-objects : {skind kind num : ℕ} {opened : Bool} {q : Waiter} {U : List Up} {D : List Down} → Quiet skind kind num opened q U D → (p : ℕ) → 1 ≤ count (grantsObject p) D → ⊥
+quiet-objects {kind = kind} {num = num} {opened = opened} {D = D} h p n =
+    let old : ℕ → Bool = stale kind num opened in
+    absurd (omega (arith, h .no-down, count-less (grantsObject p) (tokenDown old) (object-token old p) D))
+
 -- a page that comes with a lock
-object-brings : (p a : ℕ) → pageOf a ≡ p → (m : Down) → grantsObject a m ≡ true → brings p m ≡ true
-object-brings p a f (Page NoLock b t v u x) e = absurd (false≢true e)
-object-brings p a f (Page ObjectLock b t v u x) e = rw (← eqb-yes a b e, f) (eqb-same p)
-object-brings p a f (Page WholeLock b t v u x) e = absurd (false≢true e)
-object-brings p a f (Deescalate q t) e = absurd (false≢true e)
-object-brings p a f (Callback r t set) e = absurd (false≢true e)
-object-brings p a f (Committed t n) e = absurd (false≢true e)
-object-brings p a f (Aborted t c) e = absurd (false≢true e)
-object-brings p a f (Invalidate d) e = absurd (false≢true e)
+object-brings : (p : ℕ) (m : Down) → grantsObject p m ≡ true → brings p m ≡ true
+object-brings p (Page NoLock b t v u x) e = absurd (false≢true e)
+object-brings p (Page ObjectLock b t v u x) e = e
+object-brings p (Page WholeLock b t v u x) e = absurd (false≢true e)
+object-brings p (Deescalate q t) e = absurd (false≢true e)
+object-brings p (Callback r t set) e = absurd (false≢true e)
+object-brings p (Committed t n) e = absurd (false≢true e)
+object-brings p (Aborted t c) e = absurd (false≢true e)
+object-brings p (Invalidate d) e = absurd (false≢true e)
 
 whole-brings : (p : ℕ) (m : Down) → grantsWhole p m ≡ true → brings p m ≡ true
 whole-brings p (Page NoLock b t v u x) e = absurd (false≢true e)
@@ -222,11 +305,11 @@ whole-brings p (Invalidate d) e = absurd (false≢true e)
 
 -- THE STATION
 
-module _ {i kind num : ℕ} {opened : Bool} {wr : ℕ → Val} {ol wl : ℕ → Bool} {OL WL : ℕ → ℕ} {latest : ℕ} {U : List Up} {D : List Down} (h : Locks i kind num opened wr ol wl OL WL latest U D) where
+module _ {i kind num : ℕ} {opened : Bool} {wr : ℕ → Val} {ol wl due : ℕ → Bool} {OL WL : ℕ → ℕ} {latest : ℕ} {U : List Up} {D : List Down} (h : Locks i kind num opened wr ol wl due OL WL latest U D) where
   -- a lock on a page where nothing is written and for which nothing is under way has its 4 under way
   pub unused-leaving : (p : ℕ) → meets wr p ≡ false → count (brings p) D ≡ 0 → Leaving i OL WL latest U p
   unused-leaving p n z = (
-    λ a f e. either (h .K1a a e) (λ x. x) (λ x. absurd (either x (λ y. unmet (meets-yes wr p a f (y .1))) (λ y. brought (grantsObject a) (object-brings p a f) y))),
+    λ a f e. either (h .K1a a e) (λ x. x) (λ x. absurd (either x (λ y. unmet (meets-yes wr p a f (y .1))) (λ y. brought (grantsObject p) (object-brings p) (rw f at (y .0))))),
     λ e. either (h .K1b p e) (λ x. x) (λ x. absurd (either x (λ y. unmet (y .1)) (λ y. brought (grantsWhole p) (whole-brings p) y))),
   )
     where
@@ -237,7 +320,7 @@ module _ {i kind num : ℕ} {opened : Bool} {wr : ℕ → Val} {ol wl : ℕ → 
       brought f k x = absurd (omega (arith, count-less f (brings p) k D))
 
   -- a transaction begins: nothing is written
-  pub began : (num′ : ℕ) → opened ≡ false → ((a : ℕ) → wr a ≡ none) → Locks i kind num′ true wr ol wl OL WL latest U D
+  pub began : (num′ : ℕ) → opened ≡ false → ((a : ℕ) → wr a ≡ none) → Locks i kind num′ true wr ol wl due OL WL latest U D
   began num′ o n =
       record {
         K1a = λ a e. either (h .K1a a e) (λ x. inl x) (λ x. inr (either x (λ y. absurd (false≢true (sym o ∙ y .0))) (λ y. inr y)));
@@ -254,34 +337,47 @@ module _ {i kind num : ℕ} {opened : Bool} {wr : ℕ → Val} {ol wl : ℕ → 
       unwritten : (a : ℕ) → has (wr a) ≡ true → ⊥
       unwritten a e = false≢true (sym (ap has (n a)) ∙ e)
 
-  -- a is written, under a lock known to the server; it may be a new one
-  pub writes : (a v : ℕ) (ol′ wl′ : ℕ → Bool) → ((b : ℕ) → ol′ b ≡ true → (ol b ≡ true) ⊎ (b ≡ a))
-      → ((p : ℕ) → wl′ p ≡ true → (wl p ≡ true) ⊎ ((p ≡ pageOf a) × (WL p ≡ suc i))) → ((p : ℕ) → wl p ≡ true → wl′ p ≡ true)
-      → (locking kind ≡ true → opened ≡ true → count isEnd D ≡ 0 → (OL a ≡ suc i) ⊎ (WL (pageOf a) ≡ suc i))
-      → (locking kind ≡ true → opened ≡ true → latest ≡ num) → Locks i kind num opened (upd wr a (some v)) ol′ wl′ OL WL latest U D
-  writes a v ol′ wl′ x y z l n =
+  -- a set is written, under locks known to the server; they may be new ones
+  pub writes : (f : ℕ → Val) (ol′ wl′ : ℕ → Bool) → ((b : ℕ) → ol b ≡ true → ol′ b ≡ true) → ((b : ℕ) → ol′ b ≡ true → (ol b ≡ true) ⊎ (has (f b) ≡ true))
+      → ((p : ℕ) → wl′ p ≡ true → (wl p ≡ true) ⊎ ((meets f p ≡ true) × (WL p ≡ suc i))) → ((p : ℕ) → wl p ≡ true → wl′ p ≡ true)
+      → (locking kind ≡ true → opened ≡ true → count isEnd D ≡ 0 → (a : ℕ) → has (f a) ≡ true → (OL a ≡ suc i) ⊎ (WL (pageOf a) ≡ suc i))
+      → (locking kind ≡ true → opened ≡ true → (a : ℕ) → has (f a) ≡ true → latest ≡ num) → Locks i kind num opened (over f wr) ol′ wl′ due OL WL latest U D
+  writes f ol′ wl′ w x y z l n =
       record {
-        K1a = λ b e. either (h .K1a b e) (λ u. inl u) (λ u. inr (either u (λ w. inl (w .0, wrote-more wr a v b (w .1))) (λ w. inr w)));
+        K1a = λ b e. either (h .K1a b e) (λ u. inl u) (λ u. inr (either u (λ v. inl (v .0, wrote-more f wr b (v .1))) (λ v. inr v)));
         K1b = λ p e.
             either (h .K1b p e) (λ u. inl u)
-            (λ u. inr (either u (λ w. inl (w .0, meets-more wr a v p (w .1), either (w .2) (λ t. inl (z p t)) (λ t. inr t))) (λ w. inr w)));
-        K2a = λ k o c b e. byEq b a (λ f. rw (eqb-yes b a f) (l k o c)) (λ f. h .K2a k o c b (rw f at e));
+            (λ u. inr (either u (λ v. inl (v .0, meets-more f wr p (v .1), either (v .2) (λ t. inl (z p t)) (λ t. inr t))) (λ v. inr v)));
+        K2a = λ k o c b e. either (has-either (f b) (wr b) e) (λ g. l k o c b g) (λ g. h .K2a k o c b g);
         K2b = λ k o c p e. either (y p e) (λ u. h .K2b k o c p u) (λ u. u .1);
-        K3a = λ b e. either (x b e) (λ u. wrote-more wr a v b (h .K3a b u)) (λ u. rw (u, eqb-same a) refl);
-        K3b = λ p e.
-            either (y p e) (λ u. meets-more wr a v p (h .K3b p u))
-            (λ u. meets-yes (upd wr a (some v)) p a (sym (u .0)) (rw (eqb-same a) refl));
-        K7 = h .K7;
-        K9 = λ k o b e. n k o;
+        K3a = λ b e. either (x b e) (λ u. wrote-more f wr b (h .K3a b u)) (λ u. wrote-now f wr b u);
+        K3b = λ p e. either (y p e) (λ u. meets-more f wr p (h .K3b p u)) (λ u. let r = meets-some f p (u .0) in meets-yes (over f wr) p (r .0) (r .1) (wrote-now f wr (r .0) (r .2)));
+        K7 = all-map (Granted i OL WL due ol) (Granted i OL WL due ol′) (more-granted i OL WL due due ol ol′ (λ b e. e) w) D (h .K7);
+        K9 = λ k o b e. either (has-either (f b) (wr b) e) (λ g. n k o b g) (λ g. h .K9 k o b g);
+        N9 = h .N9;
+      }
+
+  -- the owner waits for something else, or no more
+  pub rewaits : (due′ : ℕ → Bool) → ((a : ℕ) → 1 ≤ count (grantsObject (pageOf a)) D → due a ≡ true → due′ a ≡ true) → All (Granted i OL WL due′ ol) D → Locks i kind num opened wr ol wl due′ OL WL latest U D
+  rewaits due′ x g =
+      record {
+        K1a = λ a e. either (h .K1a a e) (λ u. inl u) (λ u. inr (either u (λ v. inl v) (λ v. inr (v .0, x a (v .0) (v .1)))));
+        K1b = h .K1b;
+        K2a = h .K2a;
+        K2b = h .K2b;
+        K3a = h .K3a;
+        K3b = h .K3b;
+        K7 = g;
+        K9 = h .K9;
         N9 = h .N9;
       }
 
   -- 19: the whole lock becomes locks on what is written, and the 8 goes up
   pub splits : (p t : ℕ) (set : ℕ → Bool) → ((a : ℕ) → set a ≡ true → has (wr a) ≡ true) → (WL p ≡ suc i → opened ≡ true → meets wr p ≡ true → t ≡ latest)
-      → Locks i kind num opened wr (λ a. ol a || set a) (upd wl p false) OL WL latest (snoc U (WrittenSet p t set)) D
+      → Locks i kind num opened wr (λ a. ol a || set a) (upd wl p false) due OL WL latest (snoc U (WrittenSet p t set)) D
   splits p t set w n =
       let m : Up = WrittenSet p t set in
-      let g : Locks i kind num opened wr ol wl OL WL latest (snoc U m) D = plain-up m (λ q. refl) h in
+      let g : Locks i kind num opened wr ol wl due OL WL latest (snoc U m) D = plain-up m (λ q. refl) h in
       record {
         K1a = g .K1a;
         K1b = λ q e.
@@ -294,7 +390,7 @@ module _ {i kind num : ℕ} {opened : Bool} {wr : ℕ → Val} {ol wl : ℕ → 
         K2b = λ k o c q e. g .K2b k o c q (before q e);
         K3a = λ a e. or-yes (ol a) (set a) e (λ f. h .K3a a f) (λ f. w a f);
         K3b = λ q e. h .K3b q (before q e);
-        K7 = g .K7;
+        K7 = all-map (Granted i OL WL due ol) (Granted i OL WL due (λ a. ol a || set a)) (more-granted i OL WL due due ol _ (λ b e. e) (λ b e. rw e refl)) D (g .K7);
         K9 = g .K9;
         N9 = g .N9;
       }
@@ -313,12 +409,12 @@ module _ {i kind num : ℕ} {opened : Bool} {wr : ℕ → Val} {ol wl : ℕ → 
       record {
         object = object;
         whole = whole;
-        granted = h .K7;
+        granted = none-due i OL WL due ol nowhere D (h .K7);
         behind-object = λ a e. g .N9 (pageOf a) .0 a refl e;
         behind-whole = λ p e. g .N9 p .1 e;
       }
     where
-      g : Locks i kind num opened wr ol wl OL WL latest (snoc U (Abort num)) D
+      g : Locks i kind num opened wr ol wl due OL WL latest (snoc U (Abort num)) D
       g = plain-up (Abort num) (λ p. refl) h
 
       four : latest ≡ num → 1 ≤ count (abortOf latest) (snoc U (Abort num))
@@ -327,7 +423,7 @@ module _ {i kind num : ℕ} {opened : Bool} {wr : ℕ → Val} {ol wl : ℕ → 
           omega (arith, count-snoc (abortOf latest) U (Abort num))
 
       object : (a : ℕ) → OL a ≡ suc i → 1 ≤ count (abortOf latest) (snoc U (Abort num))
-      object a e = either (g .K1a a e) (λ u. u) (λ u. either u (λ w. four (h .K9 k (w .0) a (w .1))) (λ w. absurd (omega (arith, z (pageOf a), count-less (grantsObject a) (brings (pageOf a)) (object-brings (pageOf a) a refl) D))))
+      object a e = either (g .K1a a e) (λ u. u) (λ u. either u (λ w. four (h .K9 k (w .0) a (w .1))) (λ w. absurd (omega (arith, w .0, z (pageOf a), count-less (grantsObject (pageOf a)) (brings (pageOf a)) (object-brings (pageOf a)) D))))
 
       whole : (p : ℕ) → WL p ≡ suc i → 1 ≤ count (abortOf latest) (snoc U (Abort num))
       whole p e =

@@ -9,7 +9,7 @@ use lib.Dec.{eqb, ltb}
 use Rattle.sets.specs.Base.{upd, has}
 use Rattle.sets.specs.Laws.{byB, byEq, eqb-same, eqb-yes, eqb-no, ltb-yes, ltb-no, or-no}
 use Rattle.line.specs.Messages.{pageOf, locking, Work, Up, ReadRequest, WriteRequest, Commit, Abort, Purge, Busy, Done, WrittenSet, NoLock, ObjectLock, WholeLock, Down, Page, Deescalate, Callback, Committed, Aborted, Invalidate}
-use Rattle.line.specs.Station.{Station, Wait}
+use Rattle.line.specs.Station.{Station, Wait, forWrite}
 use Rattle.line.specs.Server.{ByMessage, Server, Serving, waits, badNumber, notice, finish, join, serveNow, joinRead, joinWrite, joinCommit, unlist, commitNow, markBusy, answered, openAsk, loosen, accept, unexpected, start}
 use Rattle.line.specs.Line.{World, carryDown, sentTo}
 use Rattle.line.specs.Apart.{good-number}
@@ -20,12 +20,12 @@ use Rattle.truth.specs.Inv.{taken}
 use Rattle.truth.specs.Tokens.{both, took-up}
 use Rattle.truth.specs.GoalsLists.{either}
 use Rattle.jams.specs.Clauses.{abortOf, grantsWhole, meets, Latest, Granted, Locks, LocksOf, Orderly}
-use Rattle.jams.specs.Locks.{bare, renumbered, pop-up}
+use Rattle.jams.specs.Locks.{bare, renumbered, pop-up, NoGrants, quiet-grants}
 use Rattle.jams.specs.Freed.{freed, freed-none, new-free, answers-open}
 use Rattle.jams.specs.LocksHeld.{Ranged, ranged, meets-range, no-far-whole, loosened}
 use Rattle.jams.specs.LocksStation.{Around}
 use Rattle.jams.specs.DeescalationLayer.{late}
-use Rattle.jams.specs.LocksServer.{quiet-grants, NoGrants, LocksIn, freed-locks, commit-locks, page-locks, notice-locks, loosen-locks}
+use Rattle.jams.specs.LocksServer.{LocksIn, freed-locks, commit-locks, page-locks, notice-locks, loosen-locks}
 
 -- what is known of station j in an orderly world
 pub around : (w : World) → Orderly w → (j : ℕ) → j < 8 → Around j (w .server .kind j) (w .server .queue j) (w .server .ol) (w .server .wl) (w .server .latest j) (w .server .fin j) (w .up j) (w .down j) (w .station j)
@@ -34,32 +34,33 @@ around w h j b =
     record {
       tokens = k;
       numbers = h .numbers j b;
+      sets = h .sets j b;
       locks = h .locks j b;
       object = λ a e. let o = h .inv .apart .locks .object-open j a e in (o .unfinished, rw (k .kinds) at (o .locks));
       whole = λ p e. let o = h .inv .apart .locks .whole-open j p e in (o .unfinished, rw (k .kinds) at (o .locks));
     }
 
 -- a lock on its way names the latest, so there is none of a transaction that is over
-over-granted : (kind num : ℕ) (opened : Bool) (w : Wait) (latest : ℕ) (fin : Bool) (i : ℕ) (OL WL : ℕ → ℕ) → (opened ≡ true → latest ≡ num → ⊥) → (m : Down) → FitDown kind num opened w m → Latest num opened latest fin m → Granted i OL WL m
-over-granted kind num opened w latest fin i OL WL n (Page NoLock a t v u x) f g = tt
-over-granted kind num opened w latest fin i OL WL n (Page ObjectLock a t v u x) f g =
+over-granted : (kind num : ℕ) (opened : Bool) (w : Wait) (latest : ℕ) (fin : Bool) (i : ℕ) (OL WL : ℕ → ℕ) (due ol : ℕ → Bool) → (opened ≡ true → latest ≡ num → ⊥) → (m : Down) → FitDown kind num opened w m → Latest num opened latest fin m → Granted i OL WL due ol m
+over-granted kind num opened w latest fin i OL WL due ol n (Page NoLock a t v u x) f g = tt
+over-granted kind num opened w latest fin i OL WL due ol n (Page ObjectLock a t v u x) f g =
     let e : (opened && eqb t num) ≡ true = rw (f .alive refl, f .same refl, eqb-same num) refl in
     absurd (n (f .alive refl) (sym (g e .0) ∙ f .same refl))
-over-granted kind num opened w latest fin i OL WL n (Page WholeLock a t v u x) f g =
+over-granted kind num opened w latest fin i OL WL due ol n (Page WholeLock a t v u x) f g =
     let e : (opened && eqb t num) ≡ true = rw (f .alive refl, f .same refl, eqb-same num) refl in
     absurd (n (f .alive refl) (sym (g e .0) ∙ f .same refl))
-over-granted kind num opened w latest fin i OL WL n (Deescalate p t) f g = tt
-over-granted kind num opened w latest fin i OL WL n (Callback r t set) f g = tt
-over-granted kind num opened w latest fin i OL WL n (Committed t c) f g = tt
-over-granted kind num opened w latest fin i OL WL n (Aborted t c) f g = tt
-over-granted kind num opened w latest fin i OL WL n (Invalidate d) f g = tt
+over-granted kind num opened w latest fin i OL WL due ol n (Deescalate p t) f g = tt
+over-granted kind num opened w latest fin i OL WL due ol n (Callback r t set) f g = tt
+over-granted kind num opened w latest fin i OL WL due ol n (Committed t c) f g = tt
+over-granted kind num opened w latest fin i OL WL due ol n (Aborted t c) f g = tt
+over-granted kind num opened w latest fin i OL WL due ol n (Invalidate d) f g = tt
 
 module _ (i : ℕ) (l : List Up) (w : World) (b : i < 8) (h : Orderly w) where
   abbrev Accepted : Up → Serving → Type 0
   Accepted m x = w .up i ≡ m ∷ l → (j : ℕ) → j < 8 → LocksIn (w .station) (upd (w .up) i l) (w .down) j x
 
   -- a station's line, in the step and before it
-  line-ranged : (j : ℕ) → j < 8 → (x : Serving) → x .sent ≡ [] → Ranged (w .station j .wr) (w .down j ++ sentTo j (x .sent))
+  line-ranged : (j : ℕ) → j < 8 → (x : Serving) → x .sent ≡ [] → Ranged (w .station j .wr) (forWrite (w .station j .wait)) (w .down j ++ sentTo j (x .sent))
   line-ranged j c x e = rw (e, append-nil (w .down j)) (ranged (h .inv .tokens j))
 
   -- the others before the step
@@ -67,7 +68,7 @@ module _ (i : ℕ) (l : List Up) (w : World) (b : i < 8) (h : Orderly w) where
   others j c = rw (append-nil (w .down j)) (h .locks j c)
 
   abbrev Own : ℕ → List Up → Type 0
-  Own T U = Locks i (w .station i .kind) (w .station i .num) (w .station i .opened) (w .station i .wr) (w .station i .ol) (w .station i .wl) (w .server .ol) (w .server .wl) T U (w .down i)
+  Own T U = Locks i (w .station i .kind) (w .station i .num) (w .station i .opened) (w .station i .wr) (w .station i .ol) (w .station i .wl) (forWrite (w .station i .wait)) (w .server .ol) (w .server .wl) T U (w .down i)
 
   -- a message that is no 4 of the latest, nor an 8 that a whole lock needs
   popped : (m : Up) → abortOf (w .server .latest i) m ≡ false → ((p : ℕ) → w .server .wl p ≡ suc i → meets (w .station i .wr) p ≡ true → setOf p (w .server .latest i) m ≡ false) → w .up i ≡ m ∷ l → Own (w .server .latest i) l
@@ -116,8 +117,8 @@ module _ (i : ℕ) (l : List Up) (w : World) (b : i < 8) (h : Orderly w) where
       (λ y.
       rw (y, eqb-yes j i y, noticed-own i T (start s), noticed-sent i T (start s), append-nil (w .down i))
       (bare (a .locks .K3a) (a .locks .K3b) (freed-none i (x .server .ol)) (freed-none i (x .server .wl)) (λ k o z r e. over o (a .locks .K9 k o r e)) (λ k o r e. absurd (over o (a .locks .K9 k o r e)))
-      (all-both (FitDown (t .kind) (t .num) (t .opened) (t .wait)) (Latest (t .num) (t .opened) (s .latest i) (s .fin i)) (Granted i (freed i (x .server .ol)) (freed i (x .server .wl)))
-      (over-granted (t .kind) (t .num) (t .opened) (t .wait) (s .latest i) (s .fin i) i (freed i (x .server .ol)) (freed i (x .server .wl)) over) (w .down i) (a .tokens .S1b-down) (a .numbers .N8))))
+      (all-both (FitDown (t .kind) (t .num) (t .opened) (t .wait)) (Latest (t .num) (t .opened) (s .latest i) (s .fin i)) (Granted i (freed i (x .server .ol)) (freed i (x .server .wl)) (forWrite (t .wait)) (t .ol))
+      (over-granted (t .kind) (t .num) (t .opened) (t .wait) (s .latest i) (s .fin i) i (freed i (x .server .ol)) (freed i (x .server .wl)) (forWrite (t .wait)) (t .ol) over) (w .down i) (a .tokens .S1b-down) (a .numbers .N8))))
       (λ y.
       freed-locks (w .station) (upd (w .up) i l) (w .down) j i ByMessage x y (line-ranged j c x (noticed-sent i T (start s)))
       (notice-locks (w .station) (upd (w .up) i l) (w .down) j i T (start s) (λ z. both (eqb j i) z y) (λ z. rw z (others j c))))
@@ -140,7 +141,7 @@ module _ (i : ℕ) (l : List Up) (w : World) (b : i < 8) (h : Orderly w) where
       let held : s .wl p ≡ suc i = v .0 in
       let unended : s .fin i ≡ false = v .1 in
       let same : T ≡ s .latest i = v .2 in
-      let range : Ranged (t .wr) (w .down i) = ranged (a .tokens) in
+      let range : Ranged (t .wr) (forWrite (t .wait)) (w .down i) = ranged (a .tokens) in
       let unheld : t .wl p ≡ false =
       byB (t .wl p) (λ e. (rw q at (h .deescalation i p b (meets-range range p (a .locks .K3b p e)))) .K6d-up unended (token p T set same) .0) (λ e. e) in
       let none : count (grantsWhole p) (w .down i) ≡ 0 =
@@ -174,7 +175,7 @@ module _ (i : ℕ) (l : List Up) (w : World) (b : i < 8) (h : Orderly w) where
         read-now = λ a T n e q j c.
             page-locks (w .station) (upd (w .up) i l) (w .down) j i a _ (notice i T (start s))
             (noted (ReadRequest a T) T refl (λ p. refl) n (λ z k. (rw z at (h .inv .tokens i)) .S1b-up .0 .same (rw k refl)) q j c);
-        write-waits = λ a T n e. noted (WriteRequest a T) T refl (λ p. refl) n (λ q k. (rw q at (h .inv .tokens i)) .S1b-up .0 .same refl);
+        write-waits = λ p T set n e. noted (WriteRequest p T set) T refl (λ p. refl) n (λ q k. (rw q at (h .inv .tokens i)) .S1b-up .0 .same refl);
         commit-now = λ k n f e. commits k n;
         commit-waits = λ k n e. noted (Commit k) (k .transaction) refl (λ p. refl) n (λ q z. (rw q at (h .inv .tokens i)) .S1b-up .0 .same refl);
         aborts = λ T n e. ends T n;

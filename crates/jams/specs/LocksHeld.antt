@@ -21,41 +21,41 @@ use Rattle.jams.specs.Clauses.{abortOf, isEnd, grantsObject, grantsWhole
 use Rattle.jams.specs.Until.{until-none, until-pop}
 use Rattle.jams.specs.Locks.{meets-some}
 
--- what is written, and a lock under way, is below 256
+-- what is written or is to be is below 256, and the page of a lock under way below 32
 abbrev pub InRange : Down → Type 0
 InRange (Page NoLock a t v u x) = Unit {0}
-InRange (Page ObjectLock a t v u x) = a < 256
-InRange (Page WholeLock a t v u x) = a < 256
+InRange (Page ObjectLock a t v u x) = Unit {0}
+InRange (Page WholeLock a t v u x) = pageOf a < 32
 InRange (Deescalate p t) = Unit {0}
 InRange (Callback r t set) = Unit {0}
 InRange (Committed t n) = Unit {0}
 InRange (Aborted t c) = Unit {0}
 InRange (Invalidate d) = Unit {0}
 
-pub record Ranged (wr : ℕ → Val) (D : List Down) : Type 0 where
+pub record Ranged (wr : ℕ → Val) (due : ℕ → Bool) (D : List Down) : Type 0 where
   pub written : (a : ℕ) → has (wr a) ≡ true → a < 256
+  pub to-write : (a : ℕ) → due a ≡ true → a < 256
   pub granted : All InRange D
 
 module _ {skind kind num : ℕ} {opened : Bool} {rd wr : ℕ → Val} {w : Wait} {q : Waiter} {latest : ℕ} {fin : Bool} {U : List Up} {D : List Down} (k : Tokens skind kind num opened rd wr w q latest fin U D) where
-  lock-range : (a t : ℕ) → Fit false t num opened (lockWait kind w a) → a < 256
-  lock-range a t f =
-      let e : forWrite w a ≡ true = and-r (locking kind) _ (f .waits refl) in
-      k .range-wait a (byB (forRead w a) (λ x. rw x refl) (λ x. rw x e))
+  lock-range : (p t : ℕ) → Fit false t num opened (lockWait kind w p) → p < 32
+  lock-range p t f = k .range-page p (and-r (locking kind) _ (f .waits refl))
 
   in-range : (m : Down) → FitDown kind num opened w m → InRange m
   in-range (Page NoLock a t v u x) f = tt
-  in-range (Page ObjectLock a t v u x) f = lock-range a t f
-  in-range (Page WholeLock a t v u x) f = lock-range a t f
+  in-range (Page ObjectLock a t v u x) f = tt
+  in-range (Page WholeLock a t v u x) f = lock-range (pageOf a) t f
   in-range (Deescalate p t) f = tt
   in-range (Callback r t set) f = tt
   in-range (Committed t n) f = tt
   in-range (Aborted t c) f = tt
   in-range (Invalidate d) f = tt
 
-  pub ranged : Ranged wr D
+  pub ranged : Ranged wr (forWrite w) D
   ranged =
       record {
         written = λ a e. byB (ltb a 256) (λ f. ltb-yes a 256 f) (λ f. absurd (false≢true (sym (ap has (k .range-used a (ltb-no a 256 f) .1)) ∙ e)));
+        to-write = λ a e. k .range-wait a (byB (forRead w a) (λ x. rw x refl) (λ x. rw x e));
         granted = all-map (FitDown kind num opened w) InRange in-range D (k .S1b-down);
       }
 
@@ -71,31 +71,31 @@ far-whole p b (Aborted t c) f = refl
 far-whole p b (Invalidate d) f = refl
 
 -- a lock under way when the server's locks change
-regrant : (i : ℕ) (OL WL OL′ WL′ : ℕ → ℕ) → ((a : ℕ) → a < 256 → OL a ≡ suc i → OL′ a ≡ suc i) → (m : Down) → ((p : ℕ) → grantsWhole p m ≡ true → WL p ≡ suc i → WL′ p ≡ suc i)
-    → InRange m → Granted i OL WL m → Granted i OL′ WL′ m
-regrant i OL WL OL′ WL′ x (Page NoLock a t v u z) y f g = tt
-regrant i OL WL OL′ WL′ x (Page ObjectLock a t v u z) y f g = x a f g
-regrant i OL WL OL′ WL′ x (Page WholeLock a t v u z) y f g = y (pageOf a) (eqb-same (pageOf a)) g
-regrant i OL WL OL′ WL′ x (Deescalate r t) y f g = tt
-regrant i OL WL OL′ WL′ x (Callback r t set) y f g = tt
-regrant i OL WL OL′ WL′ x (Committed t n) y f g = tt
-regrant i OL WL OL′ WL′ x (Aborted t c) y f g = tt
-regrant i OL WL OL′ WL′ x (Invalidate d) y f g = tt
+regrant : (i : ℕ) (OL WL OL′ WL′ : ℕ → ℕ) (due ol : ℕ → Bool) → ((a : ℕ) → due a ≡ true → OL a ≡ suc i → OL′ a ≡ suc i) → (m : Down) → ((p : ℕ) → grantsWhole p m ≡ true → WL p ≡ suc i → WL′ p ≡ suc i)
+    → InRange m → Granted i OL WL due ol m → Granted i OL′ WL′ due ol m
+regrant i OL WL OL′ WL′ due ol x (Page NoLock a t v u z) y f g = tt
+regrant i OL WL OL′ WL′ due ol x (Page ObjectLock a t v u z) y f g = λ b e. either (g b e) (λ k. inl (x b e k)) (λ k. inr k)
+regrant i OL WL OL′ WL′ due ol x (Page WholeLock a t v u z) y f g = y (pageOf a) (eqb-same (pageOf a)) g
+regrant i OL WL OL′ WL′ due ol x (Deescalate r t) y f g = tt
+regrant i OL WL OL′ WL′ due ol x (Callback r t set) y f g = tt
+regrant i OL WL OL′ WL′ due ol x (Committed t n) y f g = tt
+regrant i OL WL OL′ WL′ due ol x (Aborted t c) y f g = tt
+regrant i OL WL OL′ WL′ due ol x (Invalidate d) y f g = tt
 
-module _ {wr : ℕ → Val} {D : List Down} (k : Ranged wr D) where
+module _ {wr : ℕ → Val} {due : ℕ → Bool} {D : List Down} (k : Ranged wr due D) where
   pub meets-range : (p : ℕ) → meets wr p ≡ true → p < 32
   meets-range p e = let r = meets-some wr p e in omega (arith, r .1, k .written (r .0) (r .2))
 
   pub no-far-whole : (p : ℕ) → 32 ≤ p → count (grantsWhole p) D ≡ 0
   no-far-whole p b = none-count (grantsWhole p) D (all-map InRange (λ m. grantsWhole p m ≡ false) (far-whole p b) D (k .granted))
 
-  regranted : (i : ℕ) (OL WL OL′ WL′ : ℕ → ℕ) → ((a : ℕ) → a < 256 → OL a ≡ suc i → OL′ a ≡ suc i) → ((p : ℕ) → WL p ≡ suc i → WL′ p ≡ suc i) → All (Granted i OL WL) D → All (Granted i OL′ WL′) D
-  regranted i OL WL OL′ WL′ x y g = all-both InRange (Granted i OL WL) (Granted i OL′ WL′) (λ m. regrant i OL WL OL′ WL′ x m (λ p e. y p)) D (k .granted) g
+  regranted : (i : ℕ) (OL WL OL′ WL′ : ℕ → ℕ) (ol : ℕ → Bool) → ((a : ℕ) → a < 256 → OL a ≡ suc i → OL′ a ≡ suc i) → ((p : ℕ) → WL p ≡ suc i → WL′ p ≡ suc i) → All (Granted i OL WL due ol) D → All (Granted i OL′ WL′ due ol) D
+  regranted i OL WL OL′ WL′ ol x y g = all-both InRange (Granted i OL WL due ol) (Granted i OL′ WL′ due ol) (λ m. regrant i OL WL OL′ WL′ due ol (λ a e. x a (k .to-write a e)) m (λ p e. y p)) D (k .granted) g
 
-  module _ {i kind num : ℕ} {opened : Bool} {ol wl : ℕ → Bool} {OL WL : ℕ → ℕ} {latest : ℕ} {U : List Up} (h : Locks i kind num opened wr ol wl OL WL latest U D) where
+  module _ {i kind num : ℕ} {opened : Bool} {ol wl : ℕ → Bool} {OL WL : ℕ → ℕ} {latest : ℕ} {U : List Up} (h : Locks i kind num opened wr ol wl due OL WL latest U D) where
     -- the station's own locks stay as they are
     pub relocked : (OL′ WL′ : ℕ → ℕ) → ((a : ℕ) → OL′ a ≡ suc i → OL a ≡ suc i) → ((p : ℕ) → WL′ p ≡ suc i → WL p ≡ suc i)
-        → ((a : ℕ) → a < 256 → OL a ≡ suc i → OL′ a ≡ suc i) → ((p : ℕ) → WL p ≡ suc i → WL′ p ≡ suc i) → Locks i kind num opened wr ol wl OL′ WL′ latest U D
+        → ((a : ℕ) → a < 256 → OL a ≡ suc i → OL′ a ≡ suc i) → ((p : ℕ) → WL p ≡ suc i → WL′ p ≡ suc i) → Locks i kind num opened wr ol wl due OL′ WL′ latest U D
     relocked OL′ WL′ b c x y =
         record {
           K1a = λ a e. h .K1a a (b a e);
@@ -104,44 +104,49 @@ module _ {wr : ℕ → Val} {D : List Down} (k : Ranged wr D) where
           K2b = λ l o n p e. y p (h .K2b l o n p e);
           K3a = h .K3a;
           K3b = h .K3b;
-          K7 = regranted i OL WL OL′ WL′ x y (h .K7);
+          K7 = regranted i OL WL OL′ WL′ ol x y (h .K7);
           K9 = h .K9;
           N9 = λ p. (λ a f e. h .N9 p .0 a f (b a e), λ e. h .N9 p .1 (c p e));
         }
 
-    -- 17: no drop of the page is on its way up
-    pub object-granted : (a t : ℕ) (v : ℕ → ℕ) (u : ℕ → Bool) (z : ℕ → ℕ) → count (dropped (pageOf a)) U ≡ 0
-        → Locks i kind num opened wr ol wl (upd OL a (suc i)) WL latest U (snoc D (Page ObjectLock a t v u z))
-    object-granted a t v u z n =
+    -- 17 for the page of a: no drop of it is on its way up. What is locked is what is due there and not locked yet [S7, S8]
+    pub object-granted : (set : ℕ → Bool) (a t : ℕ) (v : ℕ → ℕ) (u : ℕ → Bool) (z : ℕ → ℕ) → count (dropped (pageOf a)) U ≡ 0
+        → ((b : ℕ) → set b ≡ true → pageOf b ≡ pageOf a) → ((b : ℕ) → set b ≡ true → due b ≡ true) → ((b : ℕ) → due b ≡ true → (set b ≡ true) ⊎ (ol b ≡ true))
+        → Locks i kind num opened wr ol wl due (λ b. cond (set b) (suc i) (OL b)) WL latest U (snoc D (Page ObjectLock a t v u z))
+    object-granted set a t v u z n page named full =
         let m : Down = Page ObjectLock a t v u z in
-        let own : (b : ℕ) → OL b ≡ suc i → upd OL a (suc i) b ≡ suc i = λ b e. byEq b a (λ f. rw f refl) (λ f. rw f e) in
+        let OL′ : ℕ → ℕ = λ b. cond (set b) (suc i) (OL b) in
+        let own : (b : ℕ) → OL b ≡ suc i → OL′ b ≡ suc i = λ b e. byB (set b) (λ f. rw f refl) (λ f. rw f e) in
         let none = count-none (dropped (pageOf a)) U n in
         record {
           K1a = λ b e.
-              byEq b a (λ f. inr (inr (omega (arith, rw f at (count-snoc (grantsObject b) D m)))))
-              (λ f. either (h .K1a b (rw f at e)) (λ x. inl x) (λ x. inr (either x (λ y. inl y) (λ y. inr (omega (arith, count-snoc (grantsObject b) D m))))));
+              byB (set b)
+              (λ f.
+              let q : eqb (pageOf b) (pageOf a) ≡ true = rw (page b f) (eqb-same (pageOf a)) in
+              inr (inr (omega (arith, rw q at (count-snoc (grantsObject (pageOf b)) D m)), named b f)))
+              (λ f. either (h .K1a b (rw f at e)) (λ x. inl x) (λ x. inr (either x (λ y. inl y) (λ y. inr (omega (arith, y .0, count-snoc (grantsObject (pageOf b)) D m), y .1)))));
           K1b = λ p e. either (h .K1b p e) (λ x. inl x) (λ x. inr (either x (λ y. inl y) (λ y. inr (omega (arith, count-snoc (grantsWhole p) D m)))));
           K2a = λ l o c b e. either (h .K2a l o (omega (arith, count-snoc isEnd D m)) b e) (λ x. inl (own b x)) (λ x. inr x);
           K2b = λ l o c. h .K2b l o (omega (arith, count-snoc isEnd D m));
           K3a = h .K3a;
           K3b = h .K3b;
-          K7 = all-snoc (Granted i (upd OL a (suc i)) WL) D m (regranted i OL WL (upd OL a (suc i)) WL (λ b c. own b) (λ p e. e) (h .K7)) (rw (eqb-same a) refl);
+          K7 = all-snoc (Granted i OL′ WL due ol) D m (regranted i OL WL OL′ WL ol (λ b c. own b) (λ p e. e) (h .K7)) (λ b e. either (full b e) (λ f. inl (rw f refl)) (λ f. inr f));
           K9 = h .K9;
           N9 = λ p. (
-            λ b f e. byEq b a (λ g. until-none (abortOf latest) (dropped p) U (rw (← f, eqb-yes b a g) none)) (λ g. h .N9 p .0 b f (rw g at e)),
+            λ b f e. byB (set b) (λ g. until-none (abortOf latest) (dropped p) U (rw (← f, page b g) none)) (λ g. h .N9 p .0 b f (rw g at e)),
             λ e. h .N9 p .1 e,
           );
         }
 
     -- 18
     pub page-granted : (a t : ℕ) (v : ℕ → ℕ) (u : ℕ → Bool) (z : ℕ → ℕ) → count (dropped (pageOf a)) U ≡ 0
-        → Locks i kind num opened wr ol wl OL (upd WL (pageOf a) (suc i)) latest U (snoc D (Page WholeLock a t v u z))
+        → Locks i kind num opened wr ol wl due OL (upd WL (pageOf a) (suc i)) latest U (snoc D (Page WholeLock a t v u z))
     page-granted a t v u z n =
         let m : Down = Page WholeLock a t v u z in
         let own : (p : ℕ) → WL p ≡ suc i → upd WL (pageOf a) (suc i) p ≡ suc i = λ p e. byEq p (pageOf a) (λ f. rw f refl) (λ f. rw f e) in
         let none = count-none (dropped (pageOf a)) U n in
         record {
-          K1a = λ b e. either (h .K1a b e) (λ x. inl x) (λ x. inr (either x (λ y. inl y) (λ y. inr (omega (arith, count-snoc (grantsObject b) D m)))));
+          K1a = λ b e. either (h .K1a b e) (λ x. inl x) (λ x. inr (either x (λ y. inl y) (λ y. inr (omega (arith, y .0, count-snoc (grantsObject (pageOf b)) D m), y .1))));
           K1b = λ p e.
               byEq p (pageOf a) (λ f. inr (inr (omega (arith, rw f at (count-snoc (grantsWhole p) D m)))))
               (λ f. either (h .K1b p (rw f at e)) (λ x. inl x) (λ x. inr (either x (λ y. inl y) (λ y. inr (omega (arith, count-snoc (grantsWhole p) D m))))));
@@ -149,7 +154,7 @@ module _ {wr : ℕ → Val} {D : List Down} (k : Ranged wr D) where
           K2b = λ l o c p e. own p (h .K2b l o (omega (arith, count-snoc isEnd D m)) p e);
           K3a = h .K3a;
           K3b = h .K3b;
-          K7 = all-snoc (Granted i OL (upd WL (pageOf a) (suc i))) D m (regranted i OL WL OL (upd WL (pageOf a) (suc i)) (λ b c e. e) own (h .K7)) (rw (eqb-same (pageOf a)) refl);
+          K7 = all-snoc (Granted i OL (upd WL (pageOf a) (suc i)) due ol) D m (regranted i OL WL OL (upd WL (pageOf a) (suc i)) ol (λ b c e. e) own (h .K7)) (rw (eqb-same (pageOf a)) refl);
           K9 = h .K9;
           N9 = λ p. (
             λ b f e. h .N9 p .0 b f e,
@@ -158,13 +163,13 @@ module _ {wr : ℕ → Val} {D : List Down} (k : Ranged wr D) where
         }
 
 -- 8 of page p: its set is written, or the 4 is under way; what is written on the page is in it or locked already
-pub loosened : {i kind num : ℕ} {opened : Bool} {wr : ℕ → Val} {ol wl : ℕ → Bool} {OL WL : ℕ → ℕ} {latest : ℕ} {U : List Up} {D : List Down} (p t : ℕ) (set : ℕ → Bool)
-    → Ranged wr D → Locks i kind num opened wr ol wl OL WL latest (WrittenSet p t set ∷ U) D
+pub loosened : {i kind num : ℕ} {opened : Bool} {wr : ℕ → Val} {ol wl due : ℕ → Bool} {OL WL : ℕ → ℕ} {latest : ℕ} {U : List Up} {D : List Down} (p t : ℕ) (set : ℕ → Bool)
+    → Ranged wr due D → Locks i kind num opened wr ol wl due OL WL latest (WrittenSet p t set ∷ U) D
     → WL p ≡ suc i → wl p ≡ false → count (grantsWhole p) D ≡ 0
     → (1 ≤ count (abortOf latest) U) ⊎ ((opened ≡ true) × ((a : ℕ) → set a ≡ true → has (wr a) ≡ true))
     → (locking kind ≡ true → opened ≡ true → (a : ℕ) → pageOf a ≡ p → has (wr a) ≡ true → (set a ≡ true) ⊎ (OL a ≡ suc i))
-    → Locks i kind num opened wr ol wl (λ a. cond (eqb (pageOf a) p && set a) (suc i) (OL a)) (upd WL p 0) latest U D
-loosened {i = i} {OL = OL} {WL = WL} {latest = latest} {U = U} {D = D} p t set k h e unheld none sub full =
+    → Locks i kind num opened wr ol wl due (λ a. cond (eqb (pageOf a) p && set a) (suc i) (OL a)) (upd WL p 0) latest U D
+loosened {i = i} {ol = ol} {due = due} {OL = OL} {WL = WL} {latest = latest} {U = U} {D = D} p t set k h e unheld none sub full =
     let m : Up = WrittenSet p t set in
     record {
       K1a = λ a x.
@@ -181,8 +186,8 @@ loosened {i = i} {OL = OL} {WL = WL} {latest = latest} {U = U} {D = D} p t set k
       K3a = h .K3a;
       K3b = h .K3b;
       K7 =
-          all-both (λ n. InRange n × (grantsWhole p n ≡ false)) (Granted i OL WL) (Granted i (λ a. cond (eqb (pageOf a) p && set a) (suc i) (OL a)) (upd WL p 0))
-          (λ n x g. regrant i OL WL _ _ (λ a b. own a) n (λ r u v. byEq r p (λ f. absurd (false≢true (sym (x .1) ∙ (rw (← eqb-yes r p f) u)))) (λ f. rw f v)) (x .0) g)
+          all-both (λ n. InRange n × (grantsWhole p n ≡ false)) (Granted i OL WL due ol) (Granted i (λ a. cond (eqb (pageOf a) p && set a) (suc i) (OL a)) (upd WL p 0) due ol)
+          (λ n x g. regrant i OL WL _ _ due ol (λ a b. own a) n (λ r u v. byEq r p (λ f. absurd (false≢true (sym (x .1) ∙ (rw (← eqb-yes r p f) u)))) (λ f. rw f v)) (x .0) g)
           D (all-both InRange (λ n. grantsWhole p n ≡ false) (λ n. InRange n × (grantsWhole p n ≡ false)) (λ n x y. (x, y)) D (k .granted) (count-none (grantsWhole p) D none)) (h .K7);
       K9 = h .K9;
       N9 = λ r. (

@@ -7,25 +7,26 @@ use Prim.Native.Nat.{ℕ, zero, suc, _≤_, _<_}
 use native.Mathlib.Omega.{arith}
 use lib.Dec.{eqb}
 use Rattle.sets.specs.Base.{upd}
-use Rattle.sets.specs.Laws.{byEq, eqb-same, eqb-yes, eqb-no}
+use Rattle.sets.specs.Laws.{byEq, eqb-same, eqb-yes, eqb-no, and-r}
 use Rattle.line.specs.Messages.{pageOf, locking, Up, Down}
-use Rattle.line.specs.Station.{Station, Did, stationStep}
+use Rattle.line.specs.Station.{Station, Did, stationStep, writesTo}
 use Rattle.line.specs.Server.{Server, Serving, WantWrite, waits, installWaiter}
 use Rattle.line.specs.Pass.{Clear}
 use Rattle.line.specs.Apart.{passed}
 use Rattle.line.specs.Runs.{tell-keeps}
 use Rattle.line.specs.Line.{World, worldDown, Op, perform, carryUp, carryDown, isRefused, fresh}
 use Rattle.line.specs.Truth.{count}
-use Rattle.truth.specs.Clauses.{dropped}
+use Rattle.truth.specs.Clauses.{dropped, Shape, FitWaiter}
 use Rattle.truth.specs.Inv.{afterOwner, afterStation, Acts, Over}
-use Rattle.truth.specs.Tokens.{left-quiet}
+use Rattle.truth.specs.Tokens.{left-quiet, in-page}
 use Rattle.truth.specs.Exclusion.{lines, Known, known-in}
-use Rattle.truth.specs.ExclusionPass.{held, write-range, write-wants}
-use Rattle.jams.specs.Clauses.{LocksAt, LocksOf, Orderly}
+use Rattle.truth.specs.ExclusionPass.{held, write-page, write-some, write-wants}
+use Rattle.jams.specs.Clauses.{LocksAt, LocksOf, Orderly, NamesSet}
 use Rattle.jams.specs.LocksHeld.{ranged}
 use Rattle.jams.specs.LocksStation.{owner-locks, station-locks}
-use Rattle.jams.specs.LocksServer.{NoGrants, quiet-grants, LocksIn, LineTo, RangedIn, abort-locks, install-locks, ask-locks, read-locks, call-locks, object-locks, whole-locks}
+use Rattle.jams.specs.LocksServer.{LocksIn, LineTo, RangedIn, abort-locks, install-locks, ask-locks, read-locks, call-locks, object-locks, whole-locks}
 use Rattle.jams.specs.LocksAccept.{around, locks-accepted}
+use Rattle.jams.specs.Locks.{NoGrants, quiet-grants}
 
 -- THE START
 
@@ -102,15 +103,31 @@ module _ (w : World) (x : Serving) (h : Orderly (carryDown x w)) where
         none zero f = refl
         none (suc n) f = absurd (f (omega arith))
 
-    -- no other has the object locked, nor its page
-    open-object : Clear i x → (j : ℕ) → eqb j i ≡ false → x .server .ol (x .server .queue i .req) ≢ suc j
-    open-object c j n z =
-        held (x .server) (w .station) (w .up) (lines (w .down) x) i b seen (x .server .queue i .req)
-        (write-range (x .server) (w .station) (w .up) (lines (w .down) x) i b seen e) (write-wants (x .server) (w .station) (w .up) (lines (w .down) x) i b seen e) (rw e refl) (c .unblocked) j z n
+    -- no other has one of the objects locked, nor their page
+    open-objects : Clear i x → (j : ℕ) → eqb j i ≡ false → (a : ℕ) → x .server .queue i .writes a ≡ true → a < 256 → x .server .ol a ≢ suc j
+    open-objects c j n a v l z =
+        held (x .server) (w .station) (w .up) (lines (w .down) x) i b seen a l (write-wants (x .server) (w .station) (w .up) (lines (w .down) x) i b seen a v) (rw e refl) (c .unblocked) j z n
 
     open-page : Clear i x → (j : ℕ) → eqb j i ≡ false → x .server .wl (pageOf (x .server .queue i .req)) ≢ suc j
     open-page c j n z =
-        eqb-no j i n (passed i x b (seen .apart) e c (write-range (x .server) (w .station) (w .up) (lines (w .down) x) i b seen e) j z)
+        let r = write-some (x .server) (w .station) (w .up) (lines (w .down) x) i b seen e in
+        let l = in-page (write-page (x .server) (w .station) (w .up) (lines (w .down) x) i b seen e) (r .2) in
+        eqb-no j i n (passed i x b (seen .apart) c (r .0) (r .1) l j (rw (r .2) z))
+
+    -- its objects are of one page [S7], and they are what is to be written and has no lock yet [S8]
+    one-page : (a : ℕ) → x .server .queue i .writes a ≡ true → pageOf a ≡ pageOf (x .server .queue i .req)
+    unfolding carryDown
+    one-page a v = let z : Shape WantWrite (x .server .queue i) = rw e at (h .inv .tokens i .S7) in z .1 a v
+
+    asked-page : writesTo (w .station i .wait) (pageOf (x .server .queue i .req)) ≡ true
+    unfolding carryDown
+    asked-page =
+        let z : FitWaiter (w .station i .kind) (w .station i .num) (w .station i .opened) (w .station i .wait) (x .server .latest i) WantWrite (x .server .queue i .req) = rw e at (h .inv .tokens i .S1b-waiter) in
+        and-r (locking (w .station i .kind)) _ (z .waits refl)
+
+    names : NamesSet (w .station i .wait) (w .station i .ol) (pageOf (x .server .queue i .req)) (x .server .queue i .writes)
+    unfolding carryDown
+    names = h .sets i b .S8-waiter e
 
 locks-acts : (w : World) → Acts (λ x. Orderly (carryDown x w)) (λ x. LocksOf (carryDown x w))
 unfolding carryDown installWaiter
@@ -123,7 +140,10 @@ locks-acts w =
       asks = λ i g p x b e f h j a. ask-locks t u d j g p x (under w x h j a);
       reads = λ i x b e c h j a. read-locks t u d j i x (under w x h j a);
       calls = λ i x b e f n c h j a. call-locks t u d j i x (under w x h j a);
-      objects = λ i x b e c h j a. object-locks t u d j i x (range w x h j) (undropped w x h i b e) (open-object w x h i b e (c .clear) j) (under w x h j a);
+      objects = λ i x b e c h j a.
+          let q = names w x h i b e (asked-page w x h i b e) in
+          object-locks t u d j i x (range w x h j) (undropped w x h i b e) (open-objects w x h i b e (c .clear) j)
+          (one-page w x h i b e) (λ k v. q .0 k (one-page w x h i b e k v) v) (q .1) (under w x h j a);
       pages = λ i x b e c f h j a. whole-locks t u d j i x (range w x h j) (undropped w x h i b e) (open-page w x h i b e (c .clear) j) (under w x h j a);
       installs = λ i x b e f c h j a. install-locks t u d j i (x .server .queue i .work) x (range w x h j) (λ q. rw (eqb-yes j i q) (waiter-quiet w x h i (rw e refl))) (under w x h j a);
     }

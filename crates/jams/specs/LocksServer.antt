@@ -3,7 +3,7 @@
 use mathlib.Core.Path.{_≡_, refl, sym, ap, _∙_}
 use mathlib.Core.Bool.{Bool, true, false, _&&_, cond, false≢true}
 use mathlib.Core.List.{List, _++_}
-use mathlib.Core.Logic.{_≢_}
+use mathlib.Core.Logic.{_≢_, _⊎_}
 use Prim.Native.Nat.{ℕ, suc, _+_, _<_}
 use native.Mathlib.Omega.{arith}
 use lib.Dec.{eqb}
@@ -11,8 +11,8 @@ use Rattle.sets.specs.Base.{upd, upd2, has}
 use Rattle.sets.specs.Laws.{byB, byEq, eqb-yes, eqb-no, and-l}
 use Rattle.line.specs.All.{All, all-map}
 use Rattle.line.specs.Messages.{pageOf, lastNumber, Work, Up, NoLock, ObjectLock, WholeLock, Down, Page, Deescalate, Callback, Committed, Aborted, Invalidate}
-use Rattle.line.specs.Station.{Station}
-use Rattle.line.specs.Server.{Server, Serving, onServer, send, setListed, setAsked, Waiter, valuesOn, unavailable, notice, finish, leave, sendPage, abort, write, archive, install, commitNow, loosen, ask, serveRead, concerned, call, grantObject, grantPage, End, ByCommit, ByCause}
+use Rattle.line.specs.Station.{Station, forWrite}
+use Rattle.line.specs.Server.{Server, Serving, onServer, send, setListed, setAsked, Waiter, valuesOn, unavailable, notice, finish, leave, sendPage, abort, write, archive, install, commitNow, loosen, ask, serveRead, concerned, call, grantObject, grantPage, End, ByCommit, ByCause, wrotePage}
 use Rattle.line.specs.Line.{sentTo}
 use Rattle.line.specs.Truth.{count}
 use Rattle.truth.specs.Clauses.{stale, tokenDown, dropped}
@@ -20,29 +20,9 @@ use Rattle.truth.specs.Frame.{count-snoc, count-none, all-snoc, send-own, call-
 use Rattle.truth.specs.Tokens.{Quiet}
 use Rattle.truth.specs.CallbacksServer.{send-to, send-past}
 use Rattle.jams.specs.Clauses.{isEnd, Granted, Locks, LocksAt}
-use Rattle.jams.specs.Locks.{bare, push-down}
+use Rattle.jams.specs.Locks.{bare, push-down, NoGrants}
 use Rattle.jams.specs.Freed.{freed, freed-none, freed-back, freed-fore}
 use Rattle.jams.specs.LocksHeld.{Ranged, relocked, object-granted, page-granted}
-
--- no token is on its way down, so no lock
-token-granted : (old : ℕ → Bool) (j : ℕ) (OL WL : ℕ → ℕ) (m : Down) → tokenDown old m ≡ false → Granted j OL WL m
-token-granted old j OL WL (Page NoLock a t v u x) e = tt
-token-granted old j OL WL (Page ObjectLock a t v u x) e = absurd (false≢true (sym e))
-token-granted old j OL WL (Page WholeLock a t v u x) e = absurd (false≢true (sym e))
-token-granted old j OL WL (Deescalate p t) e = tt
-token-granted old j OL WL (Callback r t set) e = tt
-token-granted old j OL WL (Committed t n) e = tt
-token-granted old j OL WL (Aborted t c) e = tt
-token-granted old j OL WL (Invalidate d) e = tt
-
--- whatever the server's locks, none is on its way to station j
-abbrev pub NoGrants : ℕ → List Down → Type 0
-NoGrants j D = (OL WL : ℕ → ℕ) → All (Granted j OL WL) D
-
-pub quiet-grants : {skind kind num : ℕ} {opened : Bool} {q : Waiter} {U : List Up} {D : List Down} → Quiet skind kind num opened q U D → (j : ℕ) → NoGrants j D
-quiet-grants {kind = kind} {num = num} {opened = opened} {D = D} h j OL WL =
-    let old : ℕ → Bool = stale kind num opened in
-    all-map (λ m. tokenDown old m ≡ false) (Granted j OL WL) (token-granted old j OL WL) D (count-none (tokenDown old) D (h .no-down))
 
 abbrev pub LocksIn : (ℕ → Station) → (ℕ → List Up) → (ℕ → List Down) → ℕ → Serving → Type 0
 LocksIn t u d j x = LocksAt (x .server) t u (λ k. d k ++ sentTo k (x .sent)) j
@@ -53,9 +33,9 @@ module _ (t : ℕ → Station) (u : ℕ → List Up) (d : ℕ → List Down) (j 
   LineTo x = d j ++ sentTo j (x .sent)
 
   abbrev pub RangedIn : Serving → Type 0
-  RangedIn x = Ranged (t j .wr) (LineTo x)
+  RangedIn x = Ranged (t j .wr) (forWrite (t j .wait)) (LineTo x)
 
-  pub send-locks : (i : ℕ) (m : Down) (x : Serving) → (eqb j i ≡ true → Granted j (x .server .ol) (x .server .wl) m) → LocksIn t u d j x → LocksIn t u d j (send x i m)
+  pub send-locks : (i : ℕ) (m : Down) (x : Serving) → (eqb j i ≡ true → Granted j (x .server .ol) (x .server .wl) (forWrite (t j .wait)) (t j .ol) m) → LocksIn t u d j x → LocksIn t u d j (send x i m)
   send-locks i m x g h = byEq j i (λ e. rw (send-to i j (d j) (x .sent) m e) (push-down m (g e) h)) (λ e. rw (send-past i j (d j) (x .sent) m e) h)
 
   -- ENDS
@@ -68,7 +48,7 @@ module _ (t : ℕ → Station) (u : ℕ → List Up) (d : ℕ → List Down) (j 
       relocked k h (freed i (s .ol)) (freed i (s .wl)) (freed-back i j (s .ol)) (freed-back i j (s .wl)) (λ a b. freed-fore i j (s .ol) a f) (λ p. freed-fore i j (s .wl) p f)
 
   -- .. and 21 or 22 goes to i, to which no lock is on its way
-  ended-locks : (i : ℕ) (n : End) (m : Down) (x : Serving) → isEnd m ≡ true → ((OL WL : ℕ → ℕ) → Granted j OL WL m) → RangedIn x → (eqb j i ≡ true → NoGrants j (LineTo x)) → LocksIn t u d j x → LocksIn t u d j (send (finish i n x) i m)
+  ended-locks : (i : ℕ) (n : End) (m : Down) (x : Serving) → isEnd m ≡ true → ((OL WL : ℕ → ℕ) (due ol : ℕ → Bool) → Granted j OL WL due ol m) → RangedIn x → (eqb j i ≡ true → NoGrants j (LineTo x)) → LocksIn t u d j x → LocksIn t u d j (send (finish i n x) i m)
   unfolding finish
   ended-locks i n m x e q k g h =
       let s : Server = x .server in
@@ -77,19 +57,19 @@ module _ (t : ℕ → Station) (u : ℕ → List Up) (d : ℕ → List Down) (j 
       let none : (L : ℕ → ℕ) (a : ℕ) → freed i L a ≢ suc j = λ L a z. freed-none i L a (z ∙ ap suc (eqb-yes j i f)) in
       rw (send-to i j (d j) (x .sent) m f)
       (bare (h .K3a) (h .K3b) (none (s .ol)) (none (s .wl)) (λ l o v a w. absurd (omega (arith, rw e at (count-snoc isEnd (LineTo x) m)))) (h .K9)
-      (all-snoc (Granted j (freed i (s .ol)) (freed i (s .wl))) (LineTo x) m (g f (freed i (s .ol)) (freed i (s .wl))) (q (freed i (s .ol)) (freed i (s .wl))))))
+      (all-snoc (Granted j (freed i (s .ol)) (freed i (s .wl)) (forWrite (t j .wait)) (t j .ol)) (LineTo x) m (g f (freed i (s .ol)) (freed i (s .wl)) (forWrite (t j .wait)) (t j .ol)) (q (freed i (s .ol)) (freed i (s .wl)) (forWrite (t j .wait)) (t j .ol)))))
       (λ f. rw (send-past i j (d j) (x .sent) m f) (freed-locks i n x f k h))
 
   pub abort-locks : (i c : ℕ) (x : Serving) → RangedIn x → (eqb j i ≡ true → NoGrants j (LineTo x)) → LocksIn t u d j x → LocksIn t u d j (abort i c x)
   unfolding abort leave
-  abort-locks i c x k g h = ended-locks i (ByCause c) (Aborted _ c) (leave i x) refl (λ OL WL. tt) k g h
+  abort-locks i c x k g h = ended-locks i (ByCause c) (Aborted _ c) (leave i x) refl (λ OL WL due ol. tt) k g h
 
   pub install-locks : (i : ℕ) (w : Work) (x : Serving) → RangedIn x → (eqb j i ≡ true → NoGrants j (LineTo x)) → LocksIn t u d j x → LocksIn t u d j (install i w x)
   unfolding archive write leave
   install-locks i w x k g h =
       installs (LocksIn t u d j) i w
       (λ n y e z. send-locks n (Invalidate (λ a. has (w .writes a))) y (λ f. tt) z)
-      x (ended-locks i ByCommit (Committed (w .transaction) _) (archive i w (write w (leave i x))) refl (λ OL WL. tt) k g h)
+      x (ended-locks i ByCommit (Committed (w .transaction) _) (archive i w (write w (leave i x))) refl (λ OL WL due ol. tt) k g h)
 
   pub commit-locks : (i : ℕ) (w : Work) (x : Serving) → RangedIn x → (eqb j i ≡ true → NoGrants j (LineTo x)) → LocksIn t u d j x → LocksIn t u d j (commitNow i w x)
   unfolding commitNow
@@ -119,23 +99,27 @@ module _ (t : ℕ → Station) (u : ℕ → List Up) (d : ℕ → List Down) (j 
       byB (concerned s i j) (λ e. rw (call-own s i j (d j) (x .sent) e) (push-down (Callback i (s .latest i) (s .queue i .writes)) tt h))
       (λ e. rw (call-far s i j (d j) (x .sent) e) h)
 
-  -- 17: no drop of the page is on its way up, and no other has the object locked
-  pub object-locks : (i : ℕ) (x : Serving) → RangedIn x → count (dropped (pageOf (x .server .queue i .req))) (u i) ≡ 0 → (eqb j i ≡ false → x .server .ol (x .server .queue i .req) ≢ suc j) → LocksIn t u d j x → LocksIn t u d j (grantObject i x)
+  -- 17: no drop of the page is on its way up, and no other has one of the objects locked; what its station has to write is named [S7, S8]
+  pub object-locks : (i : ℕ) (x : Serving) → RangedIn x → count (dropped (pageOf (x .server .queue i .req))) (u i) ≡ 0 → (eqb j i ≡ false → (a : ℕ) → x .server .queue i .writes a ≡ true → a < 256 → x .server .ol a ≢ suc j)
+      → ((b : ℕ) → x .server .queue i .writes b ≡ true → pageOf b ≡ pageOf (x .server .queue i .req)) → ((b : ℕ) → x .server .queue i .writes b ≡ true → forWrite (t i .wait) b ≡ true)
+      → ((b : ℕ) → forWrite (t i .wait) b ≡ true → (x .server .queue i .writes b ≡ true) ⊎ (t i .ol b ≡ true))
+      → LocksIn t u d j x → LocksIn t u d j (grantObject i x)
   unfolding grantObject sendPage leave
-  object-locks i x k n f h =
+  object-locks i x k n f page named full h =
       let s : Server = x .server in
       let a : ℕ = s .queue i .req in
+      let set : ℕ → Bool = s .queue i .writes in
       let m : Down = Page ObjectLock a (s .latest i) (valuesOn (pageOf a) (s .ver)) (unavailable s i a) (valuesOn (pageOf a) (s .val)) in
       byEq j i
       (λ e.
       let k′ = rw (eqb-yes j i e) at k in
       let h′ = rw (eqb-yes j i e) at h in
-      rw (eqb-yes j i e, send-own i (d i) (x .sent) m) (object-granted k′ h′ a _ _ _ _ n))
+      rw (eqb-yes j i e, send-own i (d i) (x .sent) m) (object-granted k′ h′ set a _ _ _ _ n page named full))
       (λ e.
       rw (send-past i j (d j) (x .sent) m e)
-      (relocked k h (upd (s .ol) a (suc i)) (s .wl)
-      (λ b z. byEq b a (λ y. let v : suc i ≡ suc j = rw y at z in absurd (eqb-no j i e (omega arith))) (λ y. rw y at z)) (λ p z. z)
-      (λ b c z. byEq b a (λ y. absurd (f e (rw (eqb-yes b a y) at z))) (λ y. rw y z)) (λ p z. z)))
+      (relocked k h (λ b. cond (set b) (suc i) (s .ol b)) (s .wl)
+      (λ b z. byB (set b) (λ y. let v : suc i ≡ suc j = rw y at z in absurd (eqb-no j i e (omega arith))) (λ y. rw y at z)) (λ p z. z)
+      (λ b c z. byB (set b) (λ y. absurd (f e b y c z)) (λ y. rw y z)) (λ p z. z)))
 
   -- 18: .. and no other has the page locked whole
   pub whole-locks : (i : ℕ) (x : Serving) → RangedIn x → count (dropped (pageOf (x .server .queue i .req))) (u i) ≡ 0 → (eqb j i ≡ false → x .server .wl (pageOf (x .server .queue i .req)) ≢ suc j) → LocksIn t u d j x → LocksIn t u d j (grantPage i x)
@@ -157,7 +141,7 @@ module _ (t : ℕ → Station) (u : ℕ → List Up) (d : ℕ → List Down) (j 
 
   -- ACCEPT
 
-  pub notice-locks : (i T : ℕ) (x : Serving) → (eqb j i ≡ true → Locks j (t j .kind) (t j .num) (t j .opened) (t j .wr) (t j .ol) (t j .wl) (x .server .ol) (x .server .wl) T (u j) (LineTo x)) → (eqb j i ≡ false → LocksIn t u d j x) → LocksIn t u d j (notice i T x)
+  pub notice-locks : (i T : ℕ) (x : Serving) → (eqb j i ≡ true → Locks j (t j .kind) (t j .num) (t j .opened) (t j .wr) (t j .ol) (t j .wl) (forWrite (t j .wait)) (x .server .ol) (x .server .wl) T (u j) (LineTo x)) → (eqb j i ≡ false → LocksIn t u d j x) → LocksIn t u d j (notice i T x)
   notice-locks i T x f g = rw (noticed-ol i T x, noticed-wl i T x, noticed-sent i T x, noticed-latest i T x j) (byEq j i (λ e. rw e (f e)) (λ e. rw e (g e)))
 
   -- 8 of station i, which has the page locked whole: another's locks stay

@@ -1,31 +1,42 @@
 -- The moves of station i and its owner, and the station's locks.
 use mathlib.Core.Path.{_≡_, refl, sym, _∙_}
-use mathlib.Core.Bool.{Bool, true, false, _&&_, _||_, cond, false≢true}
+use mathlib.Core.Bool.{Bool, true, false, _&&_, _||_, cond, false≢true, not}
 use mathlib.Core.List.{List, [], _∷_, _++_}
 use mathlib.Core.Logic.{inl, inr}
-use Prim.Native.Nat.{ℕ, suc, _+_}
+use Prim.Native.Nat.{ℕ, suc, _+_, _%_}
 use lib.Dec.{eqb}
-use Rattle.sets.specs.Base.{upd, nowhere, noneAt, some, has}
-use Rattle.sets.specs.Laws.{byB, byEq, eqb-same, eqb-yes, and-l, and-r, or-yes}
-use Rattle.line.specs.Messages.{pageOf, locking, Up, ReadRequest, WriteRequest, Commit, Abort, Purge, Busy, Done, WrittenSet, Lock, NoLock, ObjectLock, WholeLock, Down, Page, Deescalate, Callback, Committed, Aborted, Invalidate, Written, AbortedFor}
-use Rattle.line.specs.Station.{Station, Did, does, requested, live, usedPage, workOf, drops, mark, dropPages, recordRead, writeLocal, doCallback, closed, close, undo, readLocal, readAsk, writeAsk, arrive, takeLock, writtenOn, loosen, onDeescalate, onCommitted, onAborted, stationStep}
+use Rattle.sets.specs.Base.{upd, nowhere, noneAt, some, has, Val}
+use Rattle.sets.specs.Laws.{byB, byEq, eqb-same, eqb-yes, and-l, and-r, or-yes, any-no, not-no}
+use Rattle.line.specs.Messages.{pageOf, locking, Up, ReadRequest, WriteRequest, Commit, Abort, Purge, Busy, Done, WrittenSet, Lock, NoLock, ObjectLock, WholeLock, Down, Page, Deescalate, Callback, Committed, Aborted, Invalidate, Written, AbortedFor, address}
+use Rattle.line.specs.Station.{Station, Did, does, requested, live, usedPage, workOf, drops, mark, dropPages, recordRead, writeLocal, doCallback, closed, close, undo, readLocal, readAsk, writeAsk, arrive, takeLock, writtenOn, loosen, onDeescalate, onCommitted, onAborted, stationStep, Wait, Idle, ForRead, ForWrite, ForCommit, waiting, forWrite, someOn, mayWrite, named, ofPage}
 use Rattle.line.specs.Server.{Waiter}
 use Rattle.line.specs.Line.{Op, perform, isRefused}
-use Rattle.truth.specs.Clauses.{Tokens}
-use Rattle.truth.specs.Frame.{append-nil, append-assoc, Owns, performs, closes, isLock, arrived, Takes, takes}
-use Rattle.truth.specs.Tokens.{both, idle-quiet}
-use Rattle.truth.specs.Coverage.{unused, tokens-unasked, quiet-unasked, drops-unused, drops-unasked}
-use Rattle.jams.specs.Clauses.{meets, Numbers, Locks}
-use Rattle.jams.specs.Locks.{Settled, Leaving, settled-add, settled-locks, free, meets-yes, meets-some, push-up, plain-up, pop-down, unused-leaving, began, writes, splits, aborts}
+use Rattle.truth.specs.Clauses.{Tokens, dropped}
+use Rattle.truth.specs.Frame.{append-nil, append-assoc, Owns, performs, closes, isLock, arrived, Takes, takes, ForPage}
+use Rattle.truth.specs.Tokens.{both, idle-quiet, Quiet, took-down, live-hot}
+use Rattle.truth.specs.Coverage.{unused, tokens-unasked, quiet-unasked, drops-unused, drops-unasked, on-page}
+use Rattle.jams.specs.Clauses.{meets, Numbers, Locks, Sets}
+use Rattle.jams.specs.Locks.{Settled, Leaving, settled-add, settled-locks, free, meets-yes, meets-some, push-up, plain-up, pop-down, unused-leaving, began, writes, splits, aborts, over, wrote-now, rewaits, none-due, quiet-grants, quiet-objects}
+use native.Mathlib.Omega.{arith}
+use Rattle.truth.specs.GoalsLists.{either}
+use Rattle.line.specs.Asks.{Asks}
 
 -- what is known of station i and of the locks that the server says it has
 pub record Around (i skind : ℕ) (q : Waiter) (OL WL : ℕ → ℕ) (latest : ℕ) (fin : Bool) (U : List Up) (D : List Down) (s : Station) : Type 0 where
   pub tokens : Tokens skind (s .kind) (s .num) (s .opened) (s .rd) (s .wr) (s .wait) q latest fin U D
   pub numbers : Numbers (s .kind) (s .num) (s .opened) latest fin U D
-  pub locks : Locks i (s .kind) (s .num) (s .opened) (s .wr) (s .ol) (s .wl) OL WL latest U D
+  pub sets : Sets (s .wait) (s .ol) q U
+  pub locks : Locks i (s .kind) (s .num) (s .opened) (s .wr) (s .ol) (s .wl) (forWrite (s .wait)) OL WL latest U D
   -- who has a lock is unfinished and locking
   pub object : (a : ℕ) → OL a ≡ suc i → (fin ≡ false) × (locking (s .kind) ≡ true)
   pub whole : (p : ℕ) → WL p ≡ suc i → (fin ≡ false) × (locking (s .kind) ≡ true)
+
+-- a set of which nothing is named is under locks
+pub may-write : (s : Station) (p : ℕ) (f : ℕ → Val) → Asks p f → someOn p (named f s) ≡ false → (a : ℕ) → has (f a) ≡ true → mayWrite a s ≡ true
+may-write s p f b e a w =
+    let z : named f s (address p (a % 8)) ≡ false = any-no 8 (λ o. named f s (address p o)) e (a % 8) (omega arith) in
+    let y : (has (f a) && not (mayWrite a s)) ≡ false = rw (on-page a p (b .page-only a w)) at z in
+    not-no (mayWrite a s) (rw w at y)
 
 -- nothing is written on a page not used
 unmet : (s : Station) (p : ℕ) → usedPage s p ≡ false → meets (s .wr) p ≡ false
@@ -42,7 +53,7 @@ leaving {s = s} h p n r =
 module _ (i skind : ℕ) (q : Waiter) (OL WL : ℕ → ℕ) (latest : ℕ) (fin : Bool) (U : List Up) (D : List Down) where
   -- the station did d, from up line U
   abbrev pub LocksDid : Did → Type 0
-  LocksDid d = Locks i (d .station .kind) (d .station .num) (d .station .opened) (d .station .wr) (d .station .ol) (d .station .wl) OL WL latest (U ++ d .sent) D
+  LocksDid d = Locks i (d .station .kind) (d .station .num) (d .station .opened) (d .station .wr) (d .station .ol) (d .station .wl) (forWrite (d .station .wait)) OL WL latest (U ++ d .sent) D
 
   -- its transaction is closed, and every lock has its 4 under way
   record Ending (d : Did) : Type 0 where
@@ -51,6 +62,7 @@ module _ (i skind : ℕ) (q : Waiter) (OL WL : ℕ → ℕ) (latest : ℕ) (fin 
     wr : d .station .wr ≡ noneAt
     ol : d .station .ol ≡ nowhere
     wl : d .station .wl ≡ nowhere
+    wait : d .station .wait ≡ Idle
 
   ends : (d : Did) → Settled i OL WL latest (U ++ d .sent) D → LocksDid (close d)
   unfolding closed doCallback dropPages mark
@@ -64,23 +76,31 @@ module _ (i skind : ℕ) (q : Waiter) (OL WL : ℕ → ℕ) (latest : ℕ) (fin 
         wr = h .wr;
         ol = h .ol;
         wl = h .wl;
+        wait = h .wait;
       })
-      d (record { settled = g; opened = refl; wr = refl; ol = refl; wl = refl }) in
-      rw (e .opened, e .wr, e .ol, e .wl) (settled-locks (e .settled) ((close d) .station .kind) ((close d) .station .num))
+      d (record { settled = g; opened = refl; wr = refl; ol = refl; wl = refl; wait = refl }) in
+      rw (e .opened, e .wr, e .ol, e .wl, e .wait) (settled-locks (e .settled) ((close d) .station .kind) ((close d) .station .num))
 
   -- THE OWNER'S MOVES
   module _ (s : Station) (h : Around i skind q OL WL latest fin U D s) where
-    still : Locks i (s .kind) (s .num) (s .opened) (s .wr) (s .ol) (s .wl) OL WL latest (U ++ []) D
+    still : Locks i (s .kind) (s .num) (s .opened) (s .wr) (s .ol) (s .wl) (forWrite (s .wait)) OL WL latest (U ++ []) D
     still = rw (append-nil U) (h .locks)
 
-    -- under its own lock, what is written is known to the server
-    under-lock : (a v : ℕ) → (locking (s .kind) ≡ true → (s .ol a || s .wl (pageOf a)) ≡ true) → Locks i (s .kind) (s .num) (s .opened) (upd (s .wr) a (some v)) (s .ol) (s .wl) OL WL latest (U ++ []) D
-    under-lock a v e =
+    -- under its own locks, what is written is known to the server
+    under-locks : (p : ℕ) (f : ℕ → Val) → Asks p f → someOn p (named f s) ≡ false → Locks i (s .kind) (s .num) (s .opened) (over f (s .wr)) (s .ol) (s .wl) (forWrite (s .wait)) OL WL latest (U ++ []) D
+    under-locks p f b e =
         let g = h .locks in
+        let may : locking (s .kind) ≡ true → (a : ℕ) → has (f a) ≡ true → (s .ol a || s .wl (pageOf a)) ≡ true = λ k a w. rw k at (may-write s p f b e a w) in
         rw (append-nil U)
-        (writes g a v (s .ol) (s .wl) (λ b f. inl f) (λ p f. inl f) (λ p f. f)
-        (λ k o n. or-yes (s .ol a) (s .wl (pageOf a)) (e k) (λ f. g .K2a k o n a (g .K3a a f)) (λ f. inr (g .K2b k o n (pageOf a) f)))
-        (λ k o. or-yes (s .ol a) (s .wl (pageOf a)) (e k) (λ f. g .K9 k o a (g .K3a a f)) (λ f. let r = meets-some (s .wr) (pageOf a) (g .K3b (pageOf a) f) in g .K9 k o (r .0) (r .2))))
+        (writes g f (s .ol) (s .wl) (λ c z. z) (λ c z. inl z) (λ q z. inl z) (λ q z. z)
+        (λ k o n a w. or-yes (s .ol a) (s .wl (pageOf a)) (may k a w) (λ z. g .K2a k o n a (g .K3a a z)) (λ z. inr (g .K2b k o n (pageOf a) z)))
+        (λ k o a w. or-yes (s .ol a) (s .wl (pageOf a)) (may k a w) (λ z. g .K9 k o a (g .K3a a z)) (λ z. let r = meets-some (s .wr) (pageOf a) (g .K3b (pageOf a) z) in g .K9 k o (r .0) (r .2))))
+
+    -- a request or a commit goes up, from an idle station: no lock is on its way to it
+    asks-locks : (w : Wait) (m : Up) → waiting (s .wait) ≡ false → ((p : ℕ) → dropped p m ≡ false) → Locks i (s .kind) (s .num) (s .opened) (s .wr) (s .ol) (s .wl) (forWrite w) OL WL latest (U ++ (m ∷ [])) D
+    asks-locks w m e n =
+        let k = idle-quiet e (h .tokens) in
+        plain-up m n (rewaits (h .locks) (forWrite w) (λ a z. absurd (quiet-objects k (pageOf a) z)) (quiet-grants k i OL WL (forWrite w) (s .ol)))
 
     owns-locks : Owns s (λ op d. LocksDid d)
     unfolding readLocal recordRead readAsk writeLocal writeAsk dropPages
@@ -91,14 +111,14 @@ module _ (i skind : ℕ) (q : Waiter) (OL WL : ℕ → ℕ) (latest : ℕ) (fin 
           reads-own = λ a v b c e. still;
           reads-again = λ a v b c e f. still;
           reads-here = λ a b c e f g. still;
-          reads-ask = λ a b c e f g. plain-up (ReadRequest a (s .num)) (λ p. refl) (h .locks);
-          writes-here = λ a v b c e. under-lock a v (λ k. rw k at e);
-          writes-ask = λ a v b c e. byB (locking (s .kind)) (λ k. rw k (plain-up (WriteRequest a (s .num)) (λ p. refl) (h .locks))) (λ k. rw k (plain-up (ReadRequest a (s .num)) (λ p. refl) (h .locks)));
-          commits = λ c. plain-up (Commit (workOf s)) (λ p. refl) (h .locks);
+          reads-ask = λ a b c e f g. asks-locks (ForRead a) (ReadRequest a (s .num)) (c .idle) (λ p. refl);
+          writes-here = λ p f b c e. under-locks p (ofPage p f) b e;
+          writes-ask = λ p f b c e. asks-locks (ForWrite p (ofPage p f)) _ (c .idle) (λ q. byB (locking (s .kind)) (λ k. rw k refl) (λ k. rw k refl));
+          commits = λ c. asks-locks ForCommit (Commit (workOf s)) (c .idle) (λ p. refl);
           aborts = λ c.
               ends (does (AbortedFor 0) (undo s) (cond (locking (s .kind)) (Abort (s .num) ∷ []) []))
               (byB (locking (s .kind)) (λ k. rw k (aborts (h .locks) (λ p. quiet-unasked (idle-quiet (c .idle) (h .tokens)) k p .down) k))
-              (λ k. rw (k, append-nil U) (free (λ a e. both (locking (s .kind)) (h .object a e .1) k) (λ p e. both (locking (s .kind)) (h .whole p e .1) k) (h .locks .K7))));
+              (λ k. rw (k, append-nil U) (free (λ a e. both (locking (s .kind)) (h .object a e .1) k) (λ p e. both (locking (s .kind)) (h .whole p e .1) k) (none-due i OL WL _ _ nowhere D (h .locks .K7)))));
           purges = λ p b r n e. push-up (Purge p) (λ x y. leaving h x (rw (eqb-yes x p y) n) (rw (eqb-yes x p y) r)) (h .locks);
         }
 
@@ -110,32 +130,44 @@ module _ (i skind : ℕ) (q : Waiter) (OL WL : ℕ → ℕ) (latest : ℕ) (fin 
     abbrev Took : Down → Did → Type 0
     Took m d = Around i skind q OL WL latest fin U (m ∷ D) s → isRefused (d .answer) ≡ false → LocksDid d
 
+    -- the wait is over with the one token [S1a]
+    over-locks : {wr : ℕ → Val} {ol wl : ℕ → Bool} → Quiet skind (s .kind) (s .num) (s .opened) q U D → Locks i (s .kind) (s .num) (s .opened) wr ol wl (forWrite (s .wait)) OL WL latest U D
+        → Locks i (s .kind) (s .num) (s .opened) wr ol wl nowhere OL WL latest (U ++ []) D
+    over-locks k g = rw (append-nil U) (rewaits g nowhere (λ a z. absurd (quiet-objects k (pageOf a) z)) (quiet-grants k i OL WL nowhere _))
+
     -- a page comes: what was asked for is written, under the lock that it brings
-    page-locks : (l : Lock) (a t : ℕ) (v : ℕ → ℕ) (u : ℕ → Bool) (x : ℕ → ℕ) (y : ℕ) → live s t ≡ true → locking (s .kind) ≡ isLock l → Took (Page l a t v u x) (does Written (writeLocal a y (arrived l a v u x s)) [])
+    page-locks : (l : Lock) (a t : ℕ) (v : ℕ → ℕ) (u : ℕ → Bool) (x : ℕ → ℕ) (pg : ℕ) (y : ℕ → Val) → live s t ≡ true → s .wait ≡ ForWrite pg y → locking (s .kind) ≡ isLock l → ForPage l a pg y → Took (Page l a t v u x) (does Written (writeLocal y (arrived l a v u x s)) [])
     unfolding writeLocal arrive takeLock
-    page-locks NoLock a t v u x y e k h r =
-        rw (append-nil U)
+    page-locks NoLock a t v u x pg y e w k c h r =
+        over-locks (took-down (Page NoLock a t v u x) (rw (live-hot skind q latest fin U D s t e) refl) (h .tokens))
         (pop-down (Page NoLock a t v u x) refl (λ b f. absurd (false≢true f)) (λ p f. absurd (false≢true f))
-        (writes (h .locks) a y (s .ol) (s .wl) (λ b f. inl f) (λ p f. inl f) (λ p f. f) (λ g o n. both (locking (s .kind)) g k) (λ g o. both (locking (s .kind)) g k)))
-    page-locks ObjectLock a t v u x y e k h r =
-        rw (append-nil U)
-        (pop-down (Page ObjectLock a t v u x) refl (λ b f. (and-l (s .opened) _ e, rw f refl)) (λ p f. absurd (false≢true f))
-        (writes (h .locks) a y (upd (s .ol) a true) (s .wl) (λ b f. byEq b a (λ z. inr (eqb-yes b a z)) (λ z. inl (rw z at f))) (λ p f. inl f) (λ p f. f)
-        (λ g o n. inl (h .locks .K7 .0)) (λ g o. sym (h .numbers .N8 .0 e .0) ∙ eqb-yes t (s .num) (and-r (s .opened) _ e))))
-    page-locks WholeLock a t v u x y e k h r =
-        rw (append-nil U)
+        (writes (h .locks) y (s .ol) (s .wl) (λ b f. f) (λ b f. inl f) (λ p f. inl f) (λ p f. f) (λ g o n b f. both (locking (s .kind)) g k) (λ g o b f. both (locking (s .kind)) g k)))
+    page-locks ObjectLock a t v u x pg y e w k c h r =
+        let due : (b : ℕ) → forWrite (s .wait) b ≡ has (y b) = λ b. rw w refl in
+        over-locks (took-down (Page ObjectLock a t v u x) refl (h .tokens))
+        (pop-down (Page ObjectLock a t v u x) refl (λ b f g. (and-l (s .opened) _ e, wrote-now y (s .wr) b (sym (due b) ∙ g))) (λ p f. absurd (false≢true f))
+        (writes (h .locks) y (λ b. s .ol b || forWrite (s .wait) b) (s .wl) (λ b f. rw f refl) (λ b f. or-yes (s .ol b) (forWrite (s .wait) b) f (λ z. inl z) (λ z. inr (sym (due b) ∙ z))) (λ p f. inl f) (λ p f. f)
+        (λ g o n b f. either (h .locks .K7 .0 b (due b ∙ f)) (λ z. inl z) (λ z. h .locks .K2a g o n b (h .locks .K3a b z)))
+        (λ g o b f. sym (h .numbers .N8 .0 e .0) ∙ eqb-yes t (s .num) (and-r (s .opened) _ e))))
+    page-locks WholeLock a t v u x pg y e w k c h r =
+        let known = h .sets .K11 pg (rw w (eqb-same pg)) in
+        let some : meets y pg ≡ true = rw w at (known .0) in
+        let whole-page : (b : ℕ) → has (y b) ≡ true → pageOf b ≡ pageOf a = λ b f. known .1 b (rw w f) ∙ sym c in
+        over-locks (took-down (Page WholeLock a t v u x) refl (h .tokens))
         (pop-down (Page WholeLock a t v u x) refl (λ b f. absurd (false≢true f))
-        (λ p f. (and-l (s .opened) _ e, meets-yes (upd (s .wr) a (some y)) p a (sym (eqb-yes p (pageOf a) f)) (rw (eqb-same a) refl), rw f refl))
-        (writes (h .locks) a y (s .ol) (upd (s .wl) (pageOf a) true) (λ b f. inl f)
-        (λ p f. byEq p (pageOf a) (λ z. inr (eqb-yes p (pageOf a) z, rw (eqb-yes p (pageOf a) z) (h .locks .K7 .0))) (λ z. inl (rw z at f)))
+        (λ p f.
+        let r = meets-some y pg some in
+        (and-l (s .opened) _ e, meets-yes (over y (s .wr)) p (r .0) (r .1 ∙ sym c ∙ sym (eqb-yes p (pageOf a) f)) (wrote-now y (s .wr) (r .0) (r .2)), rw f refl))
+        (writes (h .locks) y (s .ol) (upd (s .wl) (pageOf a) true) (λ b f. f) (λ b f. inl f)
+        (λ p f. byEq p (pageOf a) (λ z. inr (rw (eqb-yes p (pageOf a) z ∙ c) some, rw (eqb-yes p (pageOf a) z) (h .locks .K7 .0))) (λ z. inl (rw z at f)))
         (λ p f. byEq p (pageOf a) (λ z. rw z refl) (λ z. rw z f))
-        (λ g o n. inr (h .locks .K7 .0)) (λ g o. sym (h .numbers .N8 .0 e .0) ∙ eqb-yes t (s .num) (and-r (s .opened) _ e))))
+        (λ g o n b f. inr (rw (whole-page b f) (h .locks .K7 .0))) (λ g o b f. sym (h .numbers .N8 .0 e .0) ∙ eqb-yes t (s .num) (and-r (s .opened) _ e))))
 
     split-locks : (p t : ℕ) → locking (s .kind) ≡ true → Took (Deescalate p t) (onDeescalate p t s)
     unfolding onDeescalate loosen
     split-locks p t k h r =
         let set : ℕ → Bool = writtenOn p t s in
-        let g : Locks i (s .kind) (s .num) (s .opened) (s .wr) (s .ol) (s .wl) OL WL latest U D = pop-down (Deescalate p t) refl (λ b f. absurd (false≢true f)) (λ x f. absurd (false≢true f)) (h .locks) in
+        let g : Locks i (s .kind) (s .num) (s .opened) (s .wr) (s .ol) (s .wl) (forWrite (s .wait)) OL WL latest U D = pop-down (Deescalate p t) refl (λ b f. absurd (false≢true f)) (λ x f. absurd (false≢true f)) (h .locks) in
         byB (live s t && s .wl p)
         (λ e.
         let o : live s t ≡ true = and-l (live s t) _ e in
@@ -146,7 +178,7 @@ module _ (i skind : ℕ) (q : Waiter) (OL WL : ℕ → ℕ) (latest : ℕ) (fin 
 
     -- the server has ended the transaction: it has no lock
     ended-free : (m : Down) → fin ≡ true → Around i skind q OL WL latest fin U (m ∷ D) s → Settled i OL WL latest (U ++ []) D
-    ended-free m e h = rw (append-nil U) (free (λ a f. both fin e (h .object a f .0)) (λ p f. both fin e (h .whole p f .0)) (h .locks .K7 .1))
+    ended-free m e h = rw (append-nil U) (free (λ a f. both fin e (h .object a f .0)) (λ p f. both fin e (h .whole p f .0)) (none-due i OL WL _ _ nowhere D (h .locks .K7 .1)))
 
     takes-locks : Takes s Took
     unfolding recordRead arrive takeLock doCallback mark dropPages onCommitted onAborted
@@ -154,8 +186,8 @@ module _ (i skind : ℕ) (q : Waiter) (OL WL : ℕ → ℕ) (latest : ℕ) (fin 
         record {
           refused = λ m e h r. absurd (false≢true (sym r));
           old-page = λ a t v u x e h r. rw (append-nil U) (pop-down (Page NoLock a t v u x) refl (λ b f. absurd (false≢true f)) (λ p f. absurd (false≢true f)) (h .locks));
-          page-read = λ a t v u x e f h r. rw (append-nil U) (pop-down (Page NoLock a t v u x) refl (λ b g. absurd (false≢true g)) (λ p g. absurd (false≢true g)) (h .locks));
-          page-write = λ l a t v u x y e f k h r. page-locks l a t v u x y e k h r;
+          page-read = λ a t v u x e f h r. over-locks (took-down (Page NoLock a t v u x) (rw (live-hot skind q latest fin U D s t e) refl) (h .tokens)) (pop-down (Page NoLock a t v u x) refl (λ b g. absurd (false≢true g)) (λ p g. absurd (false≢true g)) (h .locks));
+          page-write = λ l a t v u x p y e f k c h r. page-locks l a t v u x p y e f k c h r;
           deescalates = λ p t k h r. split-locks p t k h r;
           keeps = λ k t set e f h r. plain-up (Busy k t) (λ p. refl) (pop-down (Callback k t set) refl (λ b g. absurd (false≢true g)) (λ p g. absurd (false≢true g)) (h .locks));
           dones = λ k t set e f h r.
@@ -164,7 +196,7 @@ module _ (i skind : ℕ) (q : Waiter) (OL WL : ℕ → ℕ) (latest : ℕ) (fin 
           commits = λ t n e f h r. ends _ (ended-free (Committed t n) (h .numbers .N8 .0 .1) h);
           aborts = λ t c e f h r. ends _ (ended-free (Aborted t c) (h .numbers .N8 .0 .1) h);
           invalid-ends = λ d k e f h r.
-              ends _ (rw (append-nil U) (free (λ a g. both (locking (s .kind)) (h .object a g .1) k) (λ p g. both (locking (s .kind)) (h .whole p g .1) k) (h .locks .K7 .1)));
+              ends _ (rw (append-nil U) (free (λ a g. both (locking (s .kind)) (h .object a g .1) k) (λ p g. both (locking (s .kind)) (h .whole p g .1) k) (none-due i OL WL _ _ nowhere D (h .locks .K7 .1))));
           invalid = λ d k e h r. rw (append-nil U) (pop-down (Invalidate d) refl (λ b g. absurd (false≢true g)) (λ p g. absurd (false≢true g)) (h .locks));
         }
 

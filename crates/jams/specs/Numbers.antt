@@ -27,7 +27,7 @@ not-so e = both true refl e
 -- kinds 5 to 8 are no 4
 plain-over : (num : ℕ) (opened : Bool) (m : Up) → numbered m ≡ false → AbortOver num opened m
 plain-over num opened (ReadRequest a t) e = tt
-plain-over num opened (WriteRequest a t) e = tt
+plain-over num opened (WriteRequest p′ t set) e = tt
 plain-over num opened (Commit w) e = tt
 plain-over num opened (Abort t) e = not-so e
 plain-over num opened (Purge p) e = tt
@@ -37,7 +37,7 @@ plain-over num opened (WrittenSet p t set) e = tt
 
 plain-abort : (t : ℕ) (m : Up) → numbered m ≡ false → abortOf t m ≡ false
 plain-abort t (ReadRequest a u) e = refl
-plain-abort t (WriteRequest a u) e = refl
+plain-abort t (WriteRequest p′ u set) e = refl
 plain-abort t (Commit w) e = refl
 plain-abort t (Abort u) e = not-so e
 plain-abort t (Purge p) e = refl
@@ -48,7 +48,7 @@ plain-abort t (WrittenSet p u set) e = refl
 -- a number under way is not above the station's ..
 pub up-below : (kind num : ℕ) (opened : Bool) (w : Wait) (m : Up) → FitUp kind num opened w m → AbortOver num opened m → numbered m ≡ true → named m ≤ num
 up-below kind num opened w (ReadRequest a t) f o e = f .below
-up-below kind num opened w (WriteRequest a t) f o e = f .below
+up-below kind num opened w (WriteRequest p′ t set) f o e = f .below
 up-below kind num opened w (Commit k) f o e = f .below
 up-below kind num opened w (Abort t) f o e = either o (λ b. omega (arith, b)) (λ b. omega (arith, b .0))
 up-below kind num opened w (Purge p) f o e = not-so (sym e)
@@ -62,7 +62,7 @@ up-old kind num opened w o (ReadRequest a t) c f q e =
     let z : stale kind num opened t ≡ true = not-no (stale kind num opened t) c in
     let y : not (eqb t num) ≡ true = rw o at (and-r (not (locking kind)) (not (opened && eqb t num)) z) in
     omega (arith, f .below, eqb-no t num (not-yes (eqb t num) y))
-up-old kind num opened w o (WriteRequest a t) c f q e = not-so c
+up-old kind num opened w o (WriteRequest p′ t set) c f q e = not-so c
 up-old kind num opened w o (Commit k) c f q e = not-so c
 up-old kind num opened w o (Abort t) c f q e = either q (λ b. b) (λ b. both opened o (b .1))
 up-old kind num opened w o (Purge p) c f q e = not-so (sym e)
@@ -127,7 +127,7 @@ waiter-open kind num opened v latest WantCommit a e f = (f .same refl, f .alive 
 -- begin, and the end of a transaction
 begun-over : (num : ℕ) (opened : Bool) (m : Up) → AbortOver num opened m → AbortOver (num + 1) true m
 begun-over num opened (ReadRequest a t) h = tt
-begun-over num opened (WriteRequest a t) h = tt
+begun-over num opened (WriteRequest p′ t set) h = tt
 begun-over num opened (Commit w) h = tt
 begun-over num opened (Abort t) h = inl (either h (λ b. omega (arith, b)) (λ b. omega (arith, b .0)))
 begun-over num opened (Purge p) h = tt
@@ -150,7 +150,7 @@ begun-latest kind num opened w latest fin (Invalidate d) f h = tt
 
 shut-over : (num : ℕ) (opened : Bool) (m : Up) → AbortOver num opened m → AbortOver num false m
 shut-over num opened (ReadRequest a t) h = tt
-shut-over num opened (WriteRequest a t) h = tt
+shut-over num opened (WriteRequest p′ t set) h = tt
 shut-over num opened (Commit w) h = tt
 shut-over num opened (Abort t) h = either h (λ b. inl b) (λ b. inr (b .0, refl))
 shut-over num opened (Purge p) h = tt

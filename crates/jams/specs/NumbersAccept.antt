@@ -63,8 +63,8 @@ module _ (i : ℕ) (l : List Up) (w : World) (b : i < 8) (h : Orderly w) where
       let n : stale (w .station i .kind) (w .station i .num) (w .station i .opened) T ≡ false = rw k refl in
       (f .alive n, f .same n)
 
-  fresh-write : (a T : ℕ) → w .up i ≡ WriteRequest a T ∷ l → (w .station i .opened ≡ true) × (T ≡ w .station i .num)
-  fresh-write a T q = let f = (tokens (WriteRequest a T) q) .S1b-up .0 in (f .alive refl, f .same refl)
+  fresh-write : (p T : ℕ) (set : ℕ → Bool) → w .up i ≡ WriteRequest p T set ∷ l → (w .station i .opened ≡ true) × (T ≡ w .station i .num)
+  fresh-write p T set q = let f = (tokens (WriteRequest p T set) q) .S1b-up .0 in (f .alive refl, f .same refl)
 
   fresh-commit : (k : Work) → w .up i ≡ Commit k ∷ l → (w .station i .opened ≡ true) × (k .transaction ≡ w .station i .num)
   fresh-commit k q = let f = (tokens (Commit k) q) .S1b-up .0 in (f .alive refl, f .same refl)
@@ -110,7 +110,7 @@ module _ (i : ℕ) (l : List Up) (w : World) (b : i < 8) (h : Orderly w) where
       record {
         read-waits = λ a T u k q. noticed (ReadRequest a T) refl u (λ p z. fresh-read a T p z) q;
         read-now = λ a T u k q. served a T u k q;
-        write-waits = λ a T u k q. noticed (WriteRequest a T) refl u (λ p z. fresh-write a T p) q;
+        write-waits = λ a T set u k q. noticed (WriteRequest a T set) refl u (λ p z. fresh-write a T set p) q;
         commit-now = λ k u f e q. commits k u q;
         commit-waits = λ k u e q. noticed (Commit k) refl u (λ p z. fresh-commit k p) q;
         aborts = λ T u k q. aborts T u q;

@@ -1,7 +1,7 @@
 -- The server's actions and the clauses on the numbers of station j, under a server's step: t are the stations, u the up lines, d the down
 -- lines before the step.
 use mathlib.Core.Path.{_≡_, refl, sym, ap}
-use mathlib.Core.Bool.{Bool, true, false, not, _&&_}
+use mathlib.Core.Bool.{Bool, true, false, not, _&&_, cond}
 use mathlib.Core.List.{List, _++_}
 use Prim.Native.Nat.{ℕ, suc}
 use lib.Dec.{eqb, ltb}
@@ -113,7 +113,7 @@ module _ (t : ℕ → Station) (u : ℕ → List Up) (d : ℕ → List Down) (j 
         let s : Server = x .server in
         let a : ℕ = s .queue i .req in
         let y : Serving = leave i x in
-        page-numbers ObjectLock i a (unavailable s i a) (onServer y (setOl (y .server) (upd (s .ol) a (suc i)))) (λ e n v. own-kind e) (λ e. rw (eqb-yes j i e) f) h
+        page-numbers ObjectLock i a (unavailable s i a) (onServer y (setOl (y .server) (λ c. cond (s .queue i .writes c) (suc i) (s .ol c)))) (λ e n v. own-kind e) (λ e. rw (eqb-yes j i e) f) h
 
     pub whole-numbers : NumbersIn t u d j x → NumbersIn t u d j (grantPage i x)
     unfolding grantPage leave

@@ -4,11 +4,12 @@ use mathlib.Core.Path.{_≡_, refl, sym, ap, _∙_}
 use mathlib.Core.Bool.{Bool, true, false, _&&_, cond, false≢true}
 use mathlib.Core.List.{List, [], _∷_, _++_}
 use Prim.Native.Nat.{ℕ, _+_, _<_}
-use Rattle.sets.specs.Base.{snoc}
+use Rattle.sets.specs.Base.{snoc, Val}
 use Rattle.sets.specs.Laws.{byB, byEq}
 use Rattle.line.specs.All.{all-map}
 use Rattle.line.specs.Messages.{locking, Up, ReadRequest, WriteRequest, Commit, Abort, Purge, Busy, Done, WrittenSet, Lock, NoLock, ObjectLock, WholeLock, Down, Deescalate, Callback, Committed, Aborted, Invalidate, Written}
-use Rattle.line.specs.Station.{Station, Did, does, didStation, Kept, NotKept, KeptCall, live, workOf, mark, dropPages, recordRead, writeLocal, doCallback, closed, close, readLocal, readAsk, writeAsk, arrive, takeLock, loosen, onDeescalate, onCommitted, onAborted, stationStep}
+use Rattle.line.specs.Station as S
+use Rattle.line.specs.Station.{Station, Did, does, didStation, Kept, NotKept, KeptCall, live, workOf, mark, dropPages, recordRead, writeLocal, doCallback, closed, close, readLocal, readAsk, writeAsk, arrive, takeLock, loosen, onDeescalate, onCommitted, onAborted, stationStep, lowestOn, ofPage}
 use Rattle.line.specs.Server.{Waiter}
 use Rattle.line.specs.Line.{Op, perform, isRefused}
 use Rattle.truth.specs.Frame.{append-nil, append-assoc, Active, Owns, performs, closes, arrived, Takes, takes}
@@ -65,6 +66,14 @@ module _ (latest : ℕ) (fin : Bool) (U : List Up) (D : List Down) where
         (λ l. rw l (own-abort l (quiet-old (idle-quiet (c .idle) k) (c .opened) h) (quiet-next (idle-quiet (c .idle) k) (c .opened) h) h))
         (λ l. rw (l, append-nil U) (shut (λ z f. both (locking (s .kind)) z l) h))
 
+    -- a 2, or of a validating station a 1
+    asks-either : (p : ℕ) (f : ℕ → Val) → Active s → Numbers (s .kind) (s .num) (s .opened) latest fin (U ++ (cond (locking (s .kind)) (WriteRequest p (s .num) (S.named f s)) (ReadRequest (lowestOn p (S.named f s)) (s .num)) ∷ [])) D
+    asks-either p f c = by-kind (locking (s .kind)) refl
+      where
+        by-kind : (b : Bool) → locking (s .kind) ≡ b → Numbers (s .kind) (s .num) (s .opened) latest fin (U ++ (cond b (WriteRequest p (s .num) (S.named f s)) (ReadRequest (lowestOn p (S.named f s)) (s .num)) ∷ [])) D
+        by-kind true e = asks (WriteRequest p (s .num) (S.named f s)) c refl e tt
+        by-kind false e = asks (ReadRequest (lowestOn p (S.named f s)) (s .num)) c refl tt tt
+
     owns-numbers : Owns s (λ op d. NumbersDid latest fin U D d)
     unfolding readLocal recordRead readAsk writeLocal writeAsk dropPages closed
     owns-numbers =
@@ -75,9 +84,8 @@ module _ (latest : ℕ) (fin : Bool) (U : List Up) (D : List Down) where
           reads-again = λ a v b c e f. (silent, n);
           reads-here = λ a b c e f g. (silent, n);
           reads-ask = λ a b c e f g. (asks (ReadRequest a (s .num)) c refl tt tt, n);
-          writes-here = λ a v b c e. (silent, n);
-          writes-ask = λ a v b c e.
-              (byB (locking (s .kind)) (λ l. rw l (asks (WriteRequest a (s .num)) c refl l tt)) (λ l. rw l (asks (ReadRequest a (s .num)) c refl tt tt)), n);
+          writes-here = λ p f b c e. (silent, n);
+          writes-ask = λ p f b c e. (asks-either p (ofPage p f) c, n);
           commits = λ c. (asks (Commit (workOf s)) c refl tt tt, n);
           aborts = λ c. close-numbers _ (rw (undo-kind s, undo-num s) (ends c), λ l r. rw (undo-kept s r) (n (rw (undo-kind s) at l) r));
           purges = λ p b r e f. (plain-up (Purge p) refl tt h, n);
@@ -92,7 +100,7 @@ module _ (latest : ℕ) (fin : Bool) (U : List Up) (D : List Down) where
     Took m d = Numbers (s .kind) (s .num) (s .opened) latest fin U (m ∷ D) → NoneKept s → isRefused (d .answer) ≡ false → NumbersDid latest fin U D d
 
     -- a page for a write, with its lock or without
-    page-numbers : (l : Lock) (a : ℕ) (v : ℕ → ℕ) (u : ℕ → Bool) (x : ℕ → ℕ) (y : ℕ) → Numbers (s .kind) (s .num) (s .opened) latest fin U D → NoneKept s → NumbersDid latest fin U D (does Written (writeLocal a y (arrived l a v u x s)) [])
+    page-numbers : (l : Lock) (a : ℕ) (v : ℕ → ℕ) (u : ℕ → Bool) (x : ℕ → ℕ) (y : ℕ → Val) → Numbers (s .kind) (s .num) (s .opened) latest fin U D → NoneKept s → NumbersDid latest fin U D (does Written (writeLocal y (arrived l a v u x s)) [])
     unfolding writeLocal arrive takeLock
     page-numbers NoLock a v u x y h n = (rw (append-nil U) h, n)
     page-numbers ObjectLock a v u x y h n = (rw (append-nil U) h, n)
@@ -105,7 +113,7 @@ module _ (latest : ℕ) (fin : Bool) (U : List Up) (D : List Down) where
           refused = λ m e h n f. both true refl f;
           old-page = λ a t v u x e h n f. (rw (append-nil U) (pop-down _ refl h), n);
           page-read = λ a t v u x e g h n f. (rw (append-nil U) (pop-down _ refl h), n);
-          page-write = λ l a t v u x y e g o h n f. page-numbers l a v u x y (pop-down _ refl h) n;
+          page-write = λ l a t v u x p y e g o c h n f. page-numbers l a v u x y (pop-down _ refl h) n;
           deescalates = λ p t l h n f.
               let g = plain-up (WrittenSet p t _) refl l (pop-down (Deescalate p t) refl h) in
               byB (live s t && s .wl p) (λ z. rw z (g, n)) (λ z. rw z (g, n));

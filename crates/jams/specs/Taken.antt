@@ -9,7 +9,7 @@ use Rattle.sets.specs.Base.{Val, has, any}
 use Rattle.sets.specs.Laws.{byB, eqb-same, eqb-yes, ltb-yes, and-l, and-r, or-yes, not-yes, any-some}
 use Rattle.line.specs.All.{All, all-map}
 use Rattle.line.specs.Messages.{pageOf, address, locking, Work, Up, ReadRequest, WriteRequest, Commit, Abort, Purge, Busy, Done, WrittenSet, NoLock, ObjectLock, WholeLock, Down, Page, Deescalate, Callback, Committed, Aborted, Invalidate}
-use Rattle.line.specs.Station.{Station, Wait, waiting, forRead, forWrite, forCommit, ended, live, fits}
+use Rattle.line.specs.Station.{Station, Wait, waiting, forRead, forWrite, forCommit, ended, live, fits, writesTo}
 use Rattle.line.specs.Server.{Server, Waiter, isWant, lockOn, badNumber, unlocked, unexpected}
 use Rattle.line.specs.Line.{World}
 use Rattle.line.specs.Truth.{count}
@@ -28,7 +28,7 @@ fails b n = byB b (λ e. absurd (n e)) (λ e. e)
 
 above-abort : (t : ℕ) (m : Up) → Above t m → abortOf t m ≡ false
 above-abort t (ReadRequest a u) h = refl
-above-abort t (WriteRequest a u) h = refl
+above-abort t (WriteRequest p′ u set) h = refl
 above-abort t (Commit w) h = refl
 above-abort t (Abort u) h = fails (eqb u t) (λ e. omega (arith, eqb-yes u t e, h refl))
 above-abort t (Purge p) h = refl
@@ -124,8 +124,8 @@ module _ (w : World) (h : Orderly w) (i : ℕ) (b : i < 8) (m : Up) (l : List Up
 -- the server takes the head of every up line
 pub taken-up : (w : World) → Orderly w → (i : ℕ) → i < 8 → (m : Up) (l : List Up) → w .up i ≡ m ∷ l → unexpected i m (w .server) ≡ false
 taken-up w h i b (ReadRequest a t) l q = number-taken w h i b (ReadRequest a t) l q refl
-taken-up w h i b (WriteRequest a t) l q =
-    rw (number-taken w h i b (WriteRequest a t) l q refl, same-kind w h i b (WriteRequest a t) l q true ((numbers w h i b (WriteRequest a t) l q) .N1-up .0)) refl
+taken-up w h i b (WriteRequest p′ t set) l q =
+    rw (number-taken w h i b (WriteRequest p′ t set) l q refl, same-kind w h i b (WriteRequest p′ t set) l q true ((numbers w h i b (WriteRequest p′ t set) l q) .N1-up .0)) refl
 taken-up w h i b (Commit k) l q = rw (number-taken w h i b (Commit k) l q refl, locked-work w h i b (Commit k) l q k refl) refl
 taken-up w h i b (Abort t) l q = rw (number-taken w h i b (Abort t) l q refl, same-kind w h i b (Abort t) l q true ((numbers w h i b (Abort t) l q) .N1-up .0)) refl
 taken-up w h i b (Purge p) l q = unlocked-page w h i b (Purge p) l q p (eqb-same p)
@@ -156,8 +156,8 @@ read-fits s a t f =
 
 head-fits : (s : Station) (m : Down) → FitDown (s .kind) (s .num) (s .opened) (s .wait) m → KindDown (s .kind) m → fits m s ≡ true
 head-fits s (Page NoLock a t v u x) f k = read-fits s a t f
-head-fits s (Page ObjectLock a t v u x) f k = rw (k, live-fit s t _ f, and-r (locking (s .kind)) (forWrite (s .wait) a) (f .waits refl)) refl
-head-fits s (Page WholeLock a t v u x) f k = rw (k, live-fit s t _ f, and-r (locking (s .kind)) (forWrite (s .wait) a) (f .waits refl)) refl
+head-fits s (Page ObjectLock a t v u x) f k = rw (k, live-fit s t _ f, and-r (locking (s .kind)) (writesTo (s .wait) (pageOf a)) (f .waits refl)) refl
+head-fits s (Page WholeLock a t v u x) f k = rw (k, live-fit s t _ f, and-r (locking (s .kind)) (writesTo (s .wait) (pageOf a)) (f .waits refl)) refl
 head-fits s (Deescalate p t) f k = k
 head-fits s (Callback r t set) f k = k
 head-fits s (Committed t n) f k = rw (live-fit s t _ f, f .waits refl) refl

@@ -46,7 +46,6 @@ pub record Entry (kind : ℕ) (fin : Bool) (w : Waiter) : Type 0 where
   pub waits-open : isWant (w .want) ≡ true → fin ≡ false
   pub reads-lock : w .want ≡ WantRead → locking kind ≡ true
   pub writes-lock : w .want ≡ WantWrite → locking kind ≡ true
-  pub writes-own : w .want ≡ WantWrite → w .writes (w .req) ≡ true
   pub commits-validate : w .want ≡ WantCommit → locking kind ≡ false
 
 -- the waiting list
@@ -145,17 +144,17 @@ module _ {kind : ℕ → ℕ} {fin : ℕ → Bool} {ol wl : ℕ → ℕ} {asked 
       }
 
   -- 17
-  object-locks : (i a : ℕ) → Holder kind fin i → (a < 256 → (h : ℕ) → wl (pageOf a) ≡ suc h → h ≡ i) → Locks kind fin (upd ol a (suc i)) wl asked
-  object-locks i a o c =
+  object-locks : (i : ℕ) (set : ℕ → Bool) → Holder kind fin i → ((a : ℕ) → set a ≡ true → a < 256 → (h : ℕ) → wl (pageOf a) ≡ suc h → h ≡ i) → Locks kind fin (λ a. cond (set a) (suc i) (ol a)) wl asked
+  object-locks i set o c =
       record {
         whole-alone = λ g h b u p q.
-            byEq b a
+            byB (set b)
             (λ e.
             let z : suc i ≡ suc g = rw e at q in
-            let y : h ≡ i = c (rw (eqb-yes b a e) at u) h (rw (eqb-yes b a e) at p) in
+            let y : h ≡ i = c b e u h p in
             omega arith)
             (λ e. l .whole-alone g h b u p (rw e at q));
-        object-open = λ h b q. byEq b a (λ e. let z : suc i ≡ suc h = rw e at q in let y : h ≡ i = omega arith in rw y o) (λ e. l .object-open h b (rw e at q));
+        object-open = λ h b q. byB (set b) (λ e. let z : suc i ≡ suc h = rw e at q in let y : h ≡ i = omega arith in rw y o) (λ e. l .object-open h b (rw e at q));
         whole-open = l .whole-open;
         asked-held = l .asked-held;
       }
@@ -240,7 +239,6 @@ module _ {fin kept : ℕ → Bool} {age : ℕ → ℕ} {ages : ℕ} (l : Ages fi
 pub record Alike (v w : Waiter) : Type 0 where
   pub want : v .want ≡ w .want
   pub arrival : v .arrival ≡ w .arrival
-  pub own : v .writes (v .req) ≡ w .writes (w .req)
 
 no-entry : (kind : ℕ) (fin : Bool) → Entry kind fin noWaiter
 no-entry kind fin =
@@ -248,7 +246,6 @@ no-entry kind fin =
       waits-open = λ e. absurd (false≢true e);
       reads-lock = λ e. absurd (false≢true (ap isWant e));
       writes-lock = λ e. absurd (false≢true (ap isWant e));
-      writes-own = λ e. absurd (false≢true (ap isWant e));
       commits-validate = λ e. absurd (false≢true (ap isWant e));
     }
 
@@ -264,7 +261,6 @@ module _ {kind : ℕ → ℕ} {fin : ℕ → Bool} {arrivals : ℕ} {queue : ℕ
               waits-open = λ t. byEq j i (λ e. rw e refl) (λ e. rw e (k .waits-open t));
               reads-lock = k .reads-lock;
               writes-lock = k .writes-lock;
-              writes-own = k .writes-own;
               commits-validate = k .commits-validate;
             };
       }
@@ -281,7 +277,6 @@ module _ {kind : ℕ → ℕ} {fin : ℕ → Bool} {arrivals : ℕ} {queue : ℕ
               waits-open = λ t. byEq j i (λ e. absurd (both (isWant (queue j .want)) t (rw (eqb-yes j i e) n))) (λ e. rw e (k .waits-open t));
               reads-lock = k .reads-lock;
               writes-lock = k .writes-lock;
-              writes-own = k .writes-own;
               commits-validate = k .commits-validate;
             };
       }
@@ -323,13 +318,12 @@ module _ {kind : ℕ → ℕ} {fin : ℕ → Bool} {arrivals : ℕ} {queue : ℕ
               waits-open = λ t. k .waits-open (rw (s i .want) at t);
               reads-lock = λ t. k .reads-lock (rw (s i .want) at t);
               writes-lock = λ t. k .writes-lock (rw (s i .want) at t);
-              writes-own = λ t. rw (s i .own) (k .writes-own (rw (s i .want) at t));
               commits-validate = λ t. k .commits-validate (rw (s i .want) at t);
             };
       }
 
 alike-upd : (q : ℕ → Waiter) (r : ℕ) (w : Waiter) → Alike w (q r) → (j : ℕ) → Alike (upd q r w j) (q j)
-alike-upd q r w a j = byEq j r (λ e. rw (e, eqb-yes j r e) a) (λ e. rw e (record { want = refl; arrival = refl; own = refl }))
+alike-upd q r w a j = byEq j r (λ e. rw (e, eqb-yes j r e) a) (λ e. rw e (record { want = refl; arrival = refl }))
 
 -- parts of the actions
 
@@ -387,11 +381,9 @@ module _ (i : ℕ) (x : Serving) (b : i < 8) (h : ApartIn x) where
       record { station = b; unfinished = k .waits-open (ap isWant w); locks = k .writes-lock w }
 
   -- a page that a writer has passed is not locked whole by another
-  pub passed : x .server .queue i .want ≡ WantWrite → Clear i x → x .server .queue i .req < 256 → (g : ℕ) → x .server .wl (pageOf (x .server .queue i .req)) ≡ suc g → g ≡ i
-  passed w c u g e =
+  pub passed : Clear i x → (a : ℕ) → x .server .queue i .writes a ≡ true → a < 256 → (g : ℕ) → x .server .wl (pageOf a) ≡ suc g → g ≡ i
+  passed c a own u g e =
       let s : Server = x .server in
-      let a : ℕ = s .queue i .req in
-      let own : s .queue i .writes a ≡ true = h .waiting .entry i b .writes-own w in
       let here : wants s i (address (pageOf a) (a % 8)) ≡ true = rw (on-page a) (or-right (s .queue i .reads a) (s .queue i .writes a) own) in
       let page : wantsPage s i (pageOf a) ≡ true = any-yes 8 (λ o. wants s i (address (pageOf a) o)) (a % 8) (omega arith) here in
       let none : shut s i (pageOf a) ≡ false = any-no 32 (shut s i) (c .unshut) (pageOf a) (omega arith) in
@@ -422,11 +414,11 @@ atomic-apart =
           record {
             locks = k .locks;
             aged = k .aged;
-            waiting = alike-waiting (k .waiting) _ (alike-upd (x .server .queue) i (waiterPend (waiterCalled (x .server .queue i) true) (concerned (x .server) i)) (record { want = refl; arrival = refl; own = refl }));
+            waiting = alike-waiting (k .waiting) _ (alike-upd (x .server .queue) i (waiterPend (waiterCalled (x .server .queue i) true) (concerned (x .server) i)) (record { want = refl; arrival = refl }));
           };
       objects = λ i x b w r k.
           let y = leave-apart i x k in
-          record { locks = object-locks (k .locks) i (x .server .queue i .req) (writer i x b k w) (passed i x b k w (r .clear)); aged = k .aged; waiting = y .waiting };
+          record { locks = object-locks (k .locks) i (x .server .queue i .writes) (writer i x b k w) (passed i x b k (r .clear)); aged = k .aged; waiting = y .waiting };
       pages = λ i x b w r e k.
           let y = leave-apart i x k in
           let p : ℕ = pageOf (x .server .queue i .req) in
@@ -472,17 +464,15 @@ read-entry s a o k =
       waits-open = λ e. o;
       reads-lock = λ e. k;
       writes-lock = λ e. k;
-      writes-own = λ e. let z : _≡_ {A = ℕ} 0 1 = cc in absurd (omega arith);
       commits-validate = λ e. let z : _≡_ {A = ℕ} 0 1 = cc in absurd (omega arith);
     }
 
-write-entry : (s : Server) (a : ℕ) {kind : ℕ} {fin : Bool} → fin ≡ false → locking kind ≡ true → Entry kind fin (writeWaiter s a)
-write-entry s a o k =
+write-entry : (s : Server) (p : ℕ) (set : ℕ → Bool) {kind : ℕ} {fin : Bool} → fin ≡ false → locking kind ≡ true → Entry kind fin (writeWaiter s p set)
+write-entry s p set o k =
     record {
       waits-open = λ e. o;
       reads-lock = λ e. k;
       writes-lock = λ e. k;
-      writes-own = λ e. eqb-same a;
       commits-validate = λ e. let z : _≡_ {A = ℕ} 0 1 = cc in absurd (omega arith);
     }
 
@@ -492,7 +482,6 @@ commit-entry s w o k =
       waits-open = λ e. o;
       reads-lock = λ e. let z : _≡_ {A = ℕ} 0 1 = cc in absurd (omega arith);
       writes-lock = λ e. let z : _≡_ {A = ℕ} 0 1 = cc in absurd (omega arith);
-      writes-own = λ e. let z : _≡_ {A = ℕ} 0 1 = cc in absurd (omega arith);
       commits-validate = λ e. k;
     }
 
@@ -508,11 +497,11 @@ accept-apart i (ReadRequest a t) x b u h =
     if-keeps ApartIn (locking (x .server .kind i))
     (λ e. join-apart i y g (readWaiter (y .server) a) refl (read-entry (y .server) a (noticed-open i t x u) (rw (noticed-kind i t x) e)))
     (λ e. g)
-accept-apart i (WriteRequest a t) x b u h =
+accept-apart i (WriteRequest p t set) x b u h =
     let y : Serving = notice i t x in
     let k : locking (x .server .kind i) ≡ true = not-no (locking (x .server .kind i)) (or-r (badNumber (x .server) i t) _ u) in
-    join-apart i y (notice-apart i x h t) (writeWaiter (y .server) a) refl
-    (write-entry (y .server) a (noticed-open i t x (or-l (badNumber (x .server) i t) _ u)) (rw (noticed-kind i t x) k))
+    join-apart i y (notice-apart i x h t) (writeWaiter (y .server) p set) refl
+    (write-entry (y .server) p set (noticed-open i t x (or-l (badNumber (x .server) i t) _ u)) (rw (noticed-kind i t x) k))
 accept-apart i (Commit w) x b u h =
     let t : ℕ = w .transaction in
     let y : Serving = notice i t x in
@@ -524,12 +513,12 @@ accept-apart i (Purge p) x b u h = h
 accept-apart i (Busy r t) x b u h =
     let q = x .server .queue in
     if-keeps ApartIn (openCall (x .server) i r t)
-    (λ e. record { locks = h .locks; aged = h .aged; waiting = alike-waiting (h .waiting) _ (alike-upd q r (waiterBusy (q r) (upd (q r .busy) i true)) (record { want = refl; arrival = refl; own = refl })) })
+    (λ e. record { locks = h .locks; aged = h .aged; waiting = alike-waiting (h .waiting) _ (alike-upd q r (waiterBusy (q r) (upd (q r .busy) i true)) (record { want = refl; arrival = refl })) })
     (λ e. h)
 accept-apart i (Done r t d) x b u h =
     let q = x .server .queue in
     if-keeps ApartIn (openCall (x .server) i r t)
-    (λ e. record { locks = h .locks; aged = h .aged; waiting = alike-waiting (h .waiting) _ (alike-upd q r (waiterPend (waiterBusy (q r) (upd (q r .busy) i false)) (upd (q r .pend) i false)) (record { want = refl; arrival = refl; own = refl })) })
+    (λ e. record { locks = h .locks; aged = h .aged; waiting = alike-waiting (h .waiting) _ (alike-upd q r (waiterPend (waiterBusy (q r) (upd (q r .busy) i false)) (upd (q r .pend) i false)) (record { want = refl; arrival = refl })) })
     (λ e. h)
 accept-apart i (WrittenSet p t set) x b u h =
     let s : Server = x .server in

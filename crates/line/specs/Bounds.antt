@@ -11,8 +11,8 @@ use lib.ListN.{length, length-append}
 use Rattle.sets.specs.Base.{upd, snoc, any, Val, none, some, turned}
 use Rattle.sets.specs.Laws.{byB, byEq, eqb-same, eqb-yes, eqb-no, and-l, and-r}
 use Rattle.line.specs.Messages.{pageOf, lastNumber, locking, Work, Up, ReadRequest, WriteRequest, Commit, Abort, Purge, Busy, Done, WrittenSet, Down, Page, Deescalate, Callback, Committed, Aborted, Invalidate, To, Answer, Nothing, Begun, Value, Waits, Written, CommittedAs, AbortedFor, Purged, Refused, Empty}
-use Rattle.line.specs.Station.{Station, Did, didStation, does, unless, Wait, Idle, ForRead, ForWrite, ForCommit, forCommit, Kept, NotKept, KeptCall, usedAt, shown, dropPages, mark, doCallback, doKept, doAllKept, closed, close, undo, checkBegin, checkOpen, longRead, longWrite, checkAddress, checkPurge, ownBegin, readLocal, readAsk, readAs, ownRead, mayWrite, writeAsk, writeLocal, ownWrite, ownCommit, ownAbort, ownPurge, ended, fits, answerWait, onPage, onDeescalate, onCallback, onCommitted, onAborted, onInvalidate, onDown, stationStep}
-use Rattle.line.specs.Line.{Op, Begin, Read, Write, Commits, Aborts, Purges, Call, Owner, ServerTakes, StationTakes, Broken, World, Reply, Acted, acted, replies, upReply, perform, tell, carryUp, ownerActs, isRefused, stationTakes, serverTakes, act}
+use Rattle.line.specs.Station.{Station, Did, didStation, does, unless, Wait, Idle, ForRead, ForWrite, ForCommit, forCommit, Kept, NotKept, KeptCall, usedAt, usedPage, shown, dropPages, mark, doCallback, doKept, doAllKept, closed, close, undo, checkBegin, checkOpen, checkRead, someOn, checkWrite, checkPurge, ownBegin, readLocal, readAsk, readAs, ownRead, named, writeAsk, writeLocal, writeSet, ofPage, ownWrite, ownCommit, ownAbort, ownPurge, ended, fits, answerWait, onPage, onDeescalate, onCallback, onCommitted, onAborted, onInvalidate, onDown, stationStep}
+use Rattle.line.specs.Line.{Op, Begin, Read, WriteSet, Commits, Aborts, Purges, Call, Owner, ServerTakes, StationTakes, Broken, World, Reply, Acted, acted, replies, upReply, perform, tell, carryUp, ownerActs, isRefused, stationTakes, serverTakes, act}
 use Rattle.line.specs.Server.{Server, Serving, ByCommit, ByMessage, send, Waiter, concerned, callsFrom, noWaiter, isWant, waits, shut, unexpected, badNumber, notice, finish, join, leave, sendPage, abort, write, archive, informed, inform, informFrom, install, serveNow, joinRead, joinWrite, joinCommit, commitNow, unlist, openCall, markBusy, answered, openAsk, loosen, accept, ask, serveRead, call, grantObject, grantPage, installWaiter, start, serverStep}
 use Rattle.line.specs.Pass.{Atomic, step-keeps}
 use Rattle.line.specs.Fuel.{sumTo, nb, pagesCost, sum-le, sum-at, sum-1, nb-1, frees, lock-up, ask-less, marked}
@@ -232,7 +232,7 @@ unfolding accept joinRead joinWrite joinCommit join serveNow sendPage finish unl
 accept-few i (ReadRequest a t) x =
     let n = ap length (notice-sent i t x) in
     byB (locking (x .server .kind i)) (λ e. rw e (omega arith)) (λ e. rw (e, one-more) (omega arith))
-accept-few i (WriteRequest a t) x = omega (arith, ap length (notice-sent i t x))
+accept-few i (WriteRequest p t set) x = omega (arith, ap length (notice-sent i t x))
 accept-few i (Commit w) x =
     let n = ap length (notice-sent i (w .transaction) x) in
     byB (locking (x .server .kind i)) (λ e. rw e (omega (arith, commit-few i w (notice i (w .transaction) x)))) (λ e. rw e (omega arith))
@@ -308,7 +308,7 @@ accept-total i (ReadRequest a t) s b u =
     byB (locking (s .kind i))
     (λ e. rw e (quiet-total (joinRead i a (notice i t (start s))) n))
     (λ e. rw e (now-total i a (notice i t (start s)) b n w))
-accept-total i (WriteRequest a t) s b u = quiet-total (joinWrite i a (notice i t (start s))) (ap length (notice-sent i t (start s)))
+accept-total i (WriteRequest p t set) s b u = quiet-total (joinWrite i p set (notice i t (start s))) (ap length (notice-sent i t (start s)))
 accept-total i (Commit w) s b u =
     let n : length ((notice i (w .transaction) (start s)) .sent) ≡ 0 = ap length (notice-sent i (w .transaction) (start s)) in
     byB (locking (s .kind i))
@@ -418,7 +418,7 @@ accept-records i (ReadRequest a t) s b =
     byB (locking (s .kind i))
     (λ e. rw e (quiet-records (joinRead i a (notice i t (start s))) n))
     (λ e. rw e (quiet-records (serveNow i a (notice i t (start s))) n))
-accept-records i (WriteRequest a t) s b = quiet-records (joinWrite i a (notice i t (start s))) (ap length (notice-recs i t (start s)))
+accept-records i (WriteRequest p t set) s b = quiet-records (joinWrite i p set (notice i t (start s))) (ap length (notice-recs i t (start s)))
 accept-records i (Commit w) s b =
     let n : length ((notice i (w .transaction) (start s)) .recs) ≡ 0 = ap length (notice-recs i (w .transaction) (start s)) in
     byB (locking (s .kind i))
@@ -503,9 +503,9 @@ read-8 a none none s = byB (shown s a) (λ e. rw e (omega arith)) (λ e. rw e (o
 read-8 a none (some v) s = omega arith
 read-8 a (some v) r s = omega arith
 
-write-8 : (a v : ℕ) (s : Station) → length ((cond (mayWrite a s) (does Written (writeLocal a v s) []) (writeAsk a v s)) .sent) ≤ 8
+write-8 : (p : ℕ) (f : ℕ → Val) (s : Station) → length ((cond (someOn p (named f s)) (writeAsk p f s) (does Written (writeLocal f s) [])) .sent) ≤ 8
 unfolding writeAsk
-write-8 a v s = byB (mayWrite a s) (λ e. rw e (omega arith)) (λ e. rw e (omega arith))
+write-8 p f s = byB (someOn p (named f s)) (λ e. rw e (omega arith)) (λ e. rw e (omega arith))
 
 abort-8 : (own : ℕ) (s : Station) → own < 8 → s .kept own ≡ NotKept → length ((close (does (AbortedFor 0) (undo s) (cond (locking (s .kind)) (Abort (s .num) ∷ []) []))) .sent) ≤ 8
 abort-8 own s b e =
@@ -515,10 +515,10 @@ abort-8 own s b e =
 
 -- an owner's operation, at the station own
 pub owner-bound : (own : ℕ) (op : Op) (s : Station) → own < 8 → s .kept own ≡ NotKept → length ((perform op s) .sent) ≤ 8
-unfolding perform ownBegin ownRead ownWrite ownCommit ownAbort ownPurge
+unfolding perform ownBegin ownRead ownWrite writeSet ownCommit ownAbort ownPurge
 owner-bound own Begin s b e = unless-8 (checkBegin s) _ s (omega arith)
-owner-bound own (Read a) s b e = unless-8 (checkAddress a (longRead a s) s) _ s (read-8 a (s .wr a) (s .rd a) s)
-owner-bound own (Write a v) s b e = unless-8 (checkAddress a (longWrite a s) s) _ s (write-8 a v s)
+owner-bound own (Read a) s b e = unless-8 (checkRead a s) _ s (read-8 a (s .wr a) (s .rd a) s)
+owner-bound own (WriteSet p f) s b e = unless-8 (checkWrite p (ofPage p f) s) _ s (write-8 p (ofPage p f) s)
 owner-bound own Commits s b e = unless-8 (checkOpen s) _ s (omega arith)
 owner-bound own Aborts s b e = unless-8 (checkOpen s) _ s (abort-8 own s b e)
 owner-bound own (Purges p) s b e = unless-8 (checkPurge p s) _ s (omega arith)
@@ -527,7 +527,7 @@ wait-8 : (v : Wait) (s : Station) → length ((answerWait v s) .sent) ≤ 8
 unfolding answerWait
 wait-8 Idle s = omega arith
 wait-8 (ForRead a) s = omega arith
-wait-8 (ForWrite a v) s = omega arith
+wait-8 (ForWrite p f) s = omega arith
 wait-8 ForCommit s = omega arith
 
 down-8 : (m : Down) (s : Station) → length ((onDown m s) .sent) ≤ 8
@@ -580,15 +580,15 @@ read-answer a none none s = byB (shown s a) (λ e. rw e refl) (λ e. rw e refl)
 read-answer a none (some v) s = refl
 read-answer a (some v) r s = refl
 
-write-answer : (a v : ℕ) (s : Station) → isRefused ((cond (mayWrite a s) (does Written (writeLocal a v s) []) (writeAsk a v s)) .answer) ≡ false
+write-answer : (p : ℕ) (f : ℕ → Val) (s : Station) → isRefused ((cond (someOn p (named f s)) (writeAsk p f s) (does Written (writeLocal f s) [])) .answer) ≡ false
 unfolding writeAsk
-write-answer a v s = byB (mayWrite a s) (λ e. rw e refl) (λ e. rw e refl)
+write-answer p f s = byB (someOn p (named f s)) (λ e. rw e refl) (λ e. rw e refl)
 
 wait-answer : (v : Wait) (s : Station) → isRefused ((answerWait v s) .answer) ≡ false
 unfolding answerWait
 wait-answer Idle s = refl
 wait-answer (ForRead a) s = refl
-wait-answer (ForWrite a v) s = refl
+wait-answer (ForWrite p f) s = refl
 wait-answer ForCommit s = refl
 
 down-answer : (m : Down) (s : Station) → isRefused ((onDown m s) .answer) ≡ false
@@ -606,10 +606,10 @@ down-answer (Invalidate d) s =
 -- a refused operation, a refused step
 
 pub perform-untouched : (op : Op) (s : Station) → isRefused ((perform op s) .answer) ≡ true → Untouched s (perform op s)
-unfolding perform ownBegin ownRead ownWrite ownCommit ownAbort ownPurge
+unfolding perform ownBegin ownRead ownWrite writeSet ownCommit ownAbort ownPurge
 perform-untouched Begin s h = unless-untouched (checkBegin s) _ s refl h
-perform-untouched (Read a) s h = unless-untouched (checkAddress a (longRead a s) s) _ s (read-answer a (s .wr a) (s .rd a) s) h
-perform-untouched (Write a v) s h = unless-untouched (checkAddress a (longWrite a s) s) _ s (write-answer a v s) h
+perform-untouched (Read a) s h = unless-untouched (checkRead a s) _ s (read-answer a (s .wr a) (s .rd a) s) h
+perform-untouched (WriteSet p f) s h = unless-untouched (checkWrite p (ofPage p f) s) _ s (write-answer p (ofPage p f) s) h
 perform-untouched Commits s h = unless-untouched (checkOpen s) _ s refl h
 perform-untouched Aborts s h = unless-untouched (checkOpen s) _ s (ap isRefused (close-answer _)) h
 perform-untouched (Purges p) s h = unless-untouched (checkPurge p s) _ s refl h

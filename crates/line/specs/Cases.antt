@@ -1,14 +1,17 @@
--- Document 01's cases C1 to C9, the limits, the numbers that owners meet, and the crossings, as one table of runs, computed.
+-- Document 01's cases C1 to C9, the limits, the numbers that owners meet, the crossings, and what document 02 brings, as one table of
+-- runs, computed.
 -- 8 is page 1, object 0; 9 is page 1, object 1. A message is written as the station on the line, then what its kind names, in document
 -- 01's order: `page 2 1 1 1 noVersions 1 noValues` is 16 to station 2: page 1, object 1, transaction 1, versions 0, unavailable set 1, zeros.
 use mathlib.Core.Path.{refl}
+use mathlib.Core.Bool.{cond}
 use mathlib.Core.List.{List, [], _∷_, _++_}
 use Prim.Native.Nat.{ℕ, zero, suc, _^_}
-use Rattle.sets.specs.Base.{at}
+use lib.Dec.{eqb, ltb}
+use Rattle.sets.specs.Base.{at, Val, none, some, noneAt}
 use Rattle.line.specs.Messages.{address, lastNumber, Answer, Nothing, Begun, Value, Waits, Written, CommittedAs, AbortedFor, Purged, Refused, Empty}
 use Rattle.line.specs.Station.{setNum}
 use Rattle.line.specs.Server.{setLast}
-use Rattle.line.specs.Line.{World, worldServer, worldStation, Call, Owner, ServerTakes, StationTakes, Broken, Begin, Read, Write, Commits, Aborts, Purges, fresh}
+use Rattle.line.specs.Line.{World, worldServer, worldStation, Call, Owner, ServerTakes, StationTakes, Broken, Op, Begin, Read, WriteSet, Write, Commits, Aborts, Purges, fresh}
 use Rattle.line.specs.Fields.{Fields, recorded, noValues, noVersions, setOn, readRequest, writeRequest, commit, abort, purge, busy, done, writtenSet, page, pageAndObject, pageWhole, deescalate, callback, committed, aborted, invalidate}
 use Rattle.line.specs.Rows.{Step, step, Row, row, seen, Holds, AllHold}
 
@@ -41,7 +44,7 @@ reads i o =
 
 -- 0 writes 5 to 8 and has to ask
 abbrev pub asks : Step
-asks = sends (Owner 0 (Write 8 5)) Waits (writeRequest 0 1 0 1 ∷ [])
+asks = sends (Owner 0 (Write 8 5)) Waits (writeRequest 0 1 1 1 ∷ [])
 
 unfoldable pub C1 : Row
 C1 = row "C1 fresh, 0 reads 8: 1, 16, value 0." line (reads 0 0)
@@ -108,7 +111,7 @@ C6 =
     (reads 0 0
     ++ reads 2 0
     ++ (asks
-    ∷ sends (Owner 2 (Write 8 6)) Waits (writeRequest 2 1 0 1 ∷ [])
+    ∷ sends (Owner 2 (Write 8 6)) Waits (writeRequest 2 1 1 1 ∷ [])
     ∷ serves 0 (callback 2 0 1 (setOn 1 1) ∷ [])
     ∷ serves 2 []
     ∷ sends (StationTakes 2) Nothing (busy 2 0 1 ∷ [])
@@ -230,8 +233,8 @@ besideWhole =
     ∷ sends (Owner 2 (Purges 1)) Purged (purge 2 1 ∷ [])
     ∷ serves 2 []
     ∷ serves 2 []
-    ∷ sends (Owner 0 (Write 9 6)) Waits (writeRequest 0 1 1 1 ∷ [])
-    ∷ serves 0 (pageWhole 0 1 1 1 noVersions 0 noValues ∷ [])
+    ∷ sends (Owner 0 (Write 9 6)) Waits (writeRequest 0 1 1 2 ∷ [])
+    ∷ serves 0 (pageWhole 0 1 0 1 noVersions 0 noValues ∷ [])
     ∷ answers (StationTakes 0) Written
     ∷ answers (Owner 1 Begin) (Begun 1)
     ∷ sends (Owner 1 (Write 8 7)) Waits (readRequest 1 1 0 1 ∷ [])
@@ -381,7 +384,7 @@ requestOut =
     ++ (sends (Owner 2 Aborts) (AbortedFor 0) (abort 2 1 ∷ [])
     ∷ serves 2 []
     ∷ answers (Owner 2 Begin) (Begun 2)
-    ∷ sends (Owner 2 (Write 9 7)) Waits (writeRequest 2 1 1 2 ∷ [])
+    ∷ sends (Owner 2 (Write 9 7)) Waits (writeRequest 2 1 2 2 ∷ [])
     ∷ asks
     ∷ serves 0 (callback 2 0 1 (setOn 1 1) ∷ [])
     ∷ sends (StationTakes 2) Nothing (done 2 0 1 0 ∷ [])
@@ -389,7 +392,7 @@ requestOut =
     ∷ serves 2 (pageAndObject 0 1 0 1 noVersions 2 noValues ∷ [])
     ∷ sends (StationTakes 0) Nothing (done 0 2 2 0 ∷ [])
     ∷ answers (StationTakes 0) Written
-    ∷ serves 0 (pageAndObject 2 1 1 2 noVersions 1 noValues ∷ [])
+    ∷ serves 0 (pageAndObject 2 1 0 2 noVersions 1 noValues ∷ [])
     ∷ answers (StationTakes 2) Written
     ∷ []))
 
@@ -563,8 +566,230 @@ usedAndUnused =
     ∷ answers (StationTakes 3) (AbortedFor 2)
     ∷ []))
 
+-- Document 02, wish 9: sets of objects of page 1. A 2 is written as station, page, transaction, object set.
+
+-- these values to these addresses
+abbrev given : List (ℕ × ℕ) → ℕ → Val
+given [] a = none
+given (x ∷ l) a = cond (eqb a (x .0)) (some (x .1)) (given l a)
+
+-- "three counters of one page"
+abbrev counters : List (ℕ × ℕ)
+counters = (8, 1) ∷ (9, 2) ∷ (10, 3) ∷ []
+
+abbrev three : Op
+three = WriteSet 1 (given counters)
+
+-- 0 writes the three and has to ask for all
+abbrev asksThree : Step
+asksThree = sends (Owner 0 three) Waits (writeRequest 0 1 1 7 ∷ [])
+
+-- 0 has them
+abbrev wroteThree : List Step
+wroteThree =
+    answers (Owner 0 (Read 8)) (Value 1)
+    ∷ answers (Owner 0 (Read 9)) (Value 2)
+    ∷ answers (Owner 0 (Read 10)) (Value 3)
+    ∷ []
+
+unfoldable pub setWhole : Row
+setWhole =
+    row "A set of three, nobody else listed: 18, and all are written when it arrives." line
+    (answers (Owner 0 Begin) (Begun 1)
+    ∷ asksThree
+    ∷ serves 0 (pageWhole 0 1 0 1 noVersions 0 noValues ∷ [])
+    ∷ answers (StationTakes 0) Written
+    ∷ (wroteThree
+    ++ (sends (Owner 0 Commits) Waits (commit 0 1 (only 1) (0 ∷ 0 ∷ 0 ∷ []) (recorded 0 1 0 0 [] counters) ∷ [])
+    ∷ step (ServerTakes 0) Nothing (committed 0 1 1 ∷ []) (recorded 1 1 0 0 [] counters ∷ [])
+    ∷ answers (StationTakes 0) (CommittedAs 1)
+    ∷ [])))
+
+-- 2 has read 11; 4 comes to the page behind the grant
+unfoldable pub setObjects : Row
+setObjects =
+    row "A set of three, another has the page: called back for all, 17 locks all in one step." line
+    (reads 2 3
+    ++ (answers (Owner 0 Begin) (Begun 1)
+    ∷ asksThree
+    ∷ serves 0 (callback 2 0 1 (setOn 1 7) ∷ [])
+    ∷ sends (StationTakes 2) Nothing (done 2 0 1 0 ∷ [])
+    ∷ serves 2 (pageAndObject 0 1 0 1 noVersions 0 noValues ∷ [])
+    ∷ answers (StationTakes 0) Written
+    ∷ (wroteThree
+    ++ (answers (Owner 4 Begin) (Begun 1)
+    ∷ sends (Owner 4 (Read 12)) Waits (readRequest 4 1 4 1 ∷ [])
+    ∷ serves 4 (page 4 1 4 1 noVersions 7 noValues ∷ [])
+    ∷ sends (Owner 2 (Read 10)) Waits (readRequest 2 1 2 1 ∷ [])
+    ∷ serves 2 []
+    ∷ []))))
+
+-- 0 has read 11, so 2 gets a lock on 9 alone, which it has read before 0's set comes
+unfoldable pub setBlocked : Row
+setBlocked =
+    row "A set waits for all its objects: one of three is locked by another." line
+    (reads 0 3
+    ++ (answers (Owner 2 Begin) (Begun 1)
+    ∷ sends (Owner 2 (Write 9 7)) Waits (writeRequest 2 1 1 2 ∷ [])
+    ∷ serves 2 (callback 0 2 1 (setOn 1 2) ∷ [])
+    ∷ sends (StationTakes 0) Nothing (done 0 2 1 0 ∷ [])
+    ∷ serves 0 (pageAndObject 2 1 0 1 noVersions 0 noValues ∷ [])
+    ∷ answers (StationTakes 2) Written
+    ∷ asksThree
+    ∷ serves 0 []
+    ∷ sends (Owner 2 Commits) Waits (commit 2 1 (only 1) (0 ∷ []) (recorded 0 1 2 0 [] ((9, 7) ∷ [])) ∷ [])
+    ∷ step (ServerTakes 2) Nothing (committed 2 1 1 ∷ callback 2 0 1 (setOn 1 7) ∷ []) (recorded 1 1 2 0 [] ((9, 7) ∷ []) ∷ [])
+    ∷ answers (StationTakes 2) (CommittedAs 1)
+    ∷ sends (StationTakes 2) Nothing (done 2 0 1 (only 1) ∷ [])
+    ∷ serves 2 (pageWhole 0 1 0 1 (0 ∷ 1 ∷ 0 ∷ 0 ∷ 0 ∷ 0 ∷ 0 ∷ 0 ∷ []) 0 (0 ∷ 7 ∷ 0 ∷ 0 ∷ 0 ∷ 0 ∷ 0 ∷ 0 ∷ []) ∷ [])
+    ∷ answers (StationTakes 0) Written
+    ∷ wroteThree))
+
+-- both have read 10, the highest of the three
+unfoldable pub setCycle : Row
+setCycle =
+    row "Cause 1 and edges are reckoned for every object in the set: 2 has read 10 of 0's set and writes it." line
+    (reads 0 2
+    ++ reads 2 2
+    ++ (asksThree
+    ∷ sends (Owner 2 (Write 10 9)) Waits (writeRequest 2 1 1 4 ∷ [])
+    ∷ serves 0 (callback 2 0 1 (setOn 1 7) ∷ [])
+    ∷ serves 2 []
+    ∷ sends (StationTakes 2) Nothing (busy 2 0 1 ∷ [])
+    ∷ serves 2 (aborted 2 1 1 ∷ [])
+    ∷ sends (StationTakes 2) (AbortedFor 1) (done 2 0 1 (only 1) ∷ [])
+    ∷ serves 2 (pageWhole 0 1 0 1 noVersions 0 noValues ∷ [])
+    ∷ answers (StationTakes 0) Written
+    ∷ []))
+
+-- 0 has read 11 and 16; 2 has a lock on 10, the highest of the three, and wants 16
+unfoldable pub setEdges : Row
+setEdges =
+    row "An edge runs from every object in the set: 0 waits for 10, which 2 has locked, and 2 for 16, which 0 has read." line
+    (reads 0 3
+    ++ (sends (Owner 0 (Read 16)) Waits (readRequest 0 2 0 1 ∷ [])
+    ∷ serves 0 (page 0 2 0 1 noVersions 0 noValues ∷ [])
+    ∷ answers (StationTakes 0) (Value 0)
+    ∷ answers (Owner 2 Begin) (Begun 1)
+    ∷ sends (Owner 2 (Write 10 9)) Waits (writeRequest 2 1 1 4 ∷ [])
+    ∷ serves 2 (callback 0 2 1 (setOn 1 4) ∷ [])
+    ∷ sends (StationTakes 0) Nothing (done 0 2 1 0 ∷ [])
+    ∷ serves 0 (pageAndObject 2 1 0 1 noVersions 0 noValues ∷ [])
+    ∷ answers (StationTakes 2) Written
+    ∷ asksThree
+    ∷ serves 0 []
+    ∷ sends (Owner 2 (Write 16 5)) Waits (writeRequest 2 2 1 1 ∷ [])
+    ∷ serves 2 (callback 0 2 1 (setOn 2 1) ∷ [])
+    ∷ sends (StationTakes 0) Nothing (busy 0 2 1 ∷ [])
+    ∷ serves 0 (aborted 2 1 1 ∷ callback 2 0 1 (setOn 1 7) ∷ [])
+    ∷ answers (StationTakes 2) (AbortedFor 1)
+    ∷ sends (StationTakes 2) Nothing (done 2 0 1 (only 1) ∷ [])
+    ∷ serves 2 (pageWhole 0 1 0 1 noVersions 0 noValues ∷ [])
+    ∷ answers (StationTakes 0) Written
+    ∷ []))
+
+-- 0's set waits for 2, which has read 9; 4 comes to the page
+unfoldable pub setUnavailable : Row
+setUnavailable =
+    row "Unavailable sets are reckoned for every object in the set: those that wait to be written." line
+    (reads 2 1
+    ++ (answers (Owner 0 Begin) (Begun 1)
+    ∷ asksThree
+    ∷ serves 0 (callback 2 0 1 (setOn 1 7) ∷ [])
+    ∷ sends (StationTakes 2) Nothing (busy 2 0 1 ∷ [])
+    ∷ serves 2 []
+    ∷ answers (Owner 4 Begin) (Begun 1)
+    ∷ sends (Owner 4 (Read 12)) Waits (readRequest 4 1 4 1 ∷ [])
+    ∷ serves 4 (page 4 1 4 1 noVersions 7 noValues ∷ [])
+    ∷ []))
+
+-- 4 waits to write 9 when 0's set is granted
+unfoldable pub setShown : Row
+setShown =
+    row "Unavailable in 17 is what others wait to write, without all of the set." line
+    (reads 2 3
+    ++ (answers (Owner 0 Begin) (Begun 1)
+    ∷ asksThree
+    ∷ serves 0 (callback 2 0 1 (setOn 1 7) ∷ [])
+    ∷ answers (Owner 4 Begin) (Begun 1)
+    ∷ sends (Owner 4 (Write 9 4)) Waits (writeRequest 4 1 1 2 ∷ [])
+    ∷ serves 4 []
+    ∷ sends (StationTakes 2) Nothing (done 2 0 1 0 ∷ [])
+    ∷ serves 2 (pageAndObject 0 1 0 1 noVersions 0 noValues ∷ [])
+    ∷ answers (StationTakes 0) Written
+    ∷ []))
+
+unfoldable pub setAtOnce : Row
+setAtOnce =
+    row "All are written at once if none is named: 0 holds page 1 whole." line
+    (holdsWhole
+    ++ (answers (Owner 0 three) Written ∷ wroteThree))
+
+-- 0 has a lock on 8, which it has written
+unfoldable pub setPartly : Row
+setPartly =
+    row "The request names those under no lock yet; all are written when the grant arrives." line
+    (reads 0 0
+    ++ reads 2 3
+    ++ (asks
+    ∷ serves 0 (callback 2 0 1 (setOn 1 1) ∷ [])
+    ∷ sends (StationTakes 2) Nothing (done 2 0 1 0 ∷ [])
+    ∷ serves 2 (pageAndObject 0 1 0 1 noVersions 0 noValues ∷ [])
+    ∷ answers (StationTakes 0) Written
+    ∷ sends (Owner 0 three) Waits (writeRequest 0 1 1 6 ∷ [])
+    ∷ serves 0 (callback 2 0 1 (setOn 1 6) ∷ [])
+    ∷ sends (StationTakes 2) Nothing (done 2 0 1 0 ∷ [])
+    ∷ serves 2 (pageAndObject 0 1 0 1 noVersions 0 noValues ∷ [])
+    ∷ answers (StationTakes 0) Written
+    ∷ (wroteThree ++ (answers (Owner 0 three) Written ∷ []))))
+
+unfoldable pub setRange : Row
+setRange =
+    row "The empty set, or several objects from a validating owner, is number 4." line
+    (answers (Owner 0 (WriteSet 1 noneAt)) (Refused 4)
+    ∷ answers (Owner 0 (WriteSet 1 (given ((16, 1) ∷ [])))) (Refused 4)
+    ∷ answers (Owner 0 (WriteSet 32 (given ((256, 1) ∷ [])))) (Refused 4)
+    ∷ answers (Owner 0 three) (Refused 8)
+    ∷ answers (Owner 0 Begin) (Begun 1)
+    ∷ asksThree
+    ∷ answers (Owner 0 three) (Refused 7)
+    ∷ answers (Owner 0 (WriteSet 1 noneAt)) (Refused 4)
+    ∷ answers (Owner 1 three) (Refused 4)
+    ∷ answers (Owner 1 (WriteSet 1 (given ((9, 7) ∷ [])))) (Refused 8)
+    ∷ answers (Owner 1 Begin) (Begun 1)
+    ∷ answers (Owner 1 three) (Refused 4)
+    ∷ sends (Owner 1 (WriteSet 1 (given ((9, 7) ∷ [])))) Waits (readRequest 1 1 1 1 ∷ [])
+    ∷ serves 1 (page 1 1 1 1 noVersions 0 noValues ∷ [])
+    ∷ answers (StationTakes 1) Written
+    ∷ answers (Owner 1 three) (Refused 4)
+    ∷ answers (Owner 1 (WriteSet 1 (given ((10, 8) ∷ [])))) Written
+    ∷ [])
+
+-- 0 writes a set of n objects of page p, all 1, and gets the page whole
+abbrev setOfPage : ℕ → ℕ → Op
+setOfPage p n = WriteSet p (λ a. cond (ltb a (address p n)) (some 1) none)
+
+abbrev writesSet : ℕ → ℕ → ℕ → List Step
+writesSet p n u =
+    sends (Owner 0 (setOfPage p n)) Waits (writeRequest 0 p 1 u ∷ [])
+    ∷ serves 0 (pageWhole 0 p 0 1 noVersions 0 noValues ∷ [])
+    ∷ answers (StationTakes 0) Written
+    ∷ []
+
+unfoldable pub setLong : Row
+setLong =
+    row "15. Long, for the whole set: 47 are written, and a set of two more is refused, one of them written before is not." line
+    (answers (Owner 0 Begin) (Begun 1)
+    ∷ (eachOf (λ p. writesSet p 8 255) 5
+    ++ writesSet 5 7 127
+    ++ (answers (Owner 0 (setOfPage 6 2)) (Refused 15)
+    ∷ answers (Owner 0 (setOfPage 5 8)) Written
+    ∷ answers (Owner 0 (setOfPage 6 1)) (Refused 15)
+    ∷ answers (Owner 0 (setOfPage 5 8)) Written
+    ∷ [])))
+
 unfoldable pub table : List Row
-table = C1 ∷ C2 ∷ C3 ∷ C4 ∷ C5 ∷ C6 ∷ C7 ∷ C8 ∷ inUseAborts ∷ inUseCommits ∷ wroteNine ∷ besideWhole ∷ C9 ∷ lastCommit ∷ spent ∷ longReads ∷ longWrites ∷ turnedBack ∷ requestOut ∷ pageUnderWay ∷ staleCommit ∷ byArrival ∷ neighboursCommit ∷ marked ∷ markedOut ∷ arrivesOver ∷ sameObject ∷ blindWrite ∷ usedAndUnused ∷ []
+table = C1 ∷ C2 ∷ C3 ∷ C4 ∷ C5 ∷ C6 ∷ C7 ∷ C8 ∷ inUseAborts ∷ inUseCommits ∷ wroteNine ∷ besideWhole ∷ C9 ∷ lastCommit ∷ spent ∷ longReads ∷ longWrites ∷ turnedBack ∷ requestOut ∷ pageUnderWay ∷ staleCommit ∷ byArrival ∷ neighboursCommit ∷ marked ∷ markedOut ∷ arrivesOver ∷ sameObject ∷ blindWrite ∷ usedAndUnused ∷ setWhole ∷ setObjects ∷ setBlocked ∷ setCycle ∷ setEdges ∷ setUnavailable ∷ setShown ∷ setAtOnce ∷ setPartly ∷ setRange ∷ setLong ∷ []
 
 C1-holds : Holds C1
 unfolding Holds seen C1
@@ -682,6 +907,50 @@ usedAndUnused-holds : Holds usedAndUnused
 unfolding Holds seen usedAndUnused
 usedAndUnused-holds = refl
 
+setWhole-holds : Holds setWhole
+unfolding Holds seen setWhole
+setWhole-holds = refl
+
+setObjects-holds : Holds setObjects
+unfolding Holds seen setObjects
+setObjects-holds = refl
+
+setBlocked-holds : Holds setBlocked
+unfolding Holds seen setBlocked
+setBlocked-holds = refl
+
+setCycle-holds : Holds setCycle
+unfolding Holds seen setCycle
+setCycle-holds = refl
+
+setEdges-holds : Holds setEdges
+unfolding Holds seen setEdges
+setEdges-holds = refl
+
+setUnavailable-holds : Holds setUnavailable
+unfolding Holds seen setUnavailable
+setUnavailable-holds = refl
+
+setShown-holds : Holds setShown
+unfolding Holds seen setShown
+setShown-holds = refl
+
+setAtOnce-holds : Holds setAtOnce
+unfolding Holds seen setAtOnce
+setAtOnce-holds = refl
+
+setPartly-holds : Holds setPartly
+unfolding Holds seen setPartly
+setPartly-holds = refl
+
+setRange-holds : Holds setRange
+unfolding Holds seen setRange
+setRange-holds = refl
+
+setLong-holds : Holds setLong
+unfolding Holds seen setLong
+setLong-holds = refl
+
 pub table-holds : AllHold table
 unfolding AllHold table
-table-holds = (C1-holds, (C2-holds, (C3-holds, (C4-holds, (C5-holds, (C6-holds, (C7-holds, (C8-holds, (inUseAborts-holds, (inUseCommits-holds, (wroteNine-holds, (besideWhole-holds, (C9-holds, (lastCommit-holds, (spent-holds, (longReads-holds, (longWrites-holds, (turnedBack-holds, (requestOut-holds, (pageUnderWay-holds, (staleCommit-holds, (byArrival-holds, (neighboursCommit-holds, (marked-holds, (markedOut-holds, (arrivesOver-holds, (sameObject-holds, (blindWrite-holds, (usedAndUnused-holds, tt)))))))))))))))))))))))))))))
+table-holds = (C1-holds, (C2-holds, (C3-holds, (C4-holds, (C5-holds, (C6-holds, (C7-holds, (C8-holds, (inUseAborts-holds, (inUseCommits-holds, (wroteNine-holds, (besideWhole-holds, (C9-holds, (lastCommit-holds, (spent-holds, (longReads-holds, (longWrites-holds, (turnedBack-holds, (requestOut-holds, (pageUnderWay-holds, (staleCommit-holds, (byArrival-holds, (neighboursCommit-holds, (marked-holds, (markedOut-holds, (arrivesOver-holds, (sameObject-holds, (blindWrite-holds, (usedAndUnused-holds, (setWhole-holds, (setObjects-holds, (setBlocked-holds, (setCycle-holds, (setEdges-holds, (setUnavailable-holds, (setShown-holds, (setAtOnce-holds, (setPartly-holds, (setRange-holds, (setLong-holds, tt))))))))))))))))))))))))))))))))))))))))

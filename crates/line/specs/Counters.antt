@@ -12,8 +12,8 @@ use Rattle.sets.specs.Laws.{byB, byEq, eqb-same, eqb-yes, eqb-no}
 use Rattle.line.specs.Messages.{lastNumber, locking, Work, Lock, NoLock, ObjectLock, WholeLock, Up, ReadRequest, WriteRequest, Commit, Abort, Purge, Busy, Done, WrittenSet, Down, Page, Deescalate, Callback, Committed, Aborted, Invalidate}
 use Rattle.line.specs.Server.{Server, Serving, aged, badNumber, unexpected, notice, finish, join, leave, sendPage, abort, informed, write, archive, inform, informFrom, install, serveNow, joinRead, joinWrite, joinCommit, commitNow, unlist, openCall, markBusy, answered, openAsk, loosen, accept, ask, serveRead, call, grantPage, grantObject, installWaiter, start, serverStep}
 use Rattle.line.specs.Station as S
-use Rattle.line.specs.Station.{Station, Did, unless, Wait, Idle, ForRead, ForWrite, ForCommit, waiting, Kept, NotKept, KeptCall, shown, mayWrite, usedAt, forCommit, live, ended, fits, checkBegin, checkOpen, longRead, longWrite, checkAddress, checkPurge, dropPages, recordRead, writeLocal, mark, doCallback, doKept, doAllKept, closed, close, undo, ownBegin, readLocal, readAsk, readAs, ownRead, writeAsk, ownWrite, ownCommit, ownAbort, ownPurge, arrive, takeLock, answerWait, onPage, onDeescalate, onCallback, onCommitted, onAborted, onInvalidate, onDown, stationStep}
-use Rattle.line.specs.Line.{World, Op, Begin, Read, Write, Commits, Aborts, Purges, Call, fresh, perform, act, run}
+use Rattle.line.specs.Station.{Station, Did, unless, Wait, Idle, ForRead, ForWrite, ForCommit, waiting, Kept, NotKept, KeptCall, shown, usedAt, usedPage, forCommit, live, ended, fits, checkBegin, checkOpen, checkRead, someOn, checkWrite, checkPurge, dropPages, recordRead, writeLocal, mark, doCallback, doKept, doAllKept, closed, close, undo, ownBegin, readLocal, readAsk, readAs, ownRead, writeAsk, writeSet, ofPage, ownWrite, ownCommit, ownAbort, ownPurge, arrive, takeLock, answerWait, onPage, onDeescalate, onCallback, onCommitted, onAborted, onInvalidate, onDown, stationStep}
+use Rattle.line.specs.Line.{World, Op, Begin, Read, WriteSet, Commits, Aborts, Purges, Call, fresh, perform, act, run}
 use Rattle.line.specs.Pass.{Atomic, if-keeps, step-keeps}
 use Rattle.line.specs.Fuel.{sumTo, sum-at}
 use Rattle.line.specs.Apart.{or-l, good-number}
@@ -23,7 +23,7 @@ use Rattle.line.specs.Runs.{Moves, act-moves, run-keeps}
 -- the transaction that 1 to 4 name
 abbrev pub named : Up → ℕ
 named (ReadRequest a t) = t
-named (WriteRequest a t) = t
+named (WriteRequest p t set) = t
 named (Commit w) = w .transaction
 named (Abort t) = t
 named (Purge p) = 0
@@ -96,7 +96,7 @@ module _ (P : (ℕ → ℕ) → ℕ → ℕ → Type 0) where
       if-keeps (Has P) (locking (x .server .kind i))
       (λ e. notice-has (λ L A N. P L A (N + 1)) i t x u (k .joins) (k .begins-joins))
       (λ e. notice-has P i t x u (k .stays) (k .begins))
-  accept-has i (WriteRequest a t) x u k = notice-has (λ L A N. P L A (N + 1)) i t x (or-l (badNumber (x .server) i t) _ u) (k .joins) (k .begins-joins)
+  accept-has i (WriteRequest p t set) x u k = notice-has (λ L A N. P L A (N + 1)) i t x (or-l (badNumber (x .server) i t) _ u) (k .joins) (k .begins-joins)
   accept-has i (Commit w) x u k =
       let t : ℕ = w .transaction in
       let v : badNumber (x .server) i t ≡ false = or-l (badNumber (x .server) i t) _ u in
@@ -185,7 +185,7 @@ answer-numbered : (n : ℕ) (w : Wait) (s : Station) → s .num ≡ n → n ≤ 
 unfolding answerWait recordRead writeLocal
 answer-numbered n Idle s e b = rw e (silent n b)
 answer-numbered n (ForRead a) s e b = rw e (silent n b)
-answer-numbered n (ForWrite a v) s e b = rw e (silent n b)
+answer-numbered n (ForWrite p f) s e b = rw e (silent n b)
 answer-numbered n ForCommit s e b = rw e (silent n b)
 
 -- "11. Spent: begin after number 4,294,967,295"
@@ -211,10 +211,10 @@ module _ (s : Station) (b : s .num ≤ lastNumber) where
   readAs-numbered a none (some v) = silent (s .num) b
   readAs-numbered a (some v) r = silent (s .num) b
 
-  writeAsk-numbered : (a v : ℕ) → NumberedBy s (writeAsk a v s)
+  writeAsk-numbered : (p : ℕ) (f : ℕ → Val) → NumberedBy s (writeAsk p f s)
   unfolding writeAsk
-  writeAsk-numbered a v =
-      byB (locking (s .kind)) (λ e. rw e (says (s .num) b (WriteRequest a (s .num)) (omega arith))) (λ e. rw e (says (s .num) b (ReadRequest a (s .num)) (omega arith)))
+  writeAsk-numbered p f =
+      byB (locking (s .kind)) (λ e. rw e (says (s .num) b (WriteRequest p (s .num) _) (omega arith))) (λ e. rw e (says (s .num) b (ReadRequest _ (s .num)) (omega arith)))
 
   abort-numbered : NumberedBy s (ownAbort s)
   unfolding ownAbort
@@ -226,11 +226,11 @@ module _ (s : Station) (b : s .num ≤ lastNumber) where
       (byB (locking (s .kind)) (λ k. rw k (says (s .num) b (Abort (s .num)) (omega arith))) (λ k. rw k (silent (s .num) b)))))
 
   perform-numbered : (op : Op) → NumberedBy s (perform op s)
-  unfolding perform ownRead ownWrite writeLocal ownCommit ownPurge dropPages
+  unfolding perform ownRead ownWrite writeSet writeLocal ownCommit ownPurge dropPages
   perform-numbered Begin = begin-numbered
-  perform-numbered (Read a) = unless-numbered (checkAddress a (longRead a s) s) _ (λ e. readAs-numbered a (s .wr a) (s .rd a))
-  perform-numbered (Write a v) =
-      unless-numbered (checkAddress a (longWrite a s) s) _ (λ e. if-did (NumberedBy s) (mayWrite a s) (λ k. silent (s .num) b) (λ k. writeAsk-numbered a v))
+  perform-numbered (Read a) = unless-numbered (checkRead a s) _ (λ e. readAs-numbered a (s .wr a) (s .rd a))
+  perform-numbered (WriteSet p f) =
+      unless-numbered (checkWrite p (ofPage p f) s) _ (λ e. if-did (NumberedBy s) (someOn p (S.named (ofPage p f) s)) (λ k. writeAsk-numbered p (ofPage p f)) (λ k. silent (s .num) b))
   perform-numbered Commits = unless-numbered (checkOpen s) _ (λ e. says (s .num) b _ (omega arith))
   perform-numbered Aborts = abort-numbered
   perform-numbered (Purges p) = unless-numbered (checkPurge p s) _ (λ e. says (s .num) b (Purge p) (omega arith))

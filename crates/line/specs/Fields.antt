@@ -99,9 +99,9 @@ fields k i r o t d n u x =
 abbrev pub readRequest : ℕ → ℕ → ℕ → ℕ → Fields
 readRequest i p o t = fields 1 i p o t 0 0 noSets noValues
 
--- "2 write request (same)"
+-- "2 write request", by document 02 (page, transaction, set): "an object set in byte 16; byte 3 is then 0"
 abbrev pub writeRequest : ℕ → ℕ → ℕ → ℕ → Fields
-writeRequest i p o t = fields 2 i p o t 0 0 noSets noValues
+writeRequest i p t u = fields 2 i p 0 t 0 0 (oneSet u) noValues
 
 -- "3 commit (transaction, set of pages used)", its entries' versions and its record
 abbrev pub commit : ℕ → ℕ → ℕ → List ℕ → RecordFields → Fields
@@ -186,7 +186,7 @@ entryVersions w = versionsFrom 256 0 (w .reads) (w .readVersions) ++ versionsFro
 -- of a station and its kind
 abbrev pub upFields : ℕ → ℕ → Up → Fields
 upFields i k (ReadRequest a t) = readRequest i (pageOf a) (objectOf a) t
-upFields i k (WriteRequest a t) = writeRequest i (pageOf a) (objectOf a) t
+upFields i k (WriteRequest p t set) = writeRequest i p t (objectSet set p)
 upFields i k (Commit w) = commit i (w .transaction) (pageSet (usedPage w)) (entryVersions w) (workFields i k w)
 upFields i k (Abort t) = abort i t
 upFields i k (Purge p) = purge i p

@@ -8,10 +8,11 @@ use lib.Dec.{eqb}
 use Rattle.sets.specs.Base.{Val, none, has}
 use Rattle.sets.specs.Size.{size}
 use Rattle.limits.specs.Limit.{limit}
-use Rattle.line.specs.Messages.{locking, Work, Rec, Up, ReadRequest, WriteRequest, Commit, Abort, Purge, Busy, Done, WrittenSet, NoLock, ObjectLock, WholeLock, Down, Page, Deescalate, Callback, Committed, Aborted, Invalidate, Sent, To}
+use Rattle.line.specs.Messages.{pageOf, address, locking, Work, Rec, Up, ReadRequest, WriteRequest, Commit, Abort, Purge, Busy, Done, WrittenSet, Lock, NoLock, ObjectLock, WholeLock, Down, Page, Deescalate, Callback, Committed, Aborted, Invalidate, Sent, To}
 use Rattle.line.specs.Server.{Server, Waiter, Want, NoWant, WantRead, WantWrite, WantCommit, isWant}
-use Rattle.line.specs.Station.{Station, Wait, Idle, ForRead, forRead, forWrite, Kept, NotKept, KeptCall}
+use Rattle.line.specs.Station.{Station, Wait, Idle, ForRead, ForWrite, forRead, forWrite, someOn, Kept, NotKept, KeptCall}
 use Rattle.line.specs.Apart.{Apart}
+use Rattle.line.specs.Asks.{Asks}
 
 -- sets with no member, and with one
 abbrev pub Vacant : (ℕ → Bool) → Type 0
@@ -37,7 +38,7 @@ LimitedRec r = Limited (λ a. has (r .reads a)) (λ a. has (r .writes a))
 -- transaction or commit is 0", as far as the rules of this file need it; and of a commit what number 5 says of n and m above the limit
 abbrev pub UpNames : Up → Type 0
 UpNames (ReadRequest a t) = (a < 256) × (t ≢ 0)
-UpNames (WriteRequest a t) = (a < 256) × (t ≢ 0)
+UpNames (WriteRequest p t set) = (p < 32) × (t ≢ 0) × (someOn p set ≡ true)
 UpNames (Commit w) = (w .transaction ≢ 0) × LimitedWork w
 UpNames (Abort t) = t ≢ 0
 UpNames (Purge p) = p < 32
@@ -45,9 +46,15 @@ UpNames (Busy r t) = t ≢ 0
 UpNames (Done r t d) = t ≢ 0
 UpNames (WrittenSet p t set) = t ≢ 0
 
+-- a 17 or 18 names no object: "byte 3 is then 0"
+abbrev pub Object : Lock → ℕ → Type 0
+Object NoLock a = Unit {0}
+Object ObjectLock a = a ≡ address (pageOf a) 0
+Object WholeLock a = a ≡ address (pageOf a) 0
+
 -- of a message to station j
 abbrev pub DownNames : ℕ → Down → Type 0
-DownNames j (Page l a t v u x) = (a < 256) × (t ≢ 0)
+DownNames j (Page l a t v u x) = (a < 256) × (t ≢ 0) × Object l a
 DownNames j (Deescalate p t) = (p < 32) × (t ≢ 0)
 DownNames j (Callback r t set) = (eqb j r ≡ false) × (t ≢ 0)
 DownNames j (Committed t n) = t ≢ 0
@@ -57,7 +64,7 @@ DownNames j (Invalidate d) = Unit {0}
 -- "2, 4, 6, 7, 8 from a validating station": what a station of this kind may send
 abbrev pub sentBy : ℕ → Up → Bool
 sentBy k (ReadRequest a t) = true
-sentBy k (WriteRequest a t) = locking k
+sentBy k (WriteRequest p t set) = locking k
 sentBy k (Commit w) = true
 sentBy k (Abort t) = locking k
 sentBy k (Purge p) = true
@@ -104,10 +111,18 @@ pub record Blank (arrival req : ℕ) (reads writes : ℕ → Bool) : Type 0 wher
   pub nothing-read : Vacant reads
   pub nothing-written : Vacant writes
 
--- a request is for one object, which its set has
+-- a read is for one object, which its set has
 pub record One (req : ℕ) (own others : ℕ → Bool) : Type 0 where
   pub in-range : req < 256
   pub asked-for : Only own req
+  pub nothing-else : Vacant others
+
+-- a write is for objects of one page, for which its request stands
+pub record OnPage (req : ℕ) (own others : ℕ → Bool) : Type 0 where
+  pub in-range : req < 256
+  pub stands : req ≡ address (pageOf req) 0
+  pub some-asked : someOn (pageOf req) own ≡ true
+  pub page-only : (b : ℕ) → own b ≡ true → pageOf b ≡ pageOf req
   pub nothing-else : Vacant others
 
 -- a commit is of the latest transaction, and within the limit
@@ -126,7 +141,7 @@ pub record Owes (kind : ℕ → ℕ) (i j : ℕ) : Type 0 where
 pub record Form (kind : ℕ → ℕ) (i latest : ℕ) (w : Waiter) : Type 0 where
   pub blank : isWant (w .want) ≡ false → Blank (w .arrival) (w .req) (w .reads) (w .writes)
   pub read : w .want ≡ WantRead → One (w .req) (w .reads) (w .writes)
-  pub write : w .want ≡ WantWrite → One (w .req) (w .writes) (w .reads)
+  pub write : w .want ≡ WantWrite → OnPage (w .req) (w .writes) (w .reads)
   pub commit : w .want ≡ WantCommit → OfLatest latest (w .req) (w .work)
   pub called : w .called ≡ true → calls (w .want) ≡ true
   pub pending : (j : ℕ) → w .pend j ≡ true → w .called ≡ true
@@ -154,6 +169,8 @@ pub record Works (opened : Bool) (num : ℕ) (rd wr : ℕ → Val) (wait : Wait)
   pub unwritten : opened ≡ false → (a : ℕ) → wr a ≡ none
   -- a read that is out is the transaction's first of the object, which it has not written
   pub first : (a : ℕ) → wait ≡ ForRead a → (rd a ≡ none) × (wr a ≡ none)
+  -- a write that is out is of objects of one page
+  pub asks : (p : ℕ) (f : ℕ → Val) → wait ≡ ForWrite p f → Asks p f
 
 -- its locks: of an open transaction of a locking station
 pub record Locked (kind : ℕ) (opened : Bool) (ol wl : ℕ → Bool) : Type 0 where

@@ -2,6 +2,7 @@
 -- kind: from every such state, for every message that number 4 lets pass.
 use mathlib.Core.Path.{_≡_, refl, sym, ap, _∙_}
 use mathlib.Core.Bool.{Bool, true, false, not, _&&_, _||_, false≢true, cond, or-true}
+use mathlib.Core.List.{[], _∷_}
 use mathlib.Core.Logic.{_≢_}
 use Prim.Native.Nat.{ℕ, zero, suc, _+_, _≤_, _<_}
 use native.Mathlib.Omega.{arith}
@@ -10,13 +11,14 @@ use borrow.Author.Tests.{ltb-true, leb-false}
 use Rattle.sets.specs.Base.{Val, none, some, has, upd, turned}
 use Rattle.sets.specs.Size.{size, size-empty, size-part, size-joined}
 use Rattle.limits.specs.Limit.{limit}
-use Rattle.sets.specs.Laws.{byB, byEq, eqb-same, eqb-yes, eqb-no, and-l, and-r, not-no, any-some}
-use Rattle.line.specs.Messages.{locking, Lock, NoLock, ObjectLock, WholeLock, Down, Page, Deescalate, Callback, Committed, Aborted, Invalidate}
-use Rattle.line.specs.Station.{Station, freshStation, Did, unless, Wait, Idle, ForRead, ForWrite, ForCommit, waiting, Kept, NotKept, KeptCall, shown, mayWrite, usedAt, inUse, forRead, forWrite, forCommit, requested, usedPage, live, ended, fitsPage, fits, checkBegin, openThen, checkOpen, longRead, longWrite, checkAddress, checkPurge, dropPages, recordRead, writeLocal, mark, doCallback, doKept, doAllKept, closed, close, undo, ownBegin, readLocal, readAsk, readAs, ownRead, writeAsk, ownWrite, ownCommit, ownAbort, ownPurge, arrive, takeLock, answerWait, onPage, onDeescalate, loosen, onCallback, onCommitted, onAborted, onInvalidate, onDown, stationStep}
-use Rattle.line.specs.Line.{Op, Begin, Read, Write, Commits, Aborts, Purges, perform}
+use Rattle.sets.specs.Laws.{byB, byEq, eqb-same, eqb-yes, eqb-no, and-l, and-r, or-no, not-no, ltb-no, any-some}
+use Rattle.line.specs.Messages.{pageOf, address, locking, ReadRequest, WriteRequest, Lock, NoLock, ObjectLock, WholeLock, Down, Page, Deescalate, Callback, Committed, Aborted, Invalidate}
+use Rattle.line.specs.Station.{Station, freshStation, Did, unless, Wait, Idle, ForRead, ForWrite, ForCommit, waiting, Kept, NotKept, KeptCall, shown, usedAt, inUse, forRead, forWrite, writesTo, forCommit, requested, usedPage, live, ended, fitsPage, fits, checkBegin, openThen, checkOpen, longRead, longWrite, checkRead, someOn, lowestOn, badSet, checkWrite, checkPurge, dropPages, recordRead, orVal, writeLocal, mark, doCallback, doKept, doAllKept, closed, close, undo, ownBegin, readLocal, readAsk, readAs, ownRead, named, writeAsk, writeSet, ofPage, ownWrite, ownCommit, ownAbort, ownPurge, arrive, takeLock, answerWait, onPage, onDeescalate, loosen, onCallback, onCommitted, onAborted, onInvalidate, onDown, stationStep}
+use Rattle.line.specs.Line.{Op, Begin, Read, WriteSet, Commits, Aborts, Purges, perform}
 use Rattle.line.specs.All.{All, all-append}
 use Rattle.line.specs.Bounds.{undo-kept}
 use Rattle.line.specs.Kept.{all-kept}
+use Rattle.line.specs.Asks.{Asks, set-asks, lowest-in-range}
 use Rattle.line.specs.Fit.{DownNames, UpFits, Limited, LimitedStation, Works, Locked, KeptFits, FitStation}
 
 -- a call so far: the station, and what it sends
@@ -30,14 +32,15 @@ if-fit P false t f = f refl
 
 -- AN OPEN TRANSACTION
 
-open-works : {opened : Bool} {num : ℕ} {rd wr : ℕ → Val} {wait : Wait} → opened ≡ true → num ≢ 0 → ((a : ℕ) → wait ≡ ForRead a → (rd a ≡ none) × (wr a ≡ none)) → Works opened num rd wr wait
-open-works o n f =
+open-works : {opened : Bool} {num : ℕ} {rd wr : ℕ → Val} {wait : Wait} → opened ≡ true → num ≢ 0 → ((a : ℕ) → wait ≡ ForRead a → (rd a ≡ none) × (wr a ≡ none)) → ((p : ℕ) (f : ℕ → Val) → wait ≡ ForWrite p f → Asks p f) → Works opened num rd wr wait
+open-works o n f g =
     record {
       numbered = λ e. n;
       idle = λ e. absurd (false≢true (sym e ∙ o));
       unread = λ e a. absurd (false≢true (sym e ∙ o));
       unwritten = λ e a. absurd (false≢true (sym e ∙ o));
       first = f;
+      asks = g;
     }
 
 open-locked : {kind : ℕ} {opened : Bool} {ol wl : ℕ → Bool} → opened ≡ true → locking kind ≡ true → Locked kind opened ol wl
@@ -47,7 +50,7 @@ open-locked o k =
 abbrev addressIn : Wait → ℕ
 addressIn Idle = 0
 addressIn (ForRead a) = a
-addressIn (ForWrite a v) = 0
+addressIn (ForWrite p f) = 0
 addressIn ForCommit = 0
 
 -- no read is out
@@ -56,6 +59,16 @@ NoRead w = (a : ℕ) → w ≡ ForRead a → ⊥
 
 idle-reads : (w : Wait) → waiting w ≡ false → NoRead w
 idle-reads w e a q = false≢true (sym e ∙ ap waiting q)
+
+-- no write is out
+abbrev NoWrite : Wait → Type 0
+NoWrite w = (p : ℕ) (f : ℕ → Val) → w ≡ ForWrite p f → Asks p f
+
+idle-writes : (w : Wait) → waiting w ≡ false → NoWrite w
+idle-writes w e p f q = absurd (false≢true (sym e ∙ ap waiting q))
+
+no-write : (w : Wait) → ((p : ℕ) → writesTo w p ≡ false) → NoWrite w
+no-write w n p f q = absurd (false≢true (sym (n p) ∙ ap (λ (v : Wait). writesTo v p) q ∙ eqb-same p))
 
 -- THE LIMIT
 
@@ -85,7 +98,7 @@ none-few = record { reads-few = omega (arith, size-empty 256 (λ a. false) (λ a
 idle-none : (w : Wait) → waiting w ≡ false → (b : ℕ) → (forRead w b ≡ false) × (forWrite w b ≡ false)
 idle-none Idle e b = (refl, refl)
 idle-none (ForRead a) e b = absurd (false≢true (sym e))
-idle-none (ForWrite a v) e b = absurd (false≢true (sym e))
+idle-none (ForWrite p f) e b = absurd (false≢true (sym e))
 idle-none ForCommit e b = (refl, refl)
 
 left : (a b : Bool) → a ≡ true → (a || b) ≡ true
@@ -124,12 +137,8 @@ module _ {rd wr : ℕ → Val} {wait : Wait} (l : LimitedStation rd wr wait) whe
         writes-few = not-out Idle (λ b. (refl, refl)) .writes-few;
       }
 
-  write-out : (a v : ℕ) → (not (has (wr a)) && leb limit (size 256 (λ b. has (wr b)))) ≡ false → LimitedStation rd wr (ForWrite a v)
-  write-out a v e =
-      record {
-        reads-few = not-out Idle (λ b. (refl, refl)) .reads-few;
-        writes-few = one-more (λ b. has (wr b)) a e (recorded .writes-few);
-      }
+  write-out : (p : ℕ) (f : ℕ → Val) → ltb limit (size 256 (λ b. has (wr b) || has (f b))) ≡ false → LimitedStation rd wr (ForWrite p f)
+  write-out p f e = record { reads-few = not-out Idle (λ b. (refl, refl)) .reads-few; writes-few = ltb-no limit _ e }
 
 -- .. and recorded
 read-in : {rd wr : ℕ → Val} {a : ℕ} (v : ℕ) (w : Wait) → waiting w ≡ false → LimitedStation rd wr (ForRead a) → LimitedStation (upd rd a (some v)) wr w
@@ -139,11 +148,16 @@ read-in {rd} {wr} {a} v w i l =
       writes-few = smaller _ _ (λ b e. rw (idle-none w i b .1) at e) (l .writes-few);
     }
 
-write-in : {rd wr : ℕ → Val} {a x : ℕ} (v : ℕ) (w : Wait) → waiting w ≡ false → LimitedStation rd wr (ForWrite a x) → LimitedStation rd (upd wr a (some v)) w
-write-in {rd} {wr} {a} v w i l =
+-- what is written then
+has-or : (v w : Val) → has (orVal v w) ≡ true → (has w || has v) ≡ true
+has-or none w e = left (has w) false e
+has-or (some x) w e = or-true (has w)
+
+write-in : {rd wr : ℕ → Val} {p : ℕ} {f : ℕ → Val} (w : Wait) → waiting w ≡ false → LimitedStation rd wr (ForWrite p f) → LimitedStation rd (λ b. orVal (f b) (wr b)) w
+write-in {rd} {wr} {p} {f} w i l =
     record {
       reads-few = smaller _ _ (λ b e. rw (idle-none w i b .0) at e) (l .reads-few);
-      writes-few = smaller _ _ (joined wr a v (forWrite w) (λ b. idle-none w i b .1)) (l .writes-few);
+      writes-few = smaller _ _ (λ b e. has-or (f b) (wr b) (alone (has (orVal (f b) (wr b))) (forWrite w b) (idle-none w i b .1) e)) (l .writes-few);
     }
 
 -- ITS END
@@ -199,7 +213,7 @@ module _ (own : ℕ) where
       let h : Ending own start =
       record {
         closed-is = refl;
-        works = record { numbered = λ q. absurd (false≢true q); idle = λ q. refl; unread = λ q a. refl; unwritten = λ q a. refl; first = λ a q. (refl, refl) };
+        works = record { numbered = λ q. absurd (false≢true q); idle = λ q. refl; unread = λ q a. refl; unwritten = λ q a. refl; first = λ a q. (refl, refl); asks = no-write Idle (λ p. refl) };
         few = none-few;
         locked = record { object-opened = λ a q. q; object-locks = λ a q. absurd (false≢true q); whole-opened = λ p q. q; whole-locks = λ p q. absurd (false≢true q) };
         not-own = e;
@@ -250,6 +264,10 @@ ranged : (b : Bool) (n : ℕ) → eqb (turned (not b) 4 n) 0 ≡ true → (b ≡
 ranged true n e = (refl, e)
 ranged false n e = absurd (false≢true e)
 
+not-bad : (b : Bool) (n : ℕ) → eqb (turned b 4 n) 0 ≡ true → (b ≡ false) × (eqb n 0 ≡ true)
+not-bad true n e = absurd (false≢true e)
+not-bad false n e = (refl, e)
+
 -- THE OWNER'S OPERATIONS
 
 module _ (own : ℕ) (s : Station) (h : FitStation own s) where
@@ -258,8 +276,8 @@ module _ (own : ℕ) (s : Station) (h : FitStation own s) where
   unless-fit n d f = if-fit (FitDid own) (eqb n 0) f (λ e. record { station = h; sent = tt })
 
   -- what the open transaction reads, writes and waits for
-  works-as : (rd wr : ℕ → Val) (wait : Wait) → s .opened ≡ true → ((a : ℕ) → wait ≡ ForRead a → (rd a ≡ none) × (wr a ≡ none)) → Works (s .opened) (s .num) rd wr wait
-  works-as rd wr wait o f = open-works o (h .works .numbered o) f
+  works-as : (rd wr : ℕ → Val) (wait : Wait) → s .opened ≡ true → ((a : ℕ) → wait ≡ ForRead a → (rd a ≡ none) × (wr a ≡ none)) → ((p : ℕ) (f : ℕ → Val) → wait ≡ ForWrite p f → Asks p f) → Works (s .opened) (s .num) rd wr wait
+  works-as rd wr wait o f g = open-works o (h .works .numbered o) f g
 
   begin-fit : FitDid own (ownBegin s)
   unfolding ownBegin
@@ -269,7 +287,7 @@ module _ (own : ℕ) (s : Station) (h : FitStation own s) where
       record {
         station =
             record {
-              works = open-works refl (λ z. omega (arith, z)) (h .works .first);
+              works = open-works refl (λ z. omega (arith, z)) (h .works .first) (h .works .asks);
               few = h .few;
               locked = record { object-opened = λ a q. refl; object-locks = h .locked .object-locks; whole-opened = λ p q. refl; whole-locks = h .locked .whole-locks };
               callbacks = record { not-own = h .callbacks .not-own; done = λ q r l. absurd (false≢true (sym q)); fit = h .callbacks .fit };
@@ -286,12 +304,12 @@ module _ (own : ℕ) (s : Station) (h : FitStation own s) where
       if-fit (FitDid own) (shown s a)
       (λ e.
       record {
-        station = record { works = works-as _ _ _ (o .open-is) (λ b z. absurd (idle-reads (s .wait) (o .idle) b z)); few = read-in _ (s .wait) (o .idle) out; locked = h .locked; callbacks = h .callbacks };
+        station = record { works = works-as _ _ _ (o .open-is) (λ b z. absurd (idle-reads (s .wait) (o .idle) b z)) (idle-writes (s .wait) (o .idle)); few = read-in _ (s .wait) (o .idle) out; locked = h .locked; callbacks = h .callbacks };
         sent = tt;
       })
       (λ e.
       record {
-        station = record { works = works-as _ _ _ (o .open-is) (λ b z. let y : b ≡ a = asked b z in (rw y q, rw y p)); few = out; locked = h .locked; callbacks = h .callbacks };
+        station = record { works = works-as _ _ _ (o .open-is) (λ b z. let y : b ≡ a = asked b z in (rw y q, rw y p)) (no-write (ForRead a) (λ k. refl)); few = out; locked = h .locked; callbacks = h .callbacks };
         sent = (record { names = (l, h .works .numbered (o .open-is)); kind-fits = refl }, tt);
       })
     where
@@ -300,18 +318,40 @@ module _ (own : ℕ) (s : Station) (h : FitStation own s) where
   readAs-fit a none (some v) p q l o g = record { station = h; sent = tt }
   readAs-fit a (some v) r p q l o g = record { station = h; sent = tt }
 
-  write-local : (a v : ℕ) → Opened s → LimitedStation (s .rd) (s .wr) (ForWrite a v) → FitStation own (writeLocal a v s)
+  write-local : (p : ℕ) (f : ℕ → Val) → Opened s → LimitedStation (s .rd) (s .wr) (ForWrite p f) → FitStation own (writeLocal f s)
   unfolding writeLocal
-  write-local a v o g = record { works = works-as _ _ _ (o .open-is) (λ b z. absurd (idle-reads (s .wait) (o .idle) b z)); few = write-in v (s .wait) (o .idle) g; locked = h .locked; callbacks = h .callbacks }
+  write-local p f o g = record { works = works-as _ _ _ (o .open-is) (λ b z. absurd (idle-reads (s .wait) (o .idle) b z)) (idle-writes (s .wait) (o .idle)); few = write-in (s .wait) (o .idle) g; locked = h .locked; callbacks = h .callbacks }
 
-  write-ask : (a v : ℕ) → a < 256 → Opened s → LimitedStation (s .rd) (s .wr) (ForWrite a v) → FitDid own (writeAsk a v s)
+  write-ask : (p : ℕ) (f : ℕ → Val) → Asks p f → someOn p (named f s) ≡ true → Opened s → LimitedStation (s .rd) (s .wr) (ForWrite p f) → FitDid own (writeAsk p f s)
   unfolding writeAsk
-  write-ask a v l o g =
+  write-ask p f l q o g =
       let n = h .works .numbered (o .open-is) in
       record {
-        station = record { works = works-as _ _ _ (o .open-is) (λ b z. let y : _≡_ {A = ℕ} 0 1 = cc in absurd (omega arith)); few = g; locked = h .locked; callbacks = h .callbacks };
-        sent = byB (locking (s .kind)) (λ e. rw e (record { names = (l, n); kind-fits = e }, tt)) (λ e. rw e (record { names = (l, n); kind-fits = refl }, tt));
+        station = record { works = works-as _ _ _ (o .open-is) (λ b z. let y : _≡_ {A = ℕ} 0 1 = cc in absurd (omega arith)) (λ k w z. asked k w z); few = g; locked = h .locked; callbacks = h .callbacks };
+        sent = sent (locking (s .kind)) refl n;
       }
+    where
+      sent : (b : Bool) → locking (s .kind) ≡ b → s .num ≢ 0 → All (UpFits (s .kind)) (cond b (WriteRequest p (s .num) (named f s)) (ReadRequest (lowestOn p (named f s)) (s .num)) ∷ [])
+      sent true e n = (record { names = (l .in-range, n, q); kind-fits = e }, tt)
+      sent false e n = (record { names = (lowest-in-range p (named f s) (l .in-range), n); kind-fits = refl }, tt)
+
+      pageIn : Wait → ℕ
+      pageIn Idle = 0
+      pageIn (ForRead a) = 0
+      pageIn (ForWrite k w) = k
+      pageIn ForCommit = 0
+
+      valsIn : Wait → ℕ → Val
+      valsIn Idle = λ a. none
+      valsIn (ForRead a) = λ a. none
+      valsIn (ForWrite k w) = w
+      valsIn ForCommit = λ a. none
+
+      asked : (k : ℕ) (w : ℕ → Val) → ForWrite p f ≡ ForWrite k w → Asks k w
+      asked k w z =
+          let y : k ≡ p = sym (ap pageIn z) in
+          let v : w ≡ f = sym (ap valsIn z) in
+          rw (y, v) l
 
   commit-fit : FitDid own (ownCommit s)
   unfolding ownCommit
@@ -320,7 +360,7 @@ module _ (own : ℕ) (s : Station) (h : FitStation own s) where
       (λ e.
       let o = open-ok s 0 e in
       record {
-        station = record { works = works-as _ _ _ (o .open-is) (λ b z. let y : _≡_ {A = ℕ} 0 1 = cc in absurd (omega arith)); few = not-out (h .few) ForCommit (λ b. (refl, refl)); locked = h .locked; callbacks = h .callbacks };
+        station = record { works = works-as _ _ _ (o .open-is) (λ b z. let y : _≡_ {A = ℕ} 0 1 = cc in absurd (omega arith)) (no-write ForCommit (λ p. refl)); few = not-out (h .few) ForCommit (λ b. (refl, refl)); locked = h .locked; callbacks = h .callbacks };
         sent = (record { names = (h .works .numbered (o .open-is), recorded (h .few)); kind-fits = refl }, tt);
       })
 
@@ -335,22 +375,23 @@ module _ (own : ℕ) (s : Station) (h : FitStation own s) where
 
   -- an owner's operation
   pub owner-fit : (op : Op) → FitDid own (perform op s)
-  unfolding perform ownRead ownWrite ownPurge dropPages
+  unfolding perform ownRead ownWrite writeSet ownPurge dropPages
   owner-fit Begin = begin-fit
   owner-fit (Read a) =
-      unless-fit (checkAddress a (longRead a s) s) _
+      unless-fit (checkRead a s) _
       (λ e.
       let n = turned (longRead a s) 15 0 in
       let u = ranged (ltb a 256) (openThen s n) e in
       readAs-fit a (s .wr a) (s .rd a) refl refl (ltb-true a 256 (u .0)) (open-ok s n (u .1)) (not-long s (longRead a s) (u .1)))
-  owner-fit (Write a v) =
-      unless-fit (checkAddress a (longWrite a s) s) _
+  owner-fit (WriteSet p w) =
+      let f : ℕ → Val = ofPage p w in
+      unless-fit (checkWrite p f s) _
       (λ e.
-      let n = turned (longWrite a s) 15 0 in
-      let u = ranged (ltb a 256) (openThen s n) e in
+      let n = turned (longWrite f s) 15 0 in
+      let u = not-bad (badSet p f s) (openThen s n) e in
       let o = open-ok s n (u .1) in
-      let g = write-out (h .few) a v (not-long s (longWrite a s) (u .1)) in
-      if-fit (FitDid own) (mayWrite a s) (λ k. record { station = write-local a v o g; sent = tt }) (λ k. write-ask a v (ltb-true a 256 (u .0)) o g))
+      let g = write-out (h .few) p f (not-long s (longWrite f s) (u .1)) in
+      if-fit (FitDid own) (someOn p (named f s)) (λ k. write-ask p f (set-asks p w s (u .0)) k o g) (λ k. record { station = write-local p f o g; sent = tt }))
   owner-fit Commits = commit-fit
   owner-fit Aborts = abort-fit
   owner-fit (Purges p) =
@@ -393,8 +434,8 @@ answer-fit : (own : ℕ) (w : Wait) (s : Station) → FitStation own s → s .op
 unfolding answerWait recordRead
 answer-fit own Idle s h o i g = record { station = h; sent = tt }
 answer-fit own (ForRead a) s h o i g =
-    record { station = record { works = works-as own s h _ _ _ o (λ b z. absurd (idle-reads (s .wait) (ap waiting i) b z)); few = read-in _ (s .wait) (ap waiting i) g; locked = h .locked; callbacks = h .callbacks }; sent = tt }
-answer-fit own (ForWrite a v) s h o i g = record { station = write-local own s h a v (record { idle = ap waiting i; open-is = o }) g; sent = tt }
+    record { station = record { works = works-as own s h _ _ _ o (λ b z. absurd (idle-reads (s .wait) (ap waiting i) b z)) (idle-writes (s .wait) (ap waiting i)); few = read-in _ (s .wait) (ap waiting i) g; locked = h .locked; callbacks = h .callbacks }; sent = tt }
+answer-fit own (ForWrite p f) s h o i g = record { station = write-local own s h p f (record { idle = ap waiting i; open-is = o }) g; sent = tt }
 answer-fit own ForCommit s h o i g = record { station = h; sent = tt }
 
 -- what is in use is so of an open transaction
@@ -413,7 +454,7 @@ module _ (own : ℕ) (s : Station) (h : FitStation own s) where
       let q = lock-same l a s in
       answer-fit own (s .wait) _
       (record {
-        works = open-works (q .opened ∙ o) (λ z. h .works .numbered o (sym (q .num) ∙ z)) (λ b z. let y : _≡_ {A = ℕ} 0 1 = cc in absurd (omega arith));
+        works = open-works (q .opened ∙ o) (λ z. h .works .numbered o (sym (q .num) ∙ z)) (λ b z. let y : _≡_ {A = ℕ} 0 1 = cc in absurd (omega arith)) (no-write Idle (λ p. refl));
         few = rw (q .rd, q .wr) (not-out (h .few) Idle (λ b. (refl, refl)));
         locked = lock-locked l a t s o f (h .locked);
         callbacks = rw (q .kind, q .opened, q .kept) (h .callbacks);
@@ -485,7 +526,7 @@ module _ (own : ℕ) (s : Station) (h : FitStation own s) where
 pub fit-new : (own k : ℕ) → FitStation own (freshStation k)
 fit-new own k =
     record {
-      works = record { numbered = λ e. absurd (false≢true e); idle = λ e. refl; unread = λ e a. refl; unwritten = λ e a. refl; first = λ a e. (refl, refl) };
+      works = record { numbered = λ e. absurd (false≢true e); idle = λ e. refl; unread = λ e a. refl; unwritten = λ e a. refl; first = λ a e. (refl, refl); asks = no-write Idle (λ p. refl) };
       few = none-few;
       locked = record { object-opened = λ a e. e; object-locks = λ a e. absurd (false≢true e); whole-opened = λ p e. e; whole-locks = λ p e. absurd (false≢true e) };
       callbacks = record { not-own = refl; done = λ e r l. refl; fit = λ r. tt };

@@ -8,14 +8,15 @@ use Prim.Native.Nat.{ℕ, zero, suc, _+_, _≤_, _<_}
 use native.Mathlib.Omega.{arith}
 use lib.Dec.{eqb, ltb}
 use borrow.Author.Tests.{ltb-true}
-use Rattle.sets.specs.Base.{upd, any}
-use Rattle.sets.specs.Laws.{byB, byEq, eqb-same, eqb-yes, and-l, and-r, not-yes}
-use Rattle.line.specs.Messages.{lastNumber, locking, Work, Up, ReadRequest, WriteRequest, Commit, Abort, Purge, Busy, Done, WrittenSet, Down, Sent, To, Rec}
+use Rattle.sets.specs.Base.{upd, any, nowhere}
+use Rattle.sets.specs.Laws.{byB, byEq, eqb-same, eqb-yes, and-l, and-r, not-yes, any-some, any-yes}
+use Rattle.line.specs.Messages.{pageOf, address, lastNumber, locking, Work, Up, ReadRequest, WriteRequest, Commit, Abort, Purge, Busy, Done, WrittenSet, Down, Sent, To, Rec}
 use Rattle.line.specs.Server.{Server, Serving, freshServer, Waiter, noWaiter, waiterPend, waiterBusy, waiterCalled, Want, NoWant, WantRead, WantWrite, WantCommit, isWant, waits, wrotePage, unexpected, badNumber, notice, finish, join, leave, sendPage, abort, informed, write, archive, inform, informFrom, install, readWaiter, writeWaiter, commitWaiter, serveNow, joinRead, joinWrite, joinCommit, commitNow, unlist, openCall, markBusy, answered, openAsk, loosen, accept, ask, serveRead, concerned, callsFrom, call, grantPage, grantObject, installWaiter, start, serverStep, End, ByCommit, ByCause, ByMessage}
+use Rattle.line.specs.Station.{someOn}
 use Rattle.line.specs.Pass.{Atomic, if-keeps, step-keeps}
 use Rattle.line.specs.All.{All, all-append}
 use Rattle.line.specs.Apart.{ApartIn, or-l, good-number, atomic-apart, accept-apart, apart-fresh}
-use Rattle.line.specs.Fit.{UpNames, DownNames, takenBy, SentFits, LimitedWork, LimitedRec, calls, Owes, Form, Forms, Fit}
+use Rattle.line.specs.Fit.{UpNames, DownNames, takenBy, SentFits, LimitedWork, LimitedRec, calls, Owes, OnPage, Form, Forms, Fit}
 
 abbrev FormsIn : Serving → Type 0
 FormsIn x = Forms (x .server .kind) (x .server .latest) (x .server .fin) (x .server .queue)
@@ -74,18 +75,34 @@ module _ (kind : ℕ → ℕ) (i latest : ℕ) (s : Server) where
         busy = λ j e. absurd (false≢true e);
       }
 
-  write-form : (a : ℕ) → a < 256 → Form kind i latest (writeWaiter s a)
-  write-form a l =
+  write-form : (p : ℕ) (set : ℕ → Bool) → p < 32 → someOn p set ≡ true → Form kind i latest (writeWaiter s p set)
+  write-form p set l n =
       record {
         blank = λ e. absurd (false≢true (sym e));
         read = λ e. let z : _≡_ {A = ℕ} 0 1 = cc in absurd (omega arith);
-        write = λ e. record { in-range = l; asked-for = λ b. refl; nothing-else = λ b. refl };
+        write = λ e. on-page;
         commit = λ e. let z : _≡_ {A = ℕ} 0 1 = cc in absurd (omega arith);
         called = λ e. absurd (false≢true e);
         pending = λ j e. absurd (false≢true e);
         owed = λ j e. absurd (false≢true e);
         busy = λ j e. absurd (false≢true e);
       }
+    where
+      -- the page of an address of page p
+      its : (o : ℕ) → o < 8 → pageOf (address p o) ≡ p
+      its o b = omega arith
+
+      on-page : OnPage (address p 0) (λ b. eqb (pageOf b) p && set b) nowhere
+      on-page =
+          let z = any-some 8 (λ o. set (address p o)) n in
+          let same : pageOf (address p 0) ≡ p = its 0 (omega arith) in
+          record {
+            in-range = omega arith;
+            stands = rw same refl;
+            some-asked = rw same (any-yes 8 (λ o. eqb (pageOf (address p o)) p && set (address p o)) (z .0) (z .1) (rw (its (z .0) (z .1), eqb-same p) (z .2)));
+            page-only = λ b e. eqb-yes (pageOf b) p (and-l (eqb (pageOf b) p) _ e) ∙ sym same;
+            nothing-else = λ b. refl;
+          }
 
   commit-form : (w : Work) → w .transaction ≡ latest → LimitedWork w → Form kind i latest (commitWaiter s w)
   commit-form w q few =
@@ -294,8 +311,8 @@ module _ (i : ℕ) (x : Serving) (b : i < 8) (h : FitIn x) where
   waits-named : waits (x .server) i ≡ true → x .server .latest i ≢ 0
   waits-named t = h .forms .named i b (h .apart .waiting .entry i b .waits-open t)
 
-  request-in : x .server .queue i .want ≡ WantWrite → x .server .queue i .req < 256
-  request-in w = h .forms .form i b .write w .in-range
+  request-in : x .server .queue i .want ≡ WantWrite → OnPage (x .server .queue i .req) (x .server .queue i .writes) (x .server .queue i .reads)
+  request-in w = h .forms .form i b .write w
 
   -- a waiter that has not called is owed nothing
   uncalled : x .server .queue i .called ≡ false → (j : ℕ) → x .server .queue i .busy j ≡ true → ⊥
@@ -326,7 +343,7 @@ atomic-fit =
           record {
             apart = atomic-apart .reads i x b w c (k .apart);
             forms = left-forms (k .forms) i;
-            sent = more (x .server .kind) (x .sent) i _ (k .sent) b (k .forms .form i b .read w .in-range, waits-named i x b k (ap isWant w)) refl;
+            sent = more (x .server .kind) (x .sent) i _ (k .sent) b (k .forms .form i b .read w .in-range, waits-named i x b k (ap isWant w), tt) refl;
             recs = k .recs;
           };
       calls = λ i x b t u w c k.
@@ -340,14 +357,14 @@ atomic-fit =
           record {
             apart = atomic-apart .objects i x b w r (k .apart);
             forms = left-forms (k .forms) i;
-            sent = more (x .server .kind) (x .sent) i _ (k .sent) b (request-in i x b k w, waits-named i x b k (ap isWant w)) (k .apart .waiting .entry i b .writes-lock w);
+            sent = more (x .server .kind) (x .sent) i _ (k .sent) b (request-in i x b k w .in-range, waits-named i x b k (ap isWant w), request-in i x b k w .stands) (k .apart .waiting .entry i b .writes-lock w);
             recs = k .recs;
           };
       pages = λ i x b w r e k.
           record {
             apart = atomic-apart .pages i x b w r e (k .apart);
             forms = left-forms (k .forms) i;
-            sent = more (x .server .kind) (x .sent) i _ (k .sent) b (request-in i x b k w, waits-named i x b k (ap isWant w)) (k .apart .waiting .entry i b .writes-lock w);
+            sent = more (x .server .kind) (x .sent) i _ (k .sent) b (request-in i x b k w .in-range, waits-named i x b k (ap isWant w), request-in i x b k w .stands) (k .apart .waiting .entry i b .writes-lock w);
             recs = k .recs;
           };
       installs = λ i x b w f r k.
@@ -393,9 +410,9 @@ accept-forms i (ReadRequest a t) x b n u h =
     let y : Serving = notice i t x in
     let g : FormsIn y = noticed-forms i t x (n .1) u h in
     if-keeps FormsIn (locking (x .server .kind i)) (λ e. join-forms i _ y (read-form (y .server .kind) i (y .server .latest i) (y .server) a (n .0)) g) (λ e. g)
-accept-forms i (WriteRequest a t) x b n u h =
+accept-forms i (WriteRequest p t set) x b n u h =
     let y : Serving = notice i t x in
-    join-forms i _ y (write-form (y .server .kind) i (y .server .latest i) (y .server) a (n .0)) (noticed-forms i t x (n .1) (or-l (badNumber (x .server) i t) _ u) h)
+    join-forms i _ y (write-form (y .server .kind) i (y .server .latest i) (y .server) p set (n .0) (n .2)) (noticed-forms i t x (n .1) (or-l (badNumber (x .server) i t) _ u) h)
 accept-forms i (Commit w) x b n u h =
     let t : ℕ = w .transaction in
     let y : Serving = notice i t x in
@@ -418,8 +435,8 @@ accept-sent i (ReadRequest a t) x b n h =
     let y : Serving = notice i t x in
     let g : SentIn y = notice-sent i x t h in
     if-keeps SentIn (locking (x .server .kind i)) (λ e. g)
-    (λ e. more (y .server .kind) (y .sent) i _ g b (n .0, λ z. n .1 (sym (noticed-latest i x t) ∙ z)) refl)
-accept-sent i (WriteRequest a t) x b n h = notice-sent i x t h
+    (λ e. more (y .server .kind) (y .sent) i _ g b (n .0, (λ z. n .1 (sym (noticed-latest i x t) ∙ z)), tt) refl)
+accept-sent i (WriteRequest p t set) x b n h = notice-sent i x t h
 accept-sent i (Commit w) x b n h =
     let t : ℕ = w .transaction in
     let g : SentIn (notice i t x) = notice-sent i x t h in
@@ -433,7 +450,7 @@ accept-sent i (WrittenSet p t set) x b n h = if-keeps SentIn (openAsk (x .server
 accept-recs : (i : ℕ) (m : Up) (x : Serving) → UpNames m → RecsIn x → RecsIn (accept i m x)
 unfolding accept joinRead joinWrite joinCommit join serveNow sendPage finish unlist markBusy answered loosen
 accept-recs i (ReadRequest a t) x n h = let g = notice-recs i x t h in if-keeps RecsIn (locking (x .server .kind i)) (λ e. g) (λ e. g)
-accept-recs i (WriteRequest a t) x n h = notice-recs i x t h
+accept-recs i (WriteRequest p t set) x n h = notice-recs i x t h
 accept-recs i (Commit w) x n h =
     let g = notice-recs i x (w .transaction) h in
     if-keeps RecsIn (locking (x .server .kind i)) (λ e. commitNow-recs i w (notice i (w .transaction) x) (n .1) g) (λ e. g)

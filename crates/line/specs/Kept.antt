@@ -8,9 +8,9 @@ use lib.Dec.{eqb}
 use Rattle.sets.specs.Base.{Val, none, some, turned}
 use Rattle.sets.specs.Laws.{byB, byEq, eqb-yes}
 use Rattle.line.specs.Messages.{Lock, NoLock, ObjectLock, WholeLock, Down, Page, Deescalate, Callback, Committed, Aborted, Invalidate}
-use Rattle.line.specs.Station.{Station, Did, unless, Wait, Idle, ForRead, ForWrite, ForCommit, NotKept, live, shown, mayWrite, ended, fits, inUse, forCommit, checkBegin, checkOpen, longRead, longWrite, checkAddress, checkPurge, dropPages, mark, recordRead, writeLocal, doCallback, doKept, doAllKept, closed, close, ownBegin, readLocal, readAsk, readAs, ownRead, writeAsk, ownWrite, ownCommit, ownAbort, ownPurge, arrive, takeLock, answerWait, onPage, onDeescalate, loosen, onCallback, onCommitted, onAborted, onInvalidate, onDown, stationStep}
+use Rattle.line.specs.Station.{Station, Did, unless, Wait, Idle, ForRead, ForWrite, ForCommit, NotKept, live, shown, ended, fits, inUse, forCommit, checkBegin, checkOpen, checkRead, someOn, checkWrite, checkPurge, dropPages, mark, recordRead, writeLocal, doCallback, doKept, doAllKept, closed, close, ownBegin, readLocal, readAsk, readAs, ownRead, named, writeAsk, writeSet, ofPage, ownWrite, ownCommit, ownAbort, ownPurge, arrive, takeLock, answerWait, onPage, onDeescalate, loosen, onCallback, onCommitted, onAborted, onInvalidate, onDown, stationStep}
 use Rattle.line.specs.Server.{serverStep}
-use Rattle.line.specs.Line.{Op, Begin, Read, Write, Commits, Aborts, Purges, perform, Call, fresh, sentTo, act, run}
+use Rattle.line.specs.Line.{Op, Begin, Read, WriteSet, Commits, Aborts, Purges, perform, Call, fresh, sentTo, act, run}
 use Rattle.line.specs.All.{All, all-append}
 use Rattle.line.specs.Runs.{Moves, run-keeps}
 use Rattle.line.specs.Bounds.{kept-stays, undo-kept, ReplyBound, call-bound}
@@ -42,10 +42,10 @@ module _ (own : ℕ) where
 
     -- an owner's operation
     pub owner-kept : (op : Op) → KeepsOthers own (perform op s)
-    unfolding perform ownBegin ownRead ownWrite writeLocal writeAsk ownCommit ownAbort ownPurge dropPages
+    unfolding perform ownBegin ownRead ownWrite writeSet writeLocal writeAsk ownCommit ownAbort ownPurge dropPages
     owner-kept Begin = unless-kept (checkBegin s) _ e
-    owner-kept (Read a) = unless-kept (checkAddress a (longRead a s) s) _ (read-kept a (s .wr a) (s .rd a))
-    owner-kept (Write a v) = unless-kept (checkAddress a (longWrite a s) s) _ (byB (mayWrite a s) (λ q. rw q e) (λ q. rw q e))
+    owner-kept (Read a) = unless-kept (checkRead a s) _ (read-kept a (s .wr a) (s .rd a))
+    owner-kept (WriteSet p f) = unless-kept (checkWrite p (ofPage p f) s) _ (byB (someOn p (named (ofPage p f) s)) (λ q. rw q e) (λ q. rw q e))
     owner-kept Commits = unless-kept (checkOpen s) _ e
     owner-kept Aborts = unless-kept (checkOpen s) _ (close-kept _ (rw (undo-kept s) e))
     owner-kept (Purges p) = unless-kept (checkPurge p s) _ e
@@ -54,7 +54,7 @@ module _ (own : ℕ) where
   unfolding answerWait recordRead writeLocal
   answer-kept Idle s e = e
   answer-kept (ForRead a) s e = e
-  answer-kept (ForWrite a v) s e = e
+  answer-kept (ForWrite p f) s e = e
   answer-kept ForCommit s e = e
 
   lock-kept : (l : Lock) (a : ℕ) (s : Station) → (takeLock l a s) .kept ≡ s .kept

@@ -78,7 +78,7 @@ module _ (P : ℕ → Type 0) (i j : ℕ) where
   accept-age : (m : Up) (x : Serving) → AgeBy P i j (x .server) → AgeIs (accept i m x)
   unfolding accept joinRead joinWrite joinCommit join serveNow sendPage commitNow abort finish leave unlist markBusy answered loosen
   accept-age (ReadRequest a t) x h = if-keeps AgeIs (locking (x .server .kind i)) (λ e. noticed-age t x h) (λ e. noticed-age t x h)
-  accept-age (WriteRequest a t) x h = noticed-age t x h
+  accept-age (WriteRequest p t set) x h = noticed-age t x h
   accept-age (Commit w) x h =
       let g : AgeIs (notice i (w .transaction) x) = noticed-age (w .transaction) x h in
       if-keeps AgeIs (locking (x .server .kind i))
@@ -201,7 +201,7 @@ accept-others i (ReadRequest a t) x h =
     let y : Serving = notice i t x in
     let g : OthersIn y = noticed-others i t x h in
     if-keeps OthersIn (locking (x .server .kind i)) (λ e. changed-others (y .server .queue) g i _ refl refl) (λ e. g)
-accept-others i (WriteRequest a t) x h = changed-others ((notice i t x) .server .queue) (noticed-others i t x h) i _ refl refl
+accept-others i (WriteRequest p t set) x h = changed-others ((notice i t x) .server .queue) (noticed-others i t x h) i _ refl refl
 accept-others i (Commit w) x h =
     let y : Serving = notice i (w .transaction) x in
     let g : OthersIn y = noticed-others i (w .transaction) x h in
@@ -343,7 +343,7 @@ module _ (Q : ℕ → Type 0) where
   accept-beaten : (i : ℕ) (m : Up) (x : Serving) → BeatenIn x → BeatenIn (accept i m x)
   unfolding accept joinRead joinWrite joinCommit join serveNow sendPage commitNow finish unlist markBusy answered loosen
   accept-beaten i (ReadRequest a t) x h = let g = noticed-beaten i t x h in if-keeps BeatenIn (locking (x .server .kind i)) (λ e. g) (λ e. more ((notice i t x) .sent) (To i (Page _ _ _ _ _ _)) tt g)
-  accept-beaten i (WriteRequest a t) x h = noticed-beaten i t x h
+  accept-beaten i (WriteRequest p t set) x h = noticed-beaten i t x h
   accept-beaten i (Commit w) x h =
       let y : Serving = notice i (w .transaction) x in
       let g : BeatenIn y = noticed-beaten i (w .transaction) x h in

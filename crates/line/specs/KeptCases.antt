@@ -42,8 +42,8 @@ repeats =
 -- both write it, 0 first: 2 kept its age, so 0 is the younger
 abbrev wins : List Step
 wins =
-    sends (Owner 0 (Write 8 6)) Waits (writeRequest 0 1 0 2 ∷ [])
-    ∷ sends (Owner 2 (Write 8 7)) Waits (writeRequest 2 1 0 2 ∷ [])
+    sends (Owner 0 (Write 8 6)) Waits (writeRequest 0 1 2 1 ∷ [])
+    ∷ sends (Owner 2 (Write 8 7)) Waits (writeRequest 2 1 2 1 ∷ [])
     ∷ serves 0 (callback 2 0 2 (setOn 1 1) ∷ [])
     ∷ serves 2 []
     ∷ sends (StationTakes 2) Nothing (busy 2 0 2 ∷ [])

@@ -10,6 +10,9 @@ pub mod Fields
 pub mod Rows
 pub mod Cases
 pub mod KeptCases
+-- what a write of a set asks for; the set of one
+pub mod Asks
+pub mod One
 -- a step is its actions, ends, and is at rest then
 pub mod Laws
 pub mod Pass

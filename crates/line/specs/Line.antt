@@ -1,21 +1,28 @@
 -- The whole line: server, stations, up and down lines, the archive, and what owners are told. `run` goes through a list of calls.
 use mathlib.Core.Bool.{Bool, true, false, cond}
 use mathlib.Core.List.{List, [], _∷_, _++_}
-use Prim.Native.Nat.{ℕ, _+_}
+use Prim.Native.Nat.{ℕ, zero, suc, _+_}
 use lib.Dec.{eqb, ltb}
-use Rattle.sets.specs.Base.{upd, snoc}
-use Rattle.line.specs.Messages.{Up, Down, Sent, To, Rec, Answer, Nothing, Begun, Value, Waits, Written, CommittedAs, AbortedFor, Purged, Refused, Empty}
-use Rattle.line.specs.Station.{Station, freshStation, Did, ownBegin, ownRead, ownWrite, ownCommit, ownAbort, ownPurge, stationStep}
+use Rattle.sets.specs.Base.{upd, snoc, Val, none, some, noneAt}
+use Rattle.line.specs.Messages.{pageOf, Up, Down, Sent, To, Rec, Answer, Nothing, Begun, Value, Waits, Written, CommittedAs, AbortedFor, Purged, Refused, Empty}
+use Rattle.line.specs.Station.{Station, freshStation, Did, ownBegin, ownRead, ofPage, ownWrite, ownCommit, ownAbort, ownPurge, stationStep}
 use Rattle.line.specs.Server.{Server, freshServer, Serving, serverStep, unexpected}
 
 -- an owner's operation
 pub data Op : Type 0 where
   Begin : Op
   Read : ℕ → Op  -- address
-  Write : ℕ → ℕ → Op  -- address, value
+  WriteSet : ℕ → (ℕ → Val) → Op  -- page; a value for each object, by address
   Commits : Op
   Aborts : Op
   Purges : ℕ → Op  -- page
+
+-- the owner's write of one object is that of the set of one
+abbrev pub oneAt : ℕ → ℕ → ℕ → Val
+oneAt a v b = cond (eqb b a) (some v) none
+
+abbrev pub Write : ℕ → ℕ → Op
+Write a v = WriteSet (pageOf a) (oneAt a v)
 
 -- a call; whatever it is, it is in the list. Bytes that are no message (numbers 2 to 5; 1 of a buffer) come as their number.
 pub data Call : Type 0 where
@@ -79,21 +86,30 @@ fresh k =
 abbrev pub addressOf : Op → ℕ
 addressOf Begin = 0
 addressOf (Read a) = a
-addressOf (Write a v) = a
+addressOf (WriteSet p f) = 0
 addressOf Commits = 0
 addressOf Aborts = 0
 addressOf (Purges p) = 0
 
-abbrev pub valueOf : Op → ℕ
-valueOf Begin = 0
-valueOf (Read a) = 0
-valueOf (Write a v) = v
-valueOf Commits = 0
-valueOf Aborts = 0
-valueOf (Purges p) = 0
+abbrev pub writesOf : Op → ℕ → Val
+writesOf Begin = noneAt
+writesOf (Read a) = noneAt
+writesOf (WriteSet p f) = ofPage p f
+writesOf Commits = noneAt
+writesOf Aborts = noneAt
+writesOf (Purges p) = noneAt
 
 abbrev pub log : World → Told → World
 log w e = worldTold w (snoc (w .told) e)
+
+-- the owner is told of each object written, addresses rising
+abbrev pub tellWrite : ℕ → ℕ → ℕ → Val → List Told → List Told
+tellWrite i t a none l = l
+tellWrite i t a (some v) l = snoc l (ToldWrite i t a v)
+
+unfoldable pub tellWrites : ℕ → ℕ → ℕ → (ℕ → Val) → List Told → List Told
+tellWrites i t zero f l = l
+tellWrites i t (suc n) f l = tellWrite i t n (f n) (tellWrites i t n f l)
 
 -- station i's owner gets the answer to op
 unfoldable pub tell : ℕ → Op → Answer → World → World
@@ -101,7 +117,7 @@ tell i op Nothing w = w
 tell i op (Begun t) w = worldNumber w (upd (w .number) i t)
 tell i op (Value v) w = log w (ToldRead i (w .number i) (addressOf op) v)
 tell i op Waits w = worldAsked w (upd (w .asked) i op)
-tell i op Written w = log w (ToldWrite i (w .number i) (addressOf op) (valueOf op))
+tell i op Written w = worldTold w (tellWrites i (w .number i) 256 (writesOf op) (w .told))
 tell i op (CommittedAs n) w = log w (ToldCommit i (w .number i) n)
 tell i op (AbortedFor c) w = log w (ToldAbort i (w .number i) c)
 tell i op Purged w = w
@@ -145,7 +161,7 @@ acted w r = record { world = w; reply = r }
 unfoldable pub perform : Op → Station → Did
 perform Begin s = ownBegin s
 perform (Read a) s = ownRead a s
-perform (Write a v) s = ownWrite a v s
+perform (WriteSet p f) s = ownWrite p f s
 perform Commits s = ownCommit s
 perform Aborts s = ownAbort s
 perform (Purges p) s = ownPurge p s

@@ -32,7 +32,7 @@ pub record Work : Type 0 where
 
 pub data Up : Type 0 where
   ReadRequest : ℕ → ℕ → Up  -- 1: address, transaction
-  WriteRequest : ℕ → ℕ → Up  -- 2: address, transaction
+  WriteRequest : ℕ → ℕ → (ℕ → Bool) → Up  -- 2: page, transaction; by document 02 "an object set in byte 16": set of addresses
   Commit : Work → Up  -- 3
   Abort : ℕ → Up  -- 4: transaction
   Purge : ℕ → Up  -- 5: page
@@ -40,12 +40,14 @@ pub data Up : Type 0 where
   Done : ℕ → ℕ → (ℕ → Bool) → Up  -- 7: requester, its transaction, dropped pages
   WrittenSet : ℕ → ℕ → (ℕ → Bool) → Up  -- 8: page, own transaction as named in kind 19, set of addresses
 
--- what a page brings with it: 16 nothing, "17 the same with a lock on the object; 18 with a lock on the whole page"
+-- what a page brings with it: 16 nothing, "17 the same with a lock on the object", by document 02 on each object that its 2 named;
+-- "18 with a lock on the whole page"
 pub data Lock : Type 0 where
   NoLock ObjectLock WholeLock : Lock
 
 pub data Down : Type 0 where
-  Page : Lock → ℕ → ℕ → (ℕ → ℕ) → (ℕ → Bool) → (ℕ → ℕ) → Down  -- 16, 17, 18: address, transaction, versions, unavailable, values
+  -- 16, 17, 18: address, transaction, versions, unavailable, values; of 17 and 18 "byte 3 is then 0": the address is the page's first
+  Page : Lock → ℕ → ℕ → (ℕ → ℕ) → (ℕ → Bool) → (ℕ → ℕ) → Down
   Deescalate : ℕ → ℕ → Down  -- 19: page, transaction
   Callback : ℕ → ℕ → (ℕ → Bool) → Down  -- 20: requester, its transaction, addresses
   Committed : ℕ → ℕ → Down  -- 21: transaction, commit number

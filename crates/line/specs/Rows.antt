@@ -5,9 +5,9 @@ use Prim.Native.Nat.{ℕ}
 use Prim.Native.String.{String}
 use Rattle.sets.specs.Size.{size}
 use Rattle.line.specs.Messages.{Answer}
-use Rattle.line.specs.Station.{recordRead, writeLocal, dropPages, mark, doCallback, doKept, doAllKept, closed, close, undo, ownBegin, readLocal, readAsk, readAs, ownRead, writeAsk, ownWrite, ownCommit, ownAbort, ownPurge, arrive, takeLock, answerWait, onPage, loosen, onDeescalate, onCallback, onCommitted, onAborted, onInvalidate, onDown, stationStep}
+use Rattle.line.specs.Station.{recordRead, writeLocal, dropPages, mark, doCallback, doKept, doAllKept, closed, close, undo, ownBegin, readLocal, readAsk, readAs, ownRead, writeAsk, writeSet, ownWrite, ownCommit, ownAbort, ownPurge, arrive, takeLock, answerWait, onPage, loosen, onDeescalate, onCallback, onCommitted, onAborted, onInvalidate, onDown, stationStep}
 use Rattle.line.specs.Server as S
-use Rattle.line.specs.Line.{Call, Owner, ServerTakes, StationTakes, Broken, World, Acted, act, tell, carryDown, carryUp, perform, ownerActs, stationTakes, serverTakes}
+use Rattle.line.specs.Line.{Call, Owner, ServerTakes, StationTakes, Broken, World, Acted, act, tellWrites, tell, carryDown, carryUp, perform, ownerActs, stationTakes, serverTakes}
 use Rattle.line.specs.Fields.{Fields, RecordFields, upFields, downFields, recordFields}
 
 -- a call, its answer, the messages that it sends (kinds 1 to 8 up, 16 to 23 down) and the records that it archives, in order
@@ -39,7 +39,7 @@ seenAt c a =
 
 -- what a list of calls shows (the names: all that a run computes)
 unfoldable pub seen : List Call → World → List Step
-unfolding size recordRead writeLocal dropPages mark doCallback doKept doAllKept closed close undo ownBegin readLocal readAsk readAs ownRead writeAsk ownWrite ownCommit ownAbort ownPurge arrive takeLock answerWait onPage loosen onDeescalate onCallback onCommitted onAborted onInvalidate onDown stationStep S.notice S.finish S.join S.leave S.sendPage S.abort S.write S.archive S.inform S.informFrom S.install S.serveNow S.joinRead S.joinWrite S.joinCommit S.commitNow S.unlist S.markBusy S.answered S.loosen S.accept S.ask S.askFrom S.serveRead S.call S.grantPage S.grantObject S.grant S.installWaiter S.callOnce S.afterCalls S.proceed S.gates S.visit S.pass S.settle S.serverStep act tell carryDown carryUp perform ownerActs stationTakes serverTakes
+unfolding size recordRead writeLocal dropPages mark doCallback doKept doAllKept closed close undo ownBegin readLocal readAsk readAs ownRead writeAsk writeSet ownWrite ownCommit ownAbort ownPurge arrive takeLock answerWait onPage loosen onDeescalate onCallback onCommitted onAborted onInvalidate onDown stationStep S.notice S.finish S.join S.leave S.sendPage S.abort S.write S.archive S.inform S.informFrom S.install S.serveNow S.joinRead S.joinWrite S.joinCommit S.commitNow S.unlist S.markBusy S.answered S.loosen S.accept S.ask S.askFrom S.serveRead S.call S.grantPage S.grantObject S.grant S.installWaiter S.callOnce S.afterCalls S.proceed S.gates S.visit S.pass S.settle S.serverStep act tellWrites tell carryDown carryUp perform ownerActs stationTakes serverTakes
 seen [] w = []
 seen (c ∷ cs) w = let a = act c w in seenAt c a ∷ seen cs (a .world)
 

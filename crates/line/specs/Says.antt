@@ -100,7 +100,7 @@ accept-says : (i : ℕ) (m : Up) (x : Serving) → AllSay x → AllSay (accept i
 unfolding accept joinRead joinWrite joinCommit join serveNow finish unlist markBusy answered loosen
 accept-says i (ReadRequest a t) x h =
     if-keeps AllSay (locking (x .server .kind i)) (λ e. notice-says i t x h) (λ e. page-says NoLock i a nowhere (notice i t x) (λ b n. refl) (notice-says i t x h))
-accept-says i (WriteRequest a t) x h = notice-says i t x h
+accept-says i (WriteRequest p t set) x h = notice-says i t x h
 accept-says i (Commit w) x h =
     let g : AllSay (notice i (w .transaction) x) = notice-says i (w .transaction) x h in
     if-keeps AllSay (locking (x .server .kind i)) (λ e. commitNow-says i w (notice i (w .transaction) x) g) (λ e. g)

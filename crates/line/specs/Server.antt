@@ -15,7 +15,7 @@ pub data Want : Type 0 where
 pub record Waiter : Type 0 where
   pub want : Want
   pub arrival : ℕ  -- the list's order
-  pub req : ℕ  -- the address requested
+  pub req : ℕ  -- the address requested; of a write the first of its page
   pub work : Work  -- of a commit
   pub reads : ℕ → Bool  -- addresses to read
   pub writes : ℕ → Bool  -- addresses to write
@@ -192,7 +192,7 @@ unlocked s i w = locking (s .kind i) && any 256 (λ a. has (w .writes a) && not 
 -- "2, 4, 6, 7, 8 from a validating station"; "5 or 7 dropping a page with a lock of its own"
 abbrev pub unexpected : ℕ → Up → Server → Bool
 unexpected i (ReadRequest a t) s = badNumber s i t
-unexpected i (WriteRequest a t) s = badNumber s i t || not (locking (s .kind i))
+unexpected i (WriteRequest p t set) s = badNumber s i t || not (locking (s .kind i))
 unexpected i (Commit w) s = badNumber s i (w .transaction) || unlocked s i w
 unexpected i (Abort t) s = badNumber s i t || not (locking (s .kind i))
 unexpected i (Purge p) s = lockOn s i p
@@ -262,9 +262,9 @@ sendPage l i a u x =
     let s = x .server in
     send (onServer x (setListed s (upd2 (s .listed) i (pageOf a) true))) i (Page l a (s .latest i) (valuesOn (pageOf a) (s .ver)) u (valuesOn (pageOf a) (s .val)))
 
--- "Unavailable in 16 to 18 are objects that others have locked or wait to write, without the one requested."
+-- "Unavailable in 16 to 18 are objects that others have locked or wait to write, without the one requested"; of a set without all of it
 abbrev pub unavailable : Server → ℕ → ℕ → ℕ → Bool
-unavailable s i a b = eqb (pageOf b) (pageOf a) && not (eqb b a) && (other (s .ol b) i || any 8 (λ j. not (eqb j i) && s .queue j .writes b))
+unavailable s i a b = eqb (pageOf b) (pageOf a) && not (wants s i b) && (other (s .ol b) i || any 8 (λ j. not (eqb j i) && s .queue j .writes b))
 
 -- 22: "its locks and request go"                                                   P.abort, and U3l with cause 4
 unfoldable pub abort : ℕ → ℕ → Serving → Serving
@@ -305,8 +305,9 @@ install i w x = let y = finish i ByCommit (archive i w (write w (leave i x))) in
 abbrev pub readWaiter : Server → ℕ → Waiter
 readWaiter s a = record { want = WantRead; arrival = s .arrivals; req = a; work = noWork; reads = λ b. eqb b a; writes = nowhere; called = false; pend = nowhere; busy = nowhere }
 
-abbrev pub writeWaiter : Server → ℕ → Waiter
-writeWaiter s a = record { want = WantWrite; arrival = s .arrivals; req = a; work = noWork; reads = nowhere; writes = λ b. eqb b a; called = false; pend = nowhere; busy = nowhere }
+-- "The request waits for all its objects"
+abbrev pub writeWaiter : Server → ℕ → (ℕ → Bool) → Waiter
+writeWaiter s p set = record { want = WantWrite; arrival = s .arrivals; req = address p 0; work = noWork; reads = nowhere; writes = λ b. eqb (pageOf b) p && set b; called = false; pend = nowhere; busy = nowhere }
 
 abbrev pub commitWaiter : Server → Work → Waiter
 commitWaiter s w = record { want = WantCommit; arrival = s .arrivals; req = 0; work = w; reads = λ b. has (w .reads b); writes = λ b. has (w .writes b); called = false; pend = nowhere; busy = nowhere }
@@ -319,8 +320,8 @@ serveNow i a x = sendPage NoLock i a nowhere x
 unfoldable pub joinRead : ℕ → ℕ → Serving → Serving
 joinRead i a x = join i (readWaiter (x .server) a) x
 
-unfoldable pub joinWrite : ℕ → ℕ → Serving → Serving
-joinWrite i a x = join i (writeWaiter (x .server) a) x
+unfoldable pub joinWrite : ℕ → ℕ → (ℕ → Bool) → Serving → Serving
+joinWrite i p set x = join i (writeWaiter (x .server) p set) x
 
 unfoldable pub joinCommit : ℕ → Work → Serving → Serving
 joinCommit i w x = join i (commitWaiter (x .server) w) x
@@ -361,7 +362,7 @@ loosen i p set x =
 
 unfoldable pub accept : ℕ → Up → Serving → Serving
 accept i (ReadRequest a t) x = cond (locking (x .server .kind i)) (joinRead i a (notice i t x)) (serveNow i a (notice i t x))
-accept i (WriteRequest a t) x = joinWrite i a (notice i t x)
+accept i (WriteRequest p t set) x = joinWrite i p set (notice i t x)
 accept i (Commit w) x = cond (locking (x .server .kind i)) (commitNow i w (notice i (w .transaction) x)) (joinCommit i w (notice i (w .transaction) x))
 accept i (Abort t) x = finish i ByMessage (notice i t x)
 accept i (Purge p) x = unlist i (λ q. eqb q p) x
@@ -455,13 +456,13 @@ grantPage i x =
     let y = leave i x in
     sendPage WholeLock i a (unavailable s i a) (onServer y (setWl (setAsked (y .server) (upd (s .asked) (pageOf a) false)) (upd (s .wl) (pageOf a) (suc i))))
 
--- P.17
+-- P.17: "takes them in one step"
 unfoldable pub grantObject : ℕ → Serving → Serving
 grantObject i x =
     let s = x .server in
     let a = s .queue i .req in
     let y = leave i x in
-    sendPage ObjectLock i a (unavailable s i a) (onServer y (setOl (y .server) (upd (s .ol) a (suc i))))
+    sendPage ObjectLock i a (unavailable s i a) (onServer y (setOl (y .server) (λ b. cond (s .queue i .writes b) (suc i) (s .ol b))))
 
 unfoldable pub grant : ℕ → Serving → Serving
 grant i x = let s = x .server in cond (any 8 (hinders s i (pageOf (s .queue i .req)))) (grantObject i x) (grantPage i x)

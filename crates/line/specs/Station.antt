@@ -12,7 +12,7 @@ use Rattle.line.specs.Messages.{pageOf, address, lastNumber, locking, Wo
 pub data Wait : Type 0 where
   Idle : Wait
   ForRead : ℕ → Wait  -- address
-  ForWrite : ℕ → ℕ → Wait  -- address, value
+  ForWrite : ℕ → (ℕ → Val) → Wait  -- page; "The owner gives a value for each object": what is written, by address
   ForCommit : Wait
 
 -- a callback kept for a requester: its transaction and the addresses named
@@ -109,32 +109,39 @@ unless n d s = cond (eqb n 0) d (does (Refused n) s [])
 abbrev pub waiting : Wait → Bool
 waiting Idle = false
 waiting (ForRead a) = true
-waiting (ForWrite a v) = true
+waiting (ForWrite p f) = true
 waiting ForCommit = true
 
 abbrev pub forRead : Wait → ℕ → Bool
 forRead Idle b = false
 forRead (ForRead a) b = eqb b a
-forRead (ForWrite a v) b = false
+forRead (ForWrite p f) b = false
 forRead ForCommit b = false
 
 abbrev pub forWrite : Wait → ℕ → Bool
 forWrite Idle b = false
 forWrite (ForRead a) b = false
-forWrite (ForWrite a v) b = eqb b a
+forWrite (ForWrite p f) b = has (f b)
 forWrite ForCommit b = false
+
+-- a write of this page is out
+abbrev pub writesTo : Wait → ℕ → Bool
+writesTo Idle p = false
+writesTo (ForRead a) p = false
+writesTo (ForWrite q f) p = eqb p q
+writesTo ForCommit p = false
 
 abbrev pub forCommit : Wait → Bool
 forCommit Idle = false
 forCommit (ForRead a) = false
-forCommit (ForWrite a v) = false
+forCommit (ForWrite p f) = false
 forCommit ForCommit = true
 
 -- a request for the page is out
 abbrev pub requested : Wait → ℕ → Bool
 requested Idle p = false
 requested (ForRead a) p = eqb p (pageOf a)
-requested (ForWrite a v) p = eqb p (pageOf a)
+requested (ForWrite q f) p = eqb p q
 requested ForCommit p = false
 
 abbrev pub live : Station → ℕ → Bool
@@ -169,9 +176,18 @@ dropPages d s =
 unfoldable pub recordRead : ℕ → Station → Station
 recordRead a s = setSeen (setRd s (upd (s .rd) a (some (s .copy a)))) (upd (s .seen) a (s .cver a))
 
-unfoldable pub writeLocal : ℕ → ℕ → Station → Station
-writeLocal a v s =
-    setSeen (setCopy (setWr s (upd (s .wr) a (some v))) (upd (s .copy) a v)) (upd (s .seen) a (cond (usedAt s a) (s .seen a) (s .cver a)))
+-- the last write stands
+abbrev pub orVal : Val → Val → Val
+orVal none w = w
+orVal (some v) w = some v
+
+-- a set is written as one: f is what is written, by address
+unfoldable pub writeLocal : (ℕ → Val) → Station → Station
+writeLocal f s =
+    setSeen (setCopy (setWr s
+    (λ a. orVal (f a) (s .wr a)))
+    (λ a. valOr (f a) (s .copy a)))
+    (λ a. cond (has (f a) && not (usedAt s a)) (s .cver a) (s .seen a))
 
 -- callbacks
 
@@ -224,16 +240,40 @@ abbrev pub checkOpen : Station → ℕ
 checkOpen s = openThen s 0
 
 -- 15 Long (document 02, wish 1): "the owner's 49th recorded read or 49th written object". What was read or written before is not recorded
--- as read again, and what was written before is not one object more.
+-- as read again, and what was written before is not one object more. A set is counted whole: all that is written with it
 abbrev pub longRead : ℕ → Station → Bool
 longRead a s = not (usedAt s a) && leb limit (size 256 (λ b. has (s .rd b)))
 
-abbrev pub longWrite : ℕ → Station → Bool
-longWrite a s = not (has (s .wr a)) && leb limit (size 256 (λ b. has (s .wr b)))
+abbrev pub longWrite : (ℕ → Val) → Station → Bool
+longWrite f s = ltb limit (size 256 (λ b. has (s .wr b) || has (f b)))
 
 -- 4 Range (an address is one byte: page 0 to 31, object 0 to 7), 7 Waiting, 8 Closed, 15 Long
-abbrev pub checkAddress : ℕ → Bool → Station → ℕ
-checkAddress a long s = turned (not (ltb a 256)) 4 (openThen s (turned long 15 0))
+abbrev pub checkRead : ℕ → Station → ℕ
+checkRead a s = turned (not (ltb a 256)) 4 (openThen s (turned (longRead a s) 15 0))
+
+-- sets of objects of one page
+
+abbrev pub someOn : ℕ → (ℕ → Bool) → Bool
+someOn p set = any 8 (λ o. set (address p o))
+
+abbrev pub severalOn : ℕ → (ℕ → Bool) → Bool
+severalOn p set = ltb 1 (size 8 (λ o. set (address p o)))
+
+-- the first of a set from a on, that many to go; the last where there is none
+abbrev pub lowestFrom : ℕ → ℕ → (ℕ → Bool) → ℕ
+lowestFrom zero a set = a
+lowestFrom (suc n) a set = cond (set a) a (lowestFrom n (suc a) set)
+
+abbrev pub lowestOn : ℕ → (ℕ → Bool) → ℕ
+lowestOn p set = lowestFrom 7 (address p 0) set
+
+-- 4 Range: "the empty set, or several objects from a validating owner, is number 4"
+abbrev pub badSet : ℕ → (ℕ → Val) → Station → Bool
+badSet p f s = not (ltb p 32) || not (someOn p (λ a. has (f a))) || (not (locking (s .kind)) && severalOn p (λ a. has (f a)))
+
+-- .., 7 Waiting, 8 Closed, 15 Long
+abbrev pub checkWrite : ℕ → (ℕ → Val) → Station → ℕ
+checkWrite p f s = turned (badSet p f s) 4 (openThen s (turned (longWrite f s) 15 0))
 
 -- 4 Range, 7 Waiting ("a purge counts only for the requested page"), 10 Kept
 abbrev pub checkPurge : ℕ → Station → ℕ
@@ -256,18 +296,33 @@ readAs a none (some v) s = does (Value v) s []
 readAs a (some v) r s = does (Value v) s []
 
 unfoldable pub ownRead : ℕ → Station → Did
-ownRead a s = unless (checkAddress a (longRead a s) s) (readAs a (s .wr a) (s .rd a) s) s
+ownRead a s = unless (checkRead a s) (readAs a (s .wr a) (s .rd a) s) s
 
 -- "A locking station writes locally under its lock on object or page, else sends 2." Of a validating one document 02 says: "It writes
 -- locally only on available objects"; else it sends 1.
 abbrev pub mayWrite : ℕ → Station → Bool
 mayWrite a s = cond (locking (s .kind)) (s .ol a || s .wl (pageOf a)) (shown s a)
 
-unfoldable pub writeAsk : ℕ → ℕ → Station → Did
-writeAsk a v s = does Waits (setWait s (ForWrite a v)) (cond (locking (s .kind)) (WriteRequest a (s .num)) (ReadRequest a (s .num)) ∷ [])
+-- "the request names those under no lock yet"
+abbrev pub named : (ℕ → Val) → Station → ℕ → Bool
+named f s a = has (f a) && not (mayWrite a s)
 
-unfoldable pub ownWrite : ℕ → ℕ → Station → Did
-ownWrite a v s = unless (checkAddress a (longWrite a s) s) (cond (mayWrite a s) (does Written (writeLocal a v s) []) (writeAsk a v s)) s
+-- a validating station has one object to ask for
+unfoldable pub writeAsk : ℕ → (ℕ → Val) → Station → Did
+writeAsk p f s =
+    does Waits (setWait s (ForWrite p f))
+    (cond (locking (s .kind)) (WriteRequest p (s .num) (named f s)) (ReadRequest (lowestOn p (named f s)) (s .num)) ∷ [])
+
+-- "all are written when the grant arrives, at once if none is named"
+unfoldable pub writeSet : ℕ → (ℕ → Val) → Station → Did
+writeSet p f s = unless (checkWrite p f s) (cond (someOn p (named f s)) (writeAsk p f s) (does Written (writeLocal f s) [])) s
+
+-- the owner's call is of one page
+abbrev pub ofPage : ℕ → (ℕ → Val) → ℕ → Val
+ofPage p f a = cond (eqb (pageOf a) p) (f a) none
+
+unfoldable pub ownWrite : ℕ → (ℕ → Val) → Station → Did
+ownWrite p f s = writeSet p (ofPage p f) s
 
 -- "one version for each entry of its record ..; from a locking station all are 0"
 abbrev pub versionSent : Station → (ℕ → Val) → ℕ → ℕ
@@ -296,8 +351,8 @@ ended s t = not (locking (s .kind)) && not (live s t) && not (ltb (s .num) t)
 -- 6: "a down message that fits neither station, kind nor open wait (19, 20, 23 and a 16 for an ended validating transaction need no wait)"
 abbrev pub fitsPage : Lock → ℕ → ℕ → Station → Bool
 fitsPage NoLock a t s = ended s t || (live s t && (forRead (s .wait) a || (not (locking (s .kind)) && forWrite (s .wait) a)))
-fitsPage ObjectLock a t s = locking (s .kind) && live s t && forWrite (s .wait) a
-fitsPage WholeLock a t s = locking (s .kind) && live s t && forWrite (s .wait) a
+fitsPage ObjectLock a t s = locking (s .kind) && live s t && writesTo (s .wait) (pageOf a)
+fitsPage WholeLock a t s = locking (s .kind) && live s t && writesTo (s .wait) (pageOf a)
 
 abbrev pub fits : Down → Station → Bool
 fits (Page l a t v u x) s = fitsPage l a t s
@@ -316,16 +371,17 @@ arrive p v u x s =
     (λ b. cond (eqb (pageOf b) p) (v b) (s .cver b)))
     (upd (s .cached) p true)
 
+-- "takes them in one step": 17 locks all that its 2 named, which with those locked before is all that is to be written
 unfoldable pub takeLock : Lock → ℕ → Station → Station
 takeLock NoLock a s = s
-takeLock ObjectLock a s = setOl s (upd (s .ol) a true)
+takeLock ObjectLock a s = setOl s (λ b. s .ol b || forWrite (s .wait) b)
 takeLock WholeLock a s = setWl s (upd (s .wl) (pageOf a) true)
 
 -- "the delivery that brings the page gives the owner's answer"
 unfoldable pub answerWait : Wait → Station → Did
 answerWait Idle s = does Nothing s []
 answerWait (ForRead a) s = does (Value (s .copy a)) (recordRead a s) []
-answerWait (ForWrite a v) s = does Written (writeLocal a v s) []
+answerWait (ForWrite p f) s = does Written (writeLocal f s) []
 answerWait ForCommit s = does Nothing s []
 
 -- "taken and ignored"

@@ -1,25 +1,26 @@
--- Arrivals never run out. A transaction of a locking station asks for each address at most once to read it and at most once to write it, and one
--- of a validating station waits with its commit alone: so a transaction joins the waiting list at most 512 times. Eight stations number their
+-- Arrivals never run out. A transaction of a locking station asks for each address at most once to read it, and each time that it asks to write it
+-- asks for an address that it has not written, and one of a validating station waits with its commit alone: so a transaction joins the waiting list at most 512 times. Eight stations number their
 -- transactions up to 4,294,967,295.
-use Prim.Native.Nat.{ℕ, zero, suc, _+_, _*_, _≤_, _<_}
-use mathlib.Core.Path.{_≡_, refl, sym, ap, _∙_}
+use Prim.Native.Nat.{ℕ, zero, suc, _+_, _*_, _%_, _≤_, _<_}
+use mathlib.Core.Path.{_≡_, refl, sym, ap, subst, _∙_}
 use mathlib.Core.Bool.{Bool, true, false, not, _&&_, _||_, cond, false≢true}
 use mathlib.Core.List.{List, [], _∷_, _++_}
 use native.Mathlib.Omega.{arith}
 use lib.Dec.{eqb}
-use Rattle.sets.specs.Base.{upd, snoc, Val, none, some, has}
-use Rattle.sets.specs.Laws.{byB, byEq, eqb-same, eqb-yes, and-l}
-use Rattle.line.specs.Messages.{pageOf, lastNumber, locking, Work, Lock, NoLock, ObjectLock, WholeLock, Up, ReadRequest, WriteRequest, Commit, Abort, Purge, Busy, Done, WrittenSet, Down, Value}
-use Rattle.line.specs.Station.{Station, Did, does, Wait, Idle, ForRead, ForWrite, ForCommit, waiting, forCommit, live, writtenOn, dropPages, recordRead, writeLocal, mark, doCallback, closed, close, readLocal, readAsk, writeAsk, arrive, takeLock, onDeescalate, onCommitted, onAborted, stationStep}
+use Rattle.sets.specs.Base.{upd, snoc, Val, none, some, has, noneAt}
+use Rattle.sets.specs.Laws.{byB, byEq, eqb-same, eqb-yes, and-l, and-r, not-yes, not-no, any-no}
+use Rattle.line.specs.Messages.{pageOf, address, lastNumber, locking, Work, Lock, NoLock, ObjectLock, WholeLock, Up, ReadRequest, WriteRequest, Commit, Abort, Purge, Busy, Done, WrittenSet, Down, Value}
+use Rattle.line.specs.Station.{Station, Did, does, Wait, Idle, ForRead, ForWrite, ForCommit, waiting, forWrite, forCommit, live, writtenOn, someOn, lowestOn, mayWrite, named, orVal, ofPage, dropPages, recordRead, writeLocal, mark, doCallback, closed, close, readLocal, readAsk, writeAsk, arrive, takeLock, onDeescalate, onCommitted, onAborted, stationStep}
 use Rattle.line.specs.Station as Station
 use Rattle.line.specs.Server.{Server, Serving, notice, finish, join, leave, sendPage, abort, write, archive, install, serveNow, joinRead, joinWrite, joinCommit, commitNow, unlist, markBusy, answered, loosen, accept, ask, serveRead, call, grantPage, grantObject, installWaiter, start, serverStep, unexpected}
+use Rattle.line.specs.Asks.{Asks, lowest-in-range, lowest-in}
 use Rattle.line.specs.Line.{World, Op, Call, fresh, perform, run}
 use Rattle.line.specs.Truth.{count}
 use Rattle.line.specs.Fuel.{sumTo, nb, sum-le, sum-at, sum-1, nb-1}
 use Rattle.line.specs.Pass.{Atomic, step-keeps, if-keeps}
 use Rattle.line.specs.Runs.{Moves, run-keeps}
 use Rattle.line.specs.Counters.{numbers-run}
-use Rattle.truth.specs.Frame.{count-append, Owns, performs, closes, isLock, arrived, Takes, takes, installs, accepts}
+use Rattle.truth.specs.Frame.{count-append, Owns, performs, closes, isLock, ForPage, arrived, Takes, takes, installs, accepts}
 use Rattle.truth.specs.ValidatedMoves.{perform-kind, step-kind}
 use Rattle.truth.specs.GoalsOwner.{undo-num}
 use Rattle.server_state.specs.Layout.{counterLimit}
@@ -29,7 +30,7 @@ use Rattle.line_bytes.specs.Kinds.{server-kind}
 
 abbrev joins : ℕ → Up → Bool
 joins k (ReadRequest a t) = locking k
-joins k (WriteRequest a t) = true
+joins k (WriteRequest p t set) = true
 joins k (Commit w) = not (locking k)
 joins k (Abort t) = false
 joins k (Purge p) = false
@@ -70,7 +71,7 @@ accept-arrived i x =
     (record {
       read-waits = λ a t u e. rw e (omega (arith, noticed-arrivals i t x));
       read-now = λ a t u e. omega (arith, noticed-arrivals i t x);
-      write-waits = λ a t u e. omega (arith, noticed-arrivals i t x);
+      write-waits = λ p t set u e. omega (arith, noticed-arrivals i t x);
       commit-now =
           λ w u e f.
           let y = notice i (w .transaction) x in
@@ -104,6 +105,27 @@ used-most f = sum-1 256 (λ a. nb (has (f a))) (λ a. nb-1 (has (f a)))
 used-more : (f : ℕ → Val) (a v : ℕ) → used f ≤ used (upd f a (some v))
 used-more f a v = sum-le 256 (λ b. nb (has (f b))) (λ b. nb (has (upd f a (some v) b))) (λ b. byEq b a (λ e. rw e (nb-1 (has (f b)))) (λ e. rw e (omega arith)))
 
+-- .. and of a set, with what was written before
+with-more : (x y : Val) → nb (has y) ≤ nb (has (orVal x y))
+with-more none y = omega arith
+with-more (some v) y = nb-1 (has y)
+
+set-more : (f w : ℕ → Val) → used w ≤ used (λ a. orVal (f a) (w a))
+set-more f w = sum-le 256 (λ a. nb (has (w a))) (λ a. nb (has (orVal (f a) (w a)))) (λ a. with-more (f a) (w a))
+
+set-new : (f w : ℕ → Val) (a : ℕ) → a < 256 → has (f a) ≡ true → w a ≡ none → used w + 1 ≤ used (λ b. orVal (f b) (w b))
+set-new f w a l t n =
+    sum-at 256 (λ b. nb (has (w b))) (λ b. nb (has (orVal (f b) (w b)))) 1 a (λ b. with-more (f b) (w b)) l (one (f a) (w a) t n)
+  where
+    one : (x y : Val) → has x ≡ true → y ≡ none → nb (has y) + 1 ≤ nb (has (orVal x y))
+    one none y t n = absurd (false≢true t)
+    one (some v) y t n = rw n (omega arith)
+
+-- what a set writes, or was written
+or-has : (x y : Val) → has (orVal x y) ≡ true → has x ≡ false → has y ≡ true
+or-has none y t e = t
+or-has (some v) y t e = absurd (false≢true (sym e))
+
 used-new : (f : ℕ → Val) (a v : ℕ) → a < 256 → f a ≡ none → used f + 1 ≤ used (upd f a (some v))
 used-new f a v l n =
     sum-at 256 (λ b. nb (has (f b))) (λ b. nb (has (upd f a (some v) b))) 1 a (λ b. byEq b a (λ e. rw e (nb-1 (has (f b)))) (λ e. rw e (omega arith))) l
@@ -116,7 +138,7 @@ used-less f a l n = omega (arith, used-new f a 0 l n, used-most (upd f a (some 0
 abbrev asking : Wait → Bool
 asking Idle = false
 asking (ForRead a) = true
-asking (ForWrite a v) = true
+asking (ForWrite p f) = true
 asking ForCommit = false
 
 -- how often an open transaction has joined the list, at most
@@ -126,11 +148,19 @@ asks k rd wr w = cond (locking k) (used rd + used wr + nb (asking w)) (nb (forCo
 abbrev share : Station → ℕ
 share s = 512 * s .num + cond (s .opened) (asks (s .kind) (s .rd) (s .wr) (s .wait)) 512
 
--- what is written is locked; what is waited for is not yet read, or written
+-- a write that is out is of objects of one page, of which one is not yet written
+record Writing (kind : ℕ) (wr : ℕ → Val) (p : ℕ) (f : ℕ → Val) : Type 0 where
+  page-only : (b : ℕ) → has (f b) ≡ true → pageOf b ≡ p
+  one : ℕ
+  in-range : one < 256
+  asked : has (f one) ≡ true
+  unwritten : locking kind ≡ true → wr one ≡ none
+
+-- what is written is locked; what is waited for is not yet read, or not all of it written
 record Steady (kind : ℕ) (rd wr : ℕ → Val) (w : Wait) (ol wl : ℕ → Bool) : Type 0 where
   locked : locking kind ≡ true → (a : ℕ) → has (wr a) ≡ true → (ol a || wl (pageOf a)) ≡ true
   reading : (a : ℕ) → w ≡ ForRead a → (a < 256) × (rd a ≡ none)
-  writing : (a v : ℕ) → w ≡ ForWrite a v → (a < 256) × (locking kind ≡ true → wr a ≡ none)
+  writing : (p : ℕ) (f : ℕ → Val) → w ≡ ForWrite p f → Writing kind wr p f
 
 abbrev SteadyAt : Station → Type 0
 SteadyAt s = Steady (s .kind) (s .rd) (s .wr) (s .wait) (s .ol) (s .wl)
@@ -142,7 +172,7 @@ asks-most {k} {rd} {wr} w h =
     go : {ol wl : ℕ → Bool} (w : Wait) → Steady k rd wr w ol wl → locking k ≡ true → used rd + used wr + nb (asking w) ≤ 512
     go Idle h e = omega (arith, used-most rd, used-most wr)
     go (ForRead a) h e = let q = h .reading a refl in omega (arith, used-less rd a (q .0) (q .1), used-most wr)
-    go (ForWrite a v) h e = let q = h .writing a v refl in omega (arith, used-most rd, used-less wr a (q .0) (q .1 e))
+    go (ForWrite p f) h e = let q = h .writing p f refl in omega (arith, used-most rd, used-less wr (q .one) (q .in-range) (q .unwritten e))
     go ForCommit h e = omega (arith, used-most rd, used-most wr)
 
 -- A STATION'S MOVES: what it sends to join the list is in its share
@@ -158,13 +188,13 @@ open-pays j n o x y e h = rw e (omega arith)
 idle-asking : (w : Wait) → waiting w ≡ false → asking w ≡ false
 idle-asking Idle e = refl
 idle-asking (ForRead a) e = e
-idle-asking (ForWrite a v) e = e
+idle-asking (ForWrite p f) e = e
 idle-asking ForCommit e = refl
 
 idle-commit : (w : Wait) → waiting w ≡ false → forCommit w ≡ false
 idle-commit Idle e = refl
 idle-commit (ForRead a) e = refl
-idle-commit (ForWrite a v) e = refl
+idle-commit (ForWrite p f) e = refl
 idle-commit ForCommit e = e
 
 not-waiting : {G : Type 0} (w v : Wait) → waiting w ≡ false → waiting v ≡ true → w ≡ v → G
@@ -177,14 +207,20 @@ or-true false = refl
 abbrev isRead : Wait → Bool
 isRead Idle = false
 isRead (ForRead a) = true
-isRead (ForWrite a v) = false
+isRead (ForWrite p f) = false
 isRead ForCommit = false
 
 abbrev addressIn : Wait → ℕ
 addressIn Idle = 0
 addressIn (ForRead a) = a
-addressIn (ForWrite a v) = a
+addressIn (ForWrite p f) = p
 addressIn ForCommit = 0
+
+abbrev valuesIn : Wait → ℕ → Val
+valuesIn Idle = noneAt
+valuesIn (ForRead a) = noneAt
+valuesIn (ForWrite p f) = f
+valuesIn ForCommit = noneAt
 
 quiet-done : (k : ℕ) (l : List Up) (r t : ℕ) (d : ℕ → Bool) → count (joins k) l ≡ 0 → count (joins k) (snoc l (Done r t d)) ≡ 0
 quiet-done k l r t d e = omega (arith, count-append (joins k) l (Done r t d ∷ []), e)
@@ -200,7 +236,7 @@ record Shut (k n : ℕ) (d : Did) : Type 0 where
 module _ (s : Station) (h : SteadyAt s) where
   -- "7. Waiting": while nothing is waited for
   idle-steady : {k : ℕ} {rd wr : ℕ → Val} {ol wl : ℕ → Bool} (w : Wait) → waiting w ≡ false → (locking k ≡ true → (a : ℕ) → has (wr a) ≡ true → (ol a || wl (pageOf a)) ≡ true) → Steady k rd wr w ol wl
-  idle-steady w e l = record { locked = l; reading = λ a q. not-waiting w (ForRead a) e refl q; writing = λ a v q. not-waiting w (ForWrite a v) e refl q }
+  idle-steady w e l = record { locked = l; reading = λ a q. not-waiting w (ForRead a) e refl q; writing = λ p f q. not-waiting w (ForWrite p f) e refl q }
 
   unwritten : (a : ℕ) → locking (s .kind) ≡ true → (s .ol a || s .wl (pageOf a)) ≡ false → s .wr a ≡ none
   unwritten a e f = go (s .wr a) refl
@@ -223,9 +259,36 @@ module _ (s : Station) (h : SteadyAt s) where
             record {
               locked = λ k a u. absurd (false≢true (sym (ap has (z .unwritten a)) ∙ u));
               reading = λ a q. absurd (false≢true (ap asking (sym (z .idle) ∙ q)));
-              writing = λ a v q. absurd (false≢true (ap asking (sym (z .idle) ∙ q)));
+              writing = λ p f q. absurd (false≢true (ap asking (sym (z .idle) ∙ q)));
             };
         pays = rw (z .shut, z .number) (byB (s .opened) (λ o. rw o (omega (arith, z .quiet, most))) (λ o. rw o (omega (arith, z .quiet))));
+      }
+
+  -- a set of which nothing is named is locked, as what was written before
+  at-hand : (p : ℕ) (f : ℕ → Val) → Asks p f → someOn p (named f s) ≡ false → locking (s .kind) ≡ true → (b : ℕ) → has (orVal (f b) (s .wr b)) ≡ true
+      → (s .ol b || s .wl (pageOf b)) ≡ true
+  at-hand p f r q e b t =
+      byB (has (f b))
+      (λ g.
+      let on : p * 8 + b % 8 ≡ b = omega (arith, r .page-only b g) in
+      let none : named f s b ≡ false = rw on at (any-no 8 (λ o. named f s (address p o)) q (b % 8) (omega arith)) in
+      not-no _ (rw (g, e) at none))
+      (λ g. h .locked e b (or-has (f b) (s .wr b) t g))
+
+  -- what a request names is not locked, so not written
+  named-new : (f : ℕ → Val) (a : ℕ) → named f s a ≡ true → locking (s .kind) ≡ true → s .wr a ≡ none
+  named-new f a n e = unwritten a e (not-yes _ (rw e at (and-r (has (f a)) (not (mayWrite a s)) n)))
+
+  asked-for : (p : ℕ) (f : ℕ → Val) → Asks p f → someOn p (named f s) ≡ true → Writing (s .kind) (s .wr) p f
+  asked-for p f r q =
+      let a = lowestOn p (named f s) in
+      let n = lowest-in p (named f s) q in
+      record {
+        page-only = r .page-only;
+        one = a;
+        in-range = lowest-in-range p (named f s) (r .in-range);
+        asked = and-l (has (f a)) _ n;
+        unwritten = named-new f a n;
       }
 
   owner-paid : Owns s (λ op d. Paid s d)
@@ -256,35 +319,28 @@ module _ (s : Station) (h : SteadyAt s) where
                   record {
                     locked = h .locked;
                     reading = λ b e. let same : a ≡ b = ap (λ (w : Wait). addressIn w) e in rw (← same) (r, f);
-                    writing = λ b v e. absurd (false≢true (sym (ap isRead e)));
+                    writing = λ p y e. absurd (false≢true (sym (ap isRead e)));
                   };
               pays =
                   open-pays _ (s .num) (s .opened) _ _ (k .opened)
                   (byB (locking (s .kind)) (λ e. rw (e, idle-asking (s .wait) (k .idle)) (omega arith)) (λ e. rw (e, idle-commit (s .wait) (k .idle)) (omega arith)));
             };
         writes-here =
-            λ a v r k q.
+            λ p f r k q.
             record {
-              steady =
-                  idle-steady (s .wait) (k .idle)
-                  (λ e b. byEq b a
-                  (λ c. rw c (λ t. let y : (s .ol a || s .wl (pageOf a)) ≡ true = rw e at q in rw (eqb-yes b a c) y))
-                  (λ c. rw c (λ t. h .locked e b t)));
+              steady = idle-steady (s .wait) (k .idle) (λ e b t. at-hand p (ofPage p f) r q e b t);
               pays =
                   open-pays 0 (s .num) (s .opened) _ _ (k .opened)
-                  (byB (locking (s .kind)) (λ e. rw e (omega (arith, used-more (s .wr) a v))) (λ e. rw e (omega arith)));
+                  (byB (locking (s .kind)) (λ e. rw e (omega (arith, set-more (ofPage p f) (s .wr)))) (λ e. rw e (omega arith)));
             };
         writes-ask =
-            λ a v r k q.
+            λ p f r k q.
             record {
               steady =
                   record {
                     locked = h .locked;
                     reading = λ b e. absurd (false≢true (ap isRead e));
-                    writing =
-                        λ b y e.
-                        let same : a ≡ b = ap (λ (w : Wait). addressIn w) e in
-                        rw (← same) (r, λ l. unwritten a l (rw l at q));
+                    writing = λ c y e. subst (λ (w : Wait). Writing (s .kind) (s .wr) (addressIn w) (valuesIn w)) e (asked-for p (ofPage p f) r q);
                   };
               pays =
                   open-pays _ (s .num) (s .opened) _ _ (k .opened)
@@ -293,7 +349,7 @@ module _ (s : Station) (h : SteadyAt s) where
         commits =
             λ k.
             record {
-              steady = record { locked = h .locked; reading = λ a e. absurd (false≢true (ap asking e)); writing = λ a v e. absurd (false≢true (ap asking e)) };
+              steady = record { locked = h .locked; reading = λ a e. absurd (false≢true (ap asking e)); writing = λ p f e. absurd (false≢true (ap asking e)) };
               pays =
                   open-pays _ (s .num) (s .opened) _ _ (k .opened)
                   (byB (locking (s .kind)) (λ e. rw (e, idle-asking (s .wait) (k .idle)) (omega arith)) (λ e. rw (e, idle-commit (s .wait) (k .idle)) (omega arith)));
@@ -305,14 +361,25 @@ module _ (s : Station) (h : SteadyAt s) where
   lock-keeps : (l : Lock) (a b : ℕ) → (s .ol b || s .wl (pageOf b)) ≡ true → ((takeLock l a s) .ol b || (takeLock l a s) .wl (pageOf b)) ≡ true
   unfolding takeLock
   lock-keeps NoLock a b e = e
-  lock-keeps ObjectLock a b e = byEq b a (λ c. rw c) (λ c. rw c e)
+  lock-keeps ObjectLock a b e = or-more (s .ol b) (forWrite (s .wait) b) (s .wl (pageOf b)) e
+    where
+      or-more : (x y z : Bool) → (x || z) ≡ true → ((x || y) || z) ≡ true
+      or-more true y z k = refl
+      or-more false true z k = refl
+      or-more false false z k = k
   lock-keeps WholeLock a b e = byEq (pageOf b) (pageOf a) (λ c. rw c (or-true (s .ol b))) (λ c. rw c e)
 
-  lock-gives : (l : Lock) (a : ℕ) → isLock l ≡ true → ((takeLock l a s) .ol a || (takeLock l a s) .wl (pageOf a)) ≡ true
+  -- a lock that arrives is on all that is to be written
+  lock-gives : (l : Lock) (a p : ℕ) (f : ℕ → Val) → isLock l ≡ true → s .wait ≡ ForWrite p f → ForPage l a p f → Writing (s .kind) (s .wr) p f → (b : ℕ) → has (f b) ≡ true
+      → ((takeLock l a s) .ol b || (takeLock l a s) .wl (pageOf b)) ≡ true
   unfolding takeLock
-  lock-gives NoLock a e = absurd (false≢true e)
-  lock-gives ObjectLock a e = rw (eqb-same a)
-  lock-gives WholeLock a e = rw (eqb-same (pageOf a)) (or-true (s .ol a))
+  lock-gives NoLock a p f e w c q b t = absurd (false≢true e)
+  lock-gives ObjectLock a p f e w c q b t = rw (w, t) (both-ways (s .ol b) (s .wl (pageOf b)))
+    where
+      both-ways : (x y : Bool) → ((x || true) || y) ≡ true
+      both-ways true y = refl
+      both-ways false y = refl
+  lock-gives WholeLock a p f e w c q b t = rw (c, q .page-only b t, eqb-same p) (or-true (s .ol b))
 
   lock-same : (l : Lock) (a : ℕ) → ((takeLock l a s) .num ≡ s .num) × ((takeLock l a s) .opened ≡ s .opened) × ((takeLock l a s) .kind ≡ s .kind) × ((takeLock l a s) .rd ≡ s .rd) × ((takeLock l a s) .wr ≡ s .wr)
   unfolding takeLock
@@ -357,20 +424,20 @@ module _ (s : Station) (h : SteadyAt s) where
         old-page = λ a t v u x f. record { steady = h; pays = omega arith };
         page-read = λ a t v u x f p. page-paid a t v u x f p;
         page-write =
-            λ l a t v u x y f p o.
+            λ l a t v u x p y f w o c.
             let z = lock-same l a in
-            let q = h .writing a y p in
+            let q = h .writing p y w in
             record {
               steady =
                   rw (z .2, z .4)
                   (idle-steady Idle refl
-                  (λ e b. byEq b a
-                  (λ c. rw c (λ w. rw (eqb-yes b a c) (lock-gives l a (sym o ∙ e))))
-                  (λ c. rw c (λ w. lock-keeps l a b (h .locked e b w)))));
+                  (λ e b t.
+                  byB (has (y b)) (λ g. lock-gives l a p y (sym o ∙ e) w c q b g)
+                  (λ g. lock-keeps l a b (h .locked e b (or-has (y b) (s .wr b) t g)))));
               pays =
-                  rw (z .0, z .1, z .2, z .3, z .4, p)
+                  rw (z .0, z .1, z .2, z .3, z .4, w)
                   (open-pays 0 (s .num) (s .opened) _ _ (and-l (s .opened) _ f)
-                  (byB (locking (s .kind)) (λ e. rw e (omega (arith, used-new (s .wr) a y (q .0) (q .1 e)))) (λ e. rw e (omega arith))));
+                  (byB (locking (s .kind)) (λ e. rw e (omega (arith, set-new y (s .wr) (q .one) (q .in-range) (q .asked) (q .unwritten e)))) (λ e. rw e (omega arith))));
             };
         deescalates =
             λ p t f.
@@ -473,7 +540,7 @@ joined-run kinds cs =
     run-keeps (λ s t u d. Joined s t u) joined-moves cs (fresh kinds)
     (record {
       kinds = λ i. refl;
-      steady = λ i. record { locked = λ k a e. absurd (false≢true e); reading = λ a e. absurd (false≢true (ap asking e)); writing = λ a v e. absurd (false≢true (ap asking e)) };
+      steady = λ i. record { locked = λ k a e. absurd (false≢true e); reading = λ a e. absurd (false≢true (ap asking e)); writing = λ p f e. absurd (false≢true (ap asking e)) };
       within = omega arith;
     })
 

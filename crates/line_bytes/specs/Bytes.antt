@@ -7,7 +7,7 @@ use lib.Dec.{eqb, ltb}
 use lib.ListN.{getD, take}
 use Rattle.sets.specs.Base.{upd, snoc}
 use Rattle.line.specs.Messages.{Answer, Nothing, Begun, Value, Waits, Written, CommittedAs, AbortedFor, Purged, Refused, Empty}
-use Rattle.line.specs.Line.{Op, Begin, Told, ToldRead, ToldWrite, ToldCommit, ToldAbort, addressOf, valueOf, isRefused}
+use Rattle.line.specs.Line.{Op, Begin, Told, ToldRead, ToldCommit, ToldAbort, addressOf, writesOf, tellWrites, isRefused}
 use Rattle.message.specs.Layout.{stationOf}
 use Rattle.station_state.specs.Valid.{freshState}
 use Rattle.station_answer.specs.Did as Station
@@ -66,9 +66,12 @@ AllFit (c ∷ cs) = Fits c × AllFit cs
 
 -- WHAT OWNERS ARE TOLD: "Owners are told a call's answer, after 'waits' the delivery's."
 
+abbrev pub toldB : WorldB → List Told → WorldB
+toldB w l =
+    record { server = w .server; station = w .station; up = w .up; down = w .down; archive = w .archive; told = l; sentDown = w .sentDown; number = w .number; asked = w .asked }
+
 abbrev pub logB : WorldB → Told → WorldB
-logB w e =
-    record { server = w .server; station = w .station; up = w .up; down = w .down; archive = w .archive; told = snoc (w .told) e; sentDown = w .sentDown; number = w .number; asked = w .asked }
+logB w e = toldB w (snoc (w .told) e)
 
 abbrev pub notedB : WorldB → (ℕ → ℕ) → (ℕ → Op) → WorldB
 notedB w n a =
@@ -80,7 +83,7 @@ tellB i op Nothing w = w
 tellB i op (Begun t) w = notedB w (upd (w .number) i t) (w .asked)
 tellB i op (Value v) w = logB w (ToldRead i (w .number i) (addressOf op) v)
 tellB i op Waits w = notedB w (w .number) (upd (w .asked) i op)
-tellB i op Written w = logB w (ToldWrite i (w .number i) (addressOf op) (valueOf op))
+tellB i op Written w = toldB w (tellWrites i (w .number i) 256 (writesOf op) (w .told))
 tellB i op (CommittedAs n) w = logB w (ToldCommit i (w .number i) n)
 tellB i op (AbortedFor c) w = logB w (ToldAbort i (w .number i) c)
 tellB i op Purged w = w

@@ -12,9 +12,10 @@ use Rattle.layout.specs.Record.{header, bytesOf, archiveOf}
 use Rattle.entries.specs.Entries.{entriesFrom, entriesOf}
 use Rattle.recs.specs.Recs.{recordsOf}
 use Rattle.sets.specs.Size.{size}
-use Rattle.line.specs.Station.{recordRead, writeLocal, dropPages, mark, doCallback, doKept, doAllKept, closed, close, undo, ownBegin, readLocal, readAsk, readAs, ownRead, writeAsk, ownWrite, ownCommit, ownAbort, ownPurge, arrive, takeLock, answerWait, onPage, loosen, onDeescalate, onCallback, onCommitted, onAborted, onInvalidate, onDown, stationStep}
+use Rattle.line.specs.Station.{recordRead, writeLocal, writeSet, dropPages, mark, doCallback, doKept, doAllKept, closed, close, undo, ownBegin, readLocal, readAsk, readAs, ownRead, writeAsk, ownWrite, ownCommit, ownAbort, ownPurge, arrive, takeLock, answerWait, onPage, loosen, onDeescalate, onCallback, onCommitted, onAborted, onInvalidate, onDown, stationStep}
 use Rattle.line.specs.Server as S
-use Rattle.line.specs.Line.{Begin, Read, Write, Commits, ToldRead, ToldWrite, ToldCommit, Told, World, act, fresh, run, tell, carryDown, carryUp, perform, ownerActs, stationTakes, serverTakes}
+use Rattle.line.specs.Line.{Begin, Read, Write, Commits, ToldRead, ToldWrite, ToldCommit, Told, World, act, fresh, run, tell, tellWrites, carryDown, carryUp, perform, ownerActs, stationTakes, serverTakes}
+use Rattle.archive_truth.specs.Fits.{one-fits}
 use Rattle.message.specs.Commit.{recordsRoom, serverRoom, commitRoom, stationRoom}
 use Rattle.server_state.specs.Layout.{valueOf}
 use Rattle.server_state.specs.Valid.{mostAt, most, kindsOk}
@@ -55,7 +56,7 @@ module _ (o c m q : List ℕ) (lo : stationRoom ≤ length o) (lc : commitRoom �
       ∷ []
 
   fit : AllFit calls
-  fit = (tt, (tt, (tt, (tt, (omega arith, (tt, (tt, (tt, (tt, (tt, tt))))))))))
+  fit = (tt, (tt, (tt, (tt, (one-fits 8 1 (omega arith), (tt, (tt, (tt, (tt, (tt, tt))))))))))
 
   room : AllRoom calls
   room =
@@ -68,7 +69,7 @@ module _ (o c m q : List ℕ) (lo : stationRoom ≤ length o) (lc : commitRoom �
 
   -- the model's run, computed
   computed : (archiveOf (recordsOf (model .archive)) ≡ C12) × (model .told ≡ told) × (model .server .val 8 ≡ 1)
-  unfolding size recordRead writeLocal dropPages mark doCallback doKept doAllKept closed close undo ownBegin readLocal readAsk readAs ownRead writeAsk ownWrite ownCommit ownAbort ownPurge arrive takeLock answerWait onPage loosen onDeescalate onCallback onCommitted onAborted onInvalidate onDown stationStep S.notice S.finish S.join S.leave S.sendPage S.abort S.write S.archive S.inform S.informFrom S.install S.serveNow S.joinRead S.joinWrite S.joinCommit S.commitNow S.unlist S.markBusy S.answered S.loosen S.accept S.ask S.askFrom S.serveRead S.call S.grantPage S.grantObject S.grant S.installWaiter S.callOnce S.afterCalls S.proceed S.gates S.visit S.pass S.settle S.serverStep act tell carryDown carryUp perform ownerActs stationTakes serverTakes run archiveOf bytesOf header bytes entriesOf entriesFrom
+  unfolding size recordRead writeLocal writeSet dropPages mark doCallback doKept doAllKept closed close undo ownBegin readLocal readAsk readAs ownRead writeAsk ownWrite ownCommit ownAbort ownPurge arrive takeLock answerWait onPage loosen onDeescalate onCallback onCommitted onAborted onInvalidate onDown stationStep S.notice S.finish S.join S.leave S.sendPage S.abort S.write S.archive S.inform S.informFrom S.install S.serveNow S.joinRead S.joinWrite S.joinCommit S.commitNow S.unlist S.markBusy S.answered S.loosen S.accept S.ask S.askFrom S.serveRead S.call S.grantPage S.grantObject S.grant S.installWaiter S.callOnce S.afterCalls S.proceed S.gates S.visit S.pass S.settle S.serverStep act tell tellWrites carryDown carryUp perform ownerActs stationTakes serverTakes run archiveOf bytesOf header bytes entriesOf entriesFrom
   computed = (refl, refl, refl)
 
   abbrev line : WorldB

@@ -1,6 +1,6 @@
 -- What number 1 tells of a server's state in the model's words: a state that passes means a server that fits (`fit-of`).
 use Prim.Native.Nat.{ℕ, zero, suc, _+_, _*_, _/_, _%_, _≤_, _<_}
-use mathlib.Core.Path.{_≡_, refl, sym, ap, _∙_}
+use mathlib.Core.Path.{_≡_, refl, sym, ap, subst, _∙_}
 use mathlib.Core.Bool.{true, false, not, false≢true}
 use mathlib.Core.Logic.{_≢_}
 use mathlib.Core.List.{List}
@@ -9,15 +9,17 @@ use native.Mathlib.Omega.{arith}
 use lib.Bits.{bitOr}
 use lib.Dec.{eqb, ltb}
 use borrow.Author.Tests.{eqb-true, eqb-false, eq-eqb, ne-eqb, not-true, not-false}
-use Rattle.sets.specs.Base.{has}
-use Rattle.sets.specs.Laws.{byB, byEq, eqb-same, eqb-yes, eqb-no, ltb-yes, ltb-no}
+use Rattle.sets.specs.Base.{has, any}
+use Rattle.sets.specs.Laws.{byB, byEq, eqb-yes, eqb-no, ltb-yes, ltb-no}
 use Rattle.sets.specs.Size.{size, size-same}
 use Rattle.cells.specs.Bits.{tb, tb-or, tb-high}
+use Rattle.cells.specs.Loops.{any-same}
 use Rattle.cells.specs.Cells.{view, view-col, view-row, cell-lt, get32}
 use Rattle.line.specs.Messages.{locking}
 use Rattle.line.specs.Server.{Server, Want, NoWant, WantRead, WantWrite, WantCommit, isWant}
+use Rattle.line.specs.Station.{someOn}
 use Rattle.line.specs.Apart.{Holder, Locks, Ages, Entry, Waiting, ageCounts}
-use Rattle.line.specs.Fit.{LimitedWork, calls, One, Owes, Form, Forms, Fit}
+use Rattle.line.specs.Fit.{calls, Owes, OnPage, Form, Forms, Fit}
 use Rattle.station_state.specs.Layout.{numberWidth, hasBit, member, countIn, noneIn}
 use Rattle.station_state.specs.Sets.{none-member}
 use Rattle.station_meaning.specs.Meant.{within}
@@ -27,6 +29,7 @@ use Rattle.server_state.specs.Valid.{ageless}
 use Rattle.server_state.specs.Facts.{Ranged}
 use Rattle.server_state.specs.Facts as Bytes
 use Rattle.server_state.specs.Sets.{only-member}
+use Rattle.server_state.specs.Pages.{page-some, page-member}
 use Rattle.server_meaning.specs.Meant.{wantAs, Is, start}
 use Rattle.server_meaning.specs.Tests.{bit-is, age-at, arrival-at, ages-at, arrivals-at, latest-at, lock-at, whole-at, kind-at, request-at, called-at, fin-at, ageless-at, want-at, waits-at, work-at, asked-at, pend-at, busy-at, reads-at, writes-at, reads-high, writes-high}
 use Rattle.step_meaning.specs.Relation.{Sound}
@@ -186,13 +189,10 @@ module _ {s : List ℕ} {m : Server} (h : Is s m) where
       number : (w : Want) → m .queue i .want ≡ w → wantOf s i ≡ wantNumber w
       number w e = want-number i l ∙ ap wantNumber e
 
-      abbrev Read : Type 0
-      Read = Bytes.One s i (readSetFrom i) (writtenSetFrom i)
-
-      read-bytes : m .queue i .want ≡ WantRead → Read
+      read-bytes : m .queue i .want ≡ WantRead → Bytes.One s i
       read-bytes e = waiter WantRead e refl .read (number WantRead e)
 
-      write-bytes : m .queue i .want ≡ WantWrite → Bytes.One s i (writtenSetFrom i) (readSetFrom i)
+      write-bytes : m .queue i .want ≡ WantWrite → Bytes.OnPage s i
       write-bytes e = waiter WantWrite e refl .write (number WantWrite e)
 
       commit-bytes : m .queue i .want ≡ WantCommit → Bytes.Work s i
@@ -201,16 +201,11 @@ module _ {s : List ℕ} {m : Server} (h : Is s m) where
       request-lt : m .queue i .req < 256
       request-lt = rw (← request-at h i l) (h .bytes (requestFrom + i))
 
-      -- a set with the object requested alone, and one with nothing
-      only-read : Read → (b : ℕ) → m .queue i .reads b ≡ eqb b (m .queue i .req)
+      -- a set with the object requested alone, one with objects of the page requested alone, and one with nothing
+      only-read : Bytes.One s i → (b : ℕ) → m .queue i .reads b ≡ eqb b (m .queue i .req)
       only-read o =
           upTo 256 (λ b lb. sym (read-member i b l lb) ∙ only-member s (h .bytes) (readSetFrom i) (requestOf s i) (o .requested) b lb ∙ ap (eqb b) (request-at h i l))
           (λ b lb. reads-high h i b lb ∙ sym (ne-eqb b (m .queue i .req) (λ z. omega (arith, z, request-lt))))
-
-      only-written : Bytes.One s i (writtenSetFrom i) (readSetFrom i) → (b : ℕ) → m .queue i .writes b ≡ eqb b (m .queue i .req)
-      only-written o =
-          upTo 256 (λ b lb. sym (written-member i b l lb) ∙ only-member s (h .bytes) (writtenSetFrom i) (requestOf s i) (o .requested) b lb ∙ ap (eqb b) (request-at h i l))
-          (λ b lb. writes-high h i b lb ∙ sym (ne-eqb b (m .queue i .req) (λ z. omega (arith, z, request-lt))))
 
       nothing-read : noneIn s (readSetFrom i) ≡ true → (a : ℕ) → m .queue i .reads a ≡ false
       nothing-read e = upTo 256 (λ a la. sym (read-member i a l la) ∙ none-member s (h .bytes) (readSetFrom i) e a la) (reads-high h i)
@@ -218,13 +213,36 @@ module _ {s : List ℕ} {m : Server} (h : Is s m) where
       nothing-written : noneIn s (writtenSetFrom i) ≡ true → (a : ℕ) → m .queue i .writes a ≡ false
       nothing-written e = upTo 256 (λ a la. sym (written-member i a l la) ∙ none-member s (h .bytes) (writtenSetFrom i) e a la) (writes-high h i)
 
+      page-written : Bytes.OnPage s i → (b : ℕ) → m .queue i .writes b ≡ true → b / 8 ≡ m .queue i .req / 8
+      page-written o =
+          upTo {G = λ b. m .queue i .writes b ≡ true → b / 8 ≡ m .queue i .req / 8} 256
+          (λ b lb e. page-member s (writtenSetFrom i) (requestOf s i / 8) (o .page-only) b lb (written-member i b l lb ∙ e) ∙ rw (request-at h i l))
+          (λ b lb e. absurd (false≢true (sym (writes-high h i b lb) ∙ e)))
+
+      some-written : Bytes.OnPage s i → someOn (m .queue i .req / 8) (m .queue i .writes) ≡ true
+      some-written o =
+          let p = requestOf s i / 8 in
+          let lp : p < 32 = omega (arith, request-at h i l, request-lt) in
+          let same : any 8 (λ c. member s (writtenSetFrom i) (p * 8 + c)) ≡ any 8 (λ c. m .queue i .writes (p * 8 + c)) =
+          any-same _ _ 8 (λ c lc. written-member i (p * 8 + c) l (omega arith)) in
+          subst (λ (q : ℕ). someOn (q / 8) (m .queue i .writes) ≡ true) (request-at h i l) (sym same ∙ page-some s (writtenSetFrom i) p (h .bytes) lp (o .page-only))
+
+      on-page : Bytes.OnPage s i → OnPage (m .queue i .req) (m .queue i .writes) (m .queue i .reads)
+      on-page o =
+          record {
+            in-range = request-lt;
+            stands = omega (arith, o .stands, request-at h i l);
+            some-asked = some-written o;
+            page-only = page-written o;
+            nothing-else = nothing-read (o .nothing-else);
+          }
+
       entry-of : Entry (m .kind i) (m .fin i) (m .queue i)
       entry-of =
           record {
             waits-open = λ e. unfinished i l (r .waiter i l (waiting i l e) .unfinished);
             reads-lock = λ e. locks-at i l (read-bytes e .locks);
             writes-lock = λ e. locks-at i l (write-bytes e .locks);
-            writes-own = λ e. only-written (write-bytes e) (m .queue i .req) ∙ eqb-same (m .queue i .req);
             commits-validate = λ e. ne-eqb (m .kind i) 0 (λ z. omega (arith, z, kind-at h i l, commit-bytes e .validates));
           }
 
@@ -270,7 +288,7 @@ module _ {s : List ℕ} {m : Server} (h : Is s m) where
                   nothing-written = nothing-written (b .nothing-written);
                 };
             read = λ e. let o = read-bytes e in record { in-range = request-lt; asked-for = only-read o; nothing-else = nothing-written (o .nothing-else) };
-            write = λ e. let o = write-bytes e in record { in-range = request-lt; asked-for = only-written o; nothing-else = nothing-read (o .nothing-else) };
+            write = λ e. on-page (write-bytes e);
             commit = λ e.
                 let o = commit-bytes e in
                 let three = number WantCommit e in
@@ -313,5 +331,6 @@ sound-fit f =
       kinds = f .forms .kinds;
       numbered = λ i l w. f .forms .named i l (f .apart .waiting .entry i l .waits-open w);
       worked = λ i l e z. f .forms .named i l (f .apart .waiting .entry i l .waits-open (ap isWant e)) (sym (f .forms .form i l .commit e .latest-is) ∙ z);
+      paged = λ i l e. let o = f .forms .form i l .write e in record { stands = o .stands; page-only = o .page-only };
       holder = λ p g e. let o = f .apart .locks .whole-open g p e in (o .station, f .forms .named g (o .station) (o .unfinished));
     }

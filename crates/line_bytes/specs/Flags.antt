@@ -24,7 +24,7 @@ use Rattle.server_state.specs.Valid.{kindsTo, freshServer}
 use Rattle.server_state.specs.Layout.{ageWidth, valueFrom, valueRow, setRow, ageFrom, arrivalFrom, nextAgeFrom, nextArrivalFrom, versionFrom, workFrom, latestFrom, listedFrom, lastFrom, askedFrom, lockFrom, wholeFrom, kindFrom, wantFrom, requestFrom, calledFrom, pendFrom, busyFrom, unfinishedFrom, ageKeptFrom, readValuesFrom, readVersionsFrom, writtenVersionsFrom, versionRow, readSetFrom, serverLength, agesOf, ageKeptOf, latestOf, lastOf, lockOf, wholeOf, askedOf, arrivalOf, writtenSetFrom, writtenValuesFrom, wantOf, requestOf, calledOf, pendOf, lockingB}
 use Rattle.server_tests.specs.Tests.{openCallB, openAskB, faultB, blockedB, shutB, shutOutB, hinderedB, informedB}
 use Rattle.server_order.specs.Order.{comesFirst, firstTo, edgesTo, youngerB, youngestTo, victimB}
-use Rattle.server_changes.specs.Changes.{newAgeB, ageB, noticeB, keepsAgeB, freePageB, freePagesTo, freeOneB, freeTo, finishB, leaveB, joinB, joinReadB, joinWriteB, unpackOne, unpackTo, unpackB, joinCommitB, listB, unlistB, markBusyB, answeredB, lockOneB, lockTo, loosenB, askedB, calledB, lockPageB, lockObjectB, valueOneB, valuesTo, writeB}
+use Rattle.server_changes.specs.Changes.{newAgeB, ageB, noticeB, keepsAgeB, freePageB, freePagesTo, freeOneB, freeTo, finishB, leaveB, joinB, joinReadB, joinWriteB, unpackOne, unpackTo, unpackB, joinCommitB, listB, unlistB, markBusyB, answeredB, lockOneB, lockTo, loosenB, askedB, calledB, lockPageB, valueOneB, valuesTo, writeB}
 use Rattle.server_actions.specs.Actions.{Serving, serving, sendPageB, abortB, informB, informTo, installB, commitNowB, addressOf, noticedB, onReadB, onWriteB, onCommitB, onAbortB, onPurgeB, onBusyB, onDoneB, onWrittenSetB, acceptB}
 use Rattle.server_actions.specs.Pass.{askB, askTo, serveReadB, callOneB, callTo, callB, callOnceB, grantPageB, grantObjectB, grantB, afterCallsB, proceedB, gatesB, visitB, orderB, passB, movedB, settleB, serverStepB}
 
@@ -264,10 +264,6 @@ module _ {s : List ℕ} (k : Flagged s) where
   unfolding lockPageB
   page-locked i p l = low-set (page-off k askedFrom p (omega arith)) (wholeFrom + p) (i + 1) (omega arith)
 
-  object-locked : (i a : ℕ) → a < 256 → Flagged (lockObjectB i a s)
-  unfolding lockObjectB
-  object-locked i a l = low-set k (lockFrom + a) (i + 1) (omega arith)
-
   unpacked : (i : ℕ) (x : List ℕ) → i < 8 → AllBytes x → Flagged (unpackB i x s)
   unfolding unpackB
   unpacked i x l b =
@@ -285,9 +281,9 @@ read-joined : {s : List ℕ} → Flagged s → (i a : ℕ) → i < 8 → a < 256
 unfolding joinReadB
 read-joined k i a l la = added (joined k i 1 a l (omega arith) la) (readSetFrom i) a (omega arith) la
 
-write-joined : {s : List ℕ} → Flagged s → (i a : ℕ) → i < 8 → a < 256 → Flagged (joinWriteB i a s)
+write-joined : {s : List ℕ} → Flagged s → (i p x : ℕ) → i < 8 → p < 32 → Flagged (joinWriteB i p x s)
 unfolding joinWriteB
-write-joined k i a l la = added (joined k i 2 a l (omega arith) la) (writtenSetFrom i) a (omega arith) la
+write-joined k i p x l lp = low-set (joined k i 2 (p * 8) l (omega arith) (omega arith)) (writtenSetFrom i + p) x (omega arith)
 
 commit-joined : {s : List ℕ} → Flagged s → (i : ℕ) (x : List ℕ) → i < 8 → AllBytes x → Flagged (joinCommitB i x s)
 unfolding joinCommitB
@@ -346,18 +342,18 @@ module _ (kinds m : List ℕ) (ok : upNumber kinds m ≡ 0) (b : AllBytes m) (x 
   unfolding noticedB
   seen = fine _ _ _ (noticed (h .flags) i (transactionOf m) own)
 
-  address-small : Message.kindOf m ≤ 2 → addressOf m < 256
+  address-small : Message.kindOf m ≡ 1 → addressOf m < 256
   address-small e = let r = accepted .request e in omega (arith, r .page-is, r .object-is)
 
   on-read : Message.kindOf m ≡ 1 → Fine (onReadB m x)
   unfolding onReadB
   on-read e =
-      one-of (lockingB (x .state) i) (fine _ _ _ (read-joined (seen .flags) i (addressOf m) own (address-small (omega (arith, e)))))
+      one-of (lockingB (x .state) i) (fine _ _ _ (read-joined (seen .flags) i (addressOf m) own (address-small e)))
       (page-sent 16 i (addressOf m) 0 (noticedB m x) own seen)
 
   on-write : Message.kindOf m ≡ 2 → Fine (onWriteB m x)
   unfolding onWriteB
-  on-write e = fine _ _ _ (write-joined (seen .flags) i (addressOf m) own (address-small (omega (arith, e))))
+  on-write e = fine _ _ _ (write-joined (seen .flags) i (pageOf m) (setOf m 0) own (accepted .write-request e .page-is))
 
   on-commit : Fine (onCommitB m x)
   unfolding onCommitB commitNowB
@@ -446,7 +442,7 @@ module _ (i : ℕ) (l : i < 8) where
 
   object-granted : (x : Serving) → Fine x → Fine (grantObjectB i x)
   unfolding grantObjectB
-  object-granted x h = page-sent 17 i _ _ _ l (fine _ _ _ (object-locked (left (h .flags) i l) i (requestOf (x .state) i) (request-small x h)))
+  object-granted x h = page-sent 17 i _ _ _ l (fine _ _ _ (objects-locked (left (h .flags) i l) i (requestOf (x .state) i / 8) _ 8 (omega (arith, request-small x h)) (omega arith)))
 
   granted : (x : Serving) → Fine x → Fine (grantB i x)
   unfolding grantB

@@ -53,7 +53,7 @@ module _ (k : ℕ → ℕ) where
   accept-kinds i (ReadRequest a t) x h =
       let n = notice-kinds i t x h in
       if-keeps Kinds (locking (x .server .kind i)) (λ e. n) (λ e. n)
-  accept-kinds i (WriteRequest a t) x h = notice-kinds i t x h
+  accept-kinds i (WriteRequest p t set) x h = notice-kinds i t x h
   accept-kinds i (Commit w) x h =
       let n = notice-kinds i (w .transaction) x h in
       if-keeps Kinds (locking (x .server .kind i)) (λ e. commit-kinds i w (notice i (w .transaction) x) n) (λ e. n)

@@ -11,7 +11,7 @@ use borrow.Author.Tests.{leb-true, eq-eqb}
 use Rattle.lists.specs.Tests.{allTo-at, allTo-of, and-r}
 use Rattle.sets.specs.Laws.{byB, ltb-yes, ltb-no}
 use Rattle.layout.specs.Record.{archiveOf}
-use Rattle.line.specs.Line.{Op, Begin, Read, Write, Commits, Aborts, Purges, Call, Owner, Broken, World, fresh, act, run}
+use Rattle.line.specs.Line.{Op, Begin, Read, WriteSet, Commits, Aborts, Purges, Call, Owner, Broken, World, fresh, act, run}
 use Rattle.archive_truth.specs.Fits.{FitCall, FitCalls}
 use Rattle.message.specs.Number.{kindOk}
 use Rattle.message.specs.Number as Number
@@ -52,7 +52,7 @@ callsOf (c ∷ cs) b = asCall b c ∷ callsOf cs (actB c b)
 op-fits : (i : ℕ) (op : Op) (y : Bool) → OpFits op → FitCall (cond y (Owner i op) (Broken 1))
 op-fits i Begin true f = f
 op-fits i (Read a) true f = f
-op-fits i (Write a v) true f = f
+op-fits i (WriteSet p g) true f = f
 op-fits i Commits true f = f
 op-fits i Aborts true f = f
 op-fits i (Purges p) true f = f

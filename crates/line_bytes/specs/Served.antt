@@ -2,20 +2,22 @@
 -- are in the bytes lent for them.
 use Prim.Native.Nat.{ℕ, zero, suc, _+_, _*_, _≤_, _<_}
 use mathlib.Core.Path.{_≡_, refl, sym, ap, subst, _∙_, fun-ext}
-use mathlib.Core.Bool.{Bool, true, cond}
+use mathlib.Core.Bool.{Bool, true, not, _&&_, cond}
+use mathlib.Core.Logic.{_≢_}
 use mathlib.Core.List.{List, [], _∷_, _++_, append-assoc}
 use native.Mathlib.Omega.{arith}
-use lib.Dec.{ltb}
+use lib.Dec.{eqb, ltb}
 use lib.ListN.{length, getD, take, drop, set, replicate, length-append, length-drop, length-replicate, List·getD-eq-default}
 use lib.Seq.{ext-getD, getD-take, getD-drop, length-take-le, take-at}
-use borrow.Author.Tests.{eq-eqb, lt-ltb}
+use borrow.Author.Tests.{eq-eqb, ne-eqb, lt-ltb}
 use Rattle.lists.specs.Stores.{sets-front}
-use Rattle.sets.specs.Base.{upd, nowhere, zeros}
-use Rattle.sets.specs.Laws.{byB, byEq, eqb-yes, eqb-no, ltb-yes, ltb-no}
+use Rattle.sets.specs.Base.{upd, nowhere, zeros, any}
+use Rattle.sets.specs.Laws.{byB, byEq, eqb-same, eqb-yes, eqb-no, ltb-yes, ltb-no}
 use Rattle.le.specs.Le.{setU64}
 use Rattle.cells.specs.Num.{AllBytes, bytes-all}
 use Rattle.cells.specs.Upd.{ltb-suc}
 use Rattle.cells.specs.Bits.{tb, tb-zero}
+use Rattle.cells.specs.Pages.{page-of, any-byte}
 use Rattle.cells.specs.Cells.{Cells, view-zero, upd3, Holds, begin, put8, put64}
 use Rattle.layout.specs.Record.{bytesOf, archiveOf}
 use Rattle.entries.specs.Entries.{entries-size}
@@ -24,12 +26,13 @@ use Rattle.record_meaning.specs.Layout.{length-bytesOf}
 use Rattle.line.specs.Messages.{Sent, Rec}
 use Rattle.line.specs.Server.{Server, noWaiter, setKind, setQueue, setListed, setAsked, waiterReads, waiterWrites, waiterPend, waiterBusy}
 use Rattle.line.specs.Server as Model
+use Rattle.line.specs.Station.{someOn}
 use Rattle.line.specs.All.{All}
 use Rattle.line.specs.Fit.{LimitedRec, UpNames}
-use Rattle.message.specs.Layout.{stationOf, kindOf}
+use Rattle.message.specs.Layout.{setsFrom, kindOf, stationOf, pageOf, setOf}
 use Rattle.message.specs.Number.{upNumber}
 use Rattle.message.specs.Commit.{longestSent, recordsRoom, serverRoom}
-use Rattle.message_meaning.specs.Meant.{workAt, upOf}
+use Rattle.message_meaning.specs.Meant.{objectsOn, workAt, upOf}
 use Rattle.message_meaning.specs.Kinds.{up-1, up-2, up-3, up-4, up-5, up-6, up-7, up-8}
 use Rattle.message_meaning.specs.UpAccepted.{UpAccepted, up-accepted, commit-few}
 use Rattle.station_callbacks.specs.Callbacks.{flat}
@@ -63,14 +66,19 @@ module _ {s : List ℕ} {m : Server} (h : Is s m) where
 
 -- A MESSAGE THAT NUMBERS 2 TO 5 LET PASS
 
+-- an object set that is not empty has an object of its page
+some-on : (p x : ℕ) → x < 256 → x ≢ 0 → someOn p (objectsOn p x) ≡ true
+some-on p x l n =
+    page-of (λ q o. eqb q p && tb x o) p ∙ ap (λ (c : Bool). any 8 (λ o. c && tb x o)) (eqb-same p) ∙ sym (any-byte x l) ∙ ap not (ne-eqb x 0 n)
+
 -- what numbers 4 and 5 let pass names what they ask for, in the model's words
 pub up-names : (kinds x : List ℕ) → upNumber kinds x ≡ 0 → AllBytes x → UpNames (upOf x)
 unfolding workAt
 up-names kinds x n b =
     let a : UpAccepted kinds x = up-accepted kinds x n in
     by-kind (kindOf x) (a .kind-from) (a .kind-to)
-    (λ e. let f = a .request (omega arith) in rw (up-1 x e) (omega (arith, f .page-is, f .object-is), f .transaction-not-0))
-    (λ e. let f = a .request (omega arith) in rw (up-2 x e) (omega (arith, f .page-is, f .object-is), f .transaction-not-0))
+    (λ e. let f = a .request e in rw (up-1 x e) (omega (arith, f .page-is, f .object-is), f .transaction-not-0))
+    (λ e. let f = a .write-request e in rw (up-2 x e) (f .page-is, f .transaction-not-0, some-on (pageOf x) (setOf x 0) (b setsFrom) (f .some-named)))
     (λ e. rw (up-3 x e) (a .commit e .transaction-not-0, commit-few (getD kinds (stationOf x) 0) x (bytes-all x b) (a .commit e)))
     (λ e. rw (up-4 x e) (a .abort e .transaction-not-0))
     (λ e. rw (up-5 x e) (a .purge e .page-is))

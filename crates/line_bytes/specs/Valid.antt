@@ -1,5 +1,5 @@
 -- A server's state that means a server that fits passes number 1, if its flags are in range: the bytes tell more of a flag than its meaning.
-use Prim.Native.Nat.{ℕ, zero, suc, _+_, _*_, _-_, _/_, _≤_, _<_}
+use Prim.Native.Nat.{ℕ, zero, suc, _+_, _*_, _-_, _/_, _%_, _≤_, _<_}
 use mathlib.Core.Path.{_≡_, refl, sym, ap, _∙_}
 use mathlib.Core.Bool.{Bool, true, false, not, _&&_, _||_, cond, false≢true}
 use mathlib.Core.Logic.{_≢_}
@@ -10,18 +10,21 @@ use lib.Dec.{eqb}
 use lib.ListN.{length}
 use borrow.Author.Tests.{eqb-false, eq-eqb, ne-eqb, lt-ltb, le-leb}
 use Rattle.lists.specs.Tests.{allTo, allTo-of}
+use Rattle.sets.specs.Base.{any}
 use Rattle.sets.specs.Laws.{byB, byEq, eqb-yes, eqb-no, not-no}
 use Rattle.cells.specs.Bits.{tb, tb-zero, tb-or, tb-tells}
+use Rattle.cells.specs.Loops.{any-same}
 use Rattle.line.specs.Messages.{locking}
 use Rattle.line.specs.Server.{Server, Want, NoWant, WantRead, WantWrite, WantCommit, isWant, waits}
 use Rattle.line.specs.Apart.{Holder, ageCounts, Entry}
-use Rattle.line.specs.Fit.{calls, Form, Fit}
+use Rattle.line.specs.Fit.{calls, OnPage, Form, Fit}
 use Rattle.limits.specs.Limit.{limit}
-use Rattle.station_state.specs.Layout.{hasBit, countIn, noneIn}
+use Rattle.station_state.specs.Layout.{hasBit, member, countIn, noneIn}
 use Rattle.station_state.specs.Sets.{members-none}
 use Rattle.server_state.specs.Layout.{counterLimit, kindFrom, wantFrom, calledFrom, unfinishedFrom, pendFrom, busyFrom, serverLength, ageOf, arrivalOf, agesOf, arrivalsOf, workNumber, latestOf, askedOf, lockOf, wholeOf, readSetFrom, writtenSetFrom, kindOf, wantOf, requestOf, calledOf, pendOf, busyOf, unfinishedOf, ageKeptFrom, ageKeptOf}
-use Rattle.server_state.specs.Valid.{mostAt, most, rangesOk, countersOk, onlyIn, blankOk, fewOk, commitOk, requestOk, waiterOk, entryOk, owesAt, callsOk, agedOk, stationOk, holderOk, holderAt, besideAt, pageOk, askedAt, apartAt, apartOk, valid, ageless}
+use Rattle.server_state.specs.Valid.{mostAt, most, rangesOk, countersOk, onlyIn, pageOnly, blankOk, fewOk, commitOk, writeOk, requestOk, waiterOk, entryOk, owesAt, callsOk, agedOk, stationOk, holderOk, holderAt, besideAt, pageOk, askedAt, apartAt, apartOk, valid, ageless}
 use Rattle.server_state.specs.Sets.{members-only}
+use Rattle.server_state.specs.Pages.{members-page}
 use Rattle.server_meaning.specs.Meant.{wantAs, Is}
 use Rattle.server_meaning.specs.Tests.{bit-is, kind-at, lock-at, whole-at, latest-at, fin-at, age-at, ages-at, arrival-at, arrivals-at, request-at, called-at, want-at, waits-at, asked-at, pend-at, busy-at, ageless-at}
 use Rattle.line_bytes.specs.Fits.{wantNumber, read-member, written-member, number-at, reads-count, writes-count}
@@ -118,7 +121,7 @@ module _ {s : List ℕ} {m : Server} (h : Is s m) (k : Flagged s) (f : Fit m) wh
         both _ _ (lt-ltb (ageOf s i) (agesOf s) (rw (age-at h i l, ages-at h) (f .apart .aged .ages-given i l)))
         (unless-0 (unfinishedOf s i) _ (λ n. not-0 (latestOf s i) (λ z. f .forms .named i l (unfinished i l n) (sym (latest-at h i l) ∙ z))))
 
-    -- sets with nothing, and with the object requested alone
+    -- sets with nothing, with the object requested alone, and with objects of the page requested alone
     none-read : ((a : ℕ) → m .queue i .reads a ≡ false) → noneIn s (readSetFrom i) ≡ true
     none-read e = members-none s (h .bytes) (readSetFrom i) (λ a la. read-member h i a l la ∙ e a)
 
@@ -128,8 +131,18 @@ module _ {s : List ℕ} {m : Server} (h : Is s m) (k : Flagged s) (f : Fit m) wh
     only-read : ((a : ℕ) → m .queue i .reads a ≡ eqb a (m .queue i .req)) → onlyIn s (readSetFrom i) (requestOf s i) ≡ true
     only-read e = members-only s (h .bytes) (readSetFrom i) (requestOf s i) (λ a la. read-member h i a l la ∙ e a ∙ ap (eqb a) (sym (request-at h i l)))
 
-    only-written : ((a : ℕ) → m .queue i .writes a ≡ eqb a (m .queue i .req)) → onlyIn s (writtenSetFrom i) (requestOf s i) ≡ true
-    only-written e = members-only s (h .bytes) (writtenSetFrom i) (requestOf s i) (λ a la. written-member h i a l la ∙ e a ∙ ap (eqb a) (sym (request-at h i l)))
+    page-written : OnPage (m .queue i .req) (m .queue i .writes) (m .queue i .reads) → pageOnly s (writtenSetFrom i) (requestOf s i / 8) ≡ true
+    page-written o =
+        let p = m .queue i .req / 8 in
+        let same : any 8 (λ c. member s (writtenSetFrom i) (p * 8 + c)) ≡ any 8 (λ c. m .queue i .writes (p * 8 + c)) =
+        any-same _ _ 8 (λ c lc. written-member h i (p * 8 + c) l (omega (arith, o .in-range))) in
+        rw (request-at h i l)
+        (members-page s (writtenSetFrom i) p (h .bytes) (same ∙ o .some-asked) (λ b lb e. o .page-only b (sym (written-member h i b l lb) ∙ e)))
+
+    write-ok : OnPage (m .queue i .req) (m .queue i .writes) (m .queue i .reads) → writeOk s i ≡ true
+    unfolding writeOk
+    write-ok o =
+        both _ _ (both _ _ (eq-eqb (requestOf s i % 8) 0 (omega (arith, request-at h i l, o .stands))) (page-written o)) (none-read (o .nothing-else))
 
     blank-ok : wantOf s i ≡ 0 → blankOk s i ≡ true
     unfolding blankOk
@@ -171,7 +184,7 @@ module _ {s : List ℕ} {m : Server} (h : Is s m) (k : Flagged s) (f : Fit m) wh
         let two : wantOf s i ≡ 2 = omega (arith, k .wants i l, n0, n3, eqb-no (wantOf s i) 1 e) in
         let w : m .queue i .want ≡ WantWrite = want-at h i l ∙ rw two refl in
         let o = form .write w in
-        both _ _ (eq-eqb (kindOf s i) 0 (locks-at i l (entry .writes-lock w))) (rw e (both _ _ (only-written (o .asked-for)) (none-read (o .nothing-else)))))
+        both _ _ (eq-eqb (kindOf s i) 0 (locks-at i l (entry .writes-lock w))) (rw e (write-ok o)))
 
     waiter-ok : wantOf s i ≢ 0 → waiterOk s i ≡ true
     unfolding waiterOk

@@ -26,7 +26,7 @@ use Rattle.line_cases.specs.Seen.{Step, seenB}
 use Rattle.line_cases.specs.Shown.{inBytes, allRight, seen-is}
 use Rattle.line_cases.specs.Archived.{joined, archive-is}
 use Rattle.line_cases.specs.Rows.{kinds, OfLine, calls, Runs, Comes, PartHolds, Holds, AllHold}
-use Rattle.line_cases.specs.Table.{C1, C2, C3, C4, C5, C6, C7, C8, C9, C10, C11, commits12, readOf8By1, C12, longReads, longWrites, longCommits, neighboursCommit, arrivesOver, sameObject, usedAndUnused, table, C6Again, inUse, wroteNine, besideWhole}
+use Rattle.line_cases.specs.Table.{C1, C2, C3, C4, C5, C6, C7, C8, C9, C10, C11, commits12, readOf8By1, C12, longReads, longWrites, longCommits, neighboursCommit, arrivesOver, sameObject, usedAndUnused, setWhole, setObjects, setBlocked, setCycle, setEdges, setUnavailable, setShown, setAtOnce, setPartly, setRange, setLong, table, C6Again, inUse, wroteNine, besideWhole}
 
 kinds-ok : kindsOk kinds ≡ true
 unfolding kindsOk most mostAt allTo
@@ -146,10 +146,55 @@ usedAndUnused-holds : Holds usedAndUnused
 unfolding usedAndUnused seen message bytes bytesOf header
 usedAndUnused-holds = (runs _ _ refl refl refl, tt)
 
--- C1 to C12, the limit and the versions by object, of the steps over bytes
+-- wish 9
+setWhole-holds : Holds setWhole
+unfolding setWhole seen message bytes bytesOf header
+setWhole-holds = (runs _ _ refl refl refl, tt)
+
+setObjects-holds : Holds setObjects
+unfolding setObjects seen message bytes bytesOf header
+setObjects-holds = (runs _ _ refl refl refl, tt)
+
+setBlocked-holds : Holds setBlocked
+unfolding setBlocked seen message bytes bytesOf header
+setBlocked-holds = (runs _ _ refl refl refl, tt)
+
+setCycle-holds : Holds setCycle
+unfolding setCycle seen message bytes bytesOf header
+setCycle-holds = (runs _ _ refl refl refl, tt)
+
+setEdges-holds : Holds setEdges
+unfolding setEdges seen message bytes bytesOf header
+setEdges-holds = (runs _ _ refl refl refl, tt)
+
+setUnavailable-holds : Holds setUnavailable
+unfolding setUnavailable seen message bytes bytesOf header
+setUnavailable-holds = (runs _ _ refl refl refl, tt)
+
+setShown-holds : Holds setShown
+unfolding setShown seen message bytes bytesOf header
+setShown-holds = (runs _ _ refl refl refl, tt)
+
+setAtOnce-holds : Holds setAtOnce
+unfolding setAtOnce seen message bytes bytesOf header
+setAtOnce-holds = (runs _ _ refl refl refl, tt)
+
+setPartly-holds : Holds setPartly
+unfolding setPartly seen message bytes bytesOf header
+setPartly-holds = (runs _ _ refl refl refl, tt)
+
+setRange-holds : Holds setRange
+unfolding setRange seen message bytes bytesOf header
+setRange-holds = (runs _ _ refl refl refl, tt)
+
+setLong-holds : Holds setLong
+unfolding setLong seen message bytes bytesOf header
+setLong-holds = (runs _ _ refl refl refl, tt)
+
+-- C1 to C12, the limit, the versions by object and the sets, of the steps over bytes
 pub table-of-bytes : AllHold table
 unfolding table
-table-of-bytes = (C1-holds, (C2-holds, (C3-holds, (C4-holds, (C5-holds, (C6-holds, (C7-holds, (C8-holds, (inUse-holds, (wroteNine-holds, (besideWhole-holds, (C9-holds, (C10-holds, (C11-holds, (C12-holds, (longReads-holds, (longWrites-holds, (longCommits-holds, (neighboursCommit-holds, (arrivesOver-holds, (sameObject-holds, (usedAndUnused-holds, tt))))))))))))))))))))))
+table-of-bytes = (C1-holds, (C2-holds, (C3-holds, (C4-holds, (C5-holds, (C6-holds, (C7-holds, (C8-holds, (inUse-holds, (wroteNine-holds, (besideWhole-holds, (C9-holds, (C10-holds, (C11-holds, (C12-holds, (longReads-holds, (longWrites-holds, (longCommits-holds, (neighboursCommit-holds, (arrivesOver-holds, (sameObject-holds, (usedAndUnused-holds, (setWhole-holds, (setObjects-holds, (setBlocked-holds, (setCycle-holds, (setEdges-holds, (setUnavailable-holds, (setShown-holds, (setAtOnce-holds, (setPartly-holds, (setRange-holds, (setLong-holds, tt)))))))))))))))))))))))))))))))))
 
 -- wish 2
 pub C6-again-of-bytes : Holds C6Again

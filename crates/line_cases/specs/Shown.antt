@@ -1,16 +1,19 @@
 -- What a list of calls over bytes shows is, byte for byte, what the model's calls of their names show.
-use Prim.Native.Nat.{ℕ, _+_, _<_}
+use Prim.Native.Nat.{ℕ, _+_, _%_, _<_}
 use mathlib.Core.Path.{_≡_, refl, sym, ap, subst, _∙_}
-use mathlib.Core.Bool.{Bool, true, false, _&&_}
+use mathlib.Core.Bool.{Bool, true, false, not, _&&_}
 use mathlib.Core.List.{List, [], _∷_, _++_}
+use native.Mathlib.Omega.{arith}
 use lib.Dec.{ltb}
 use lib.ListN.{length, getD}
 use borrow.Author.Tests.{lt-ltb}
-use Rattle.sets.specs.Laws.{byB, ltb-yes, and-l, and-r}
-use Rattle.line.specs.Messages.{Up, Down, Sent, Nothing}
-use Rattle.line.specs.Station.{Did, stationStep}
+use Rattle.sets.specs.Base.{Val, none, some, any}
+use Rattle.sets.specs.Laws.{byB, byEq, eqb-yes, ltb-yes, any-no, and-l, and-r, not-yes, not-no}
+use Rattle.entries.specs.Entries.{FitVal}
+use Rattle.line.specs.Messages.{pageOf, address, Up, Down, Sent, Nothing}
+use Rattle.line.specs.Station.{Did, ofPage, stationStep}
 use Rattle.line.specs.Server.{serverStep, unexpected}
-use Rattle.line.specs.Line.{Op, Begin, Read, Write, Commits, Aborts, Purges, Call, Owner, ServerTakes, StationTakes, Broken, World, Acted, upReply, isRefused, fresh, perform, ownerActs, stationTakes, serverTakes, act}
+use Rattle.line.specs.Line.{Op, Begin, Read, WriteSet, Commits, Aborts, Purges, Call, Owner, ServerTakes, StationTakes, Broken, World, Acted, upReply, isRefused, fresh, perform, ownerActs, stationTakes, serverTakes, act}
 use Rattle.line.specs.Bounds.{step-128, step-8}
 use Rattle.line.specs.Fields.{upFields, downFields}
 use Rattle.line.specs.Rows.{each, stationOf, seenAt, seen}
@@ -130,10 +133,14 @@ module _ (kinds : List ℕ) (size : length kinds ≡ 8) (ok : Number.kindsOk kin
 -- A LIST OF CALLS
 
 -- "Stations 0 to 7", "a value of 64 bits": as a test, for a list that is known
+abbrev long : Val → Bool
+long none = false
+long (some v) = not (ltb v 18446744073709551616)
+
 abbrev pub opRight : Op → Bool
 opRight Begin = true
 opRight (Read a) = true
-opRight (Write a v) = ltb v 18446744073709551616
+opRight (WriteSet p f) = not (any 8 (λ o. long (f (address p o))))
 opRight Commits = true
 opRight Aborts = true
 opRight (Purges p) = true
@@ -148,10 +155,22 @@ abbrev pub allRight : List Call → Bool
 allRight [] = true
 allRight (c ∷ cs) = right c && allRight cs
 
+val-fits : (x : Val) → long x ≡ false → FitVal x
+val-fits none e = tt
+val-fits (some v) e = ltb-yes v 18446744073709551616 (not-no (ltb v 18446744073709551616) e)
+
+set-fits : (p : ℕ) (f : ℕ → Val) → any 8 (λ o. long (f (address p o))) ≡ false → (a : ℕ) → FitVal (ofPage p f a)
+set-fits p f e a =
+    byEq (pageOf a) p
+    (λ q.
+    let here : address p (a % 8) ≡ a = omega (arith, eqb-yes (pageOf a) p q) in
+    rw q (val-fits (f a) (rw here at (any-no 8 (λ o. long (f (address p o))) e (a % 8) (omega arith)))))
+    (λ q. rw q tt)
+
 op-fits : (op : Op) → opRight op ≡ true → OpFits op
 op-fits Begin e = tt
 op-fits (Read a) e = tt
-op-fits (Write a v) e = ltb-yes v 18446744073709551616 e
+op-fits (WriteSet p f) e = set-fits p f (not-yes (any 8 (λ o. long (f (address p o)))) e)
 op-fits Commits e = tt
 op-fits Aborts e = tt
 op-fits (Purges p) e = tt

@@ -1,13 +1,16 @@
--- Document 01's cases C1 to C12, C8 as document 02's wish 11 has it, and its wishes 1 and 6, as one table: of each call its answer, the bytes
+-- Document 01's cases C1 to C12, C8 as document 02's wish 11 has it, and its wishes 1, 6 and 9, as one table: of each call its answer, the bytes
 -- of the messages that it sends and the bytes that it archives. 8 is page 1, object 0; 9 is page 1, object 1.
 use Prim.Native.Nat.{ℕ, zero, suc, _+_, _*_, _-_}
 use mathlib.Core.List.{List, [], _∷_, _++_}
+use mathlib.Core.Bool.{cond}
+use lib.Dec.{eqb, ltb}
 use lib.ListN.{replicate}
+use Rattle.sets.specs.Base.{Val, none, some, noneAt}
 use Rattle.layout.specs.Record.{valueLength, recordLength}
 use Rattle.message.specs.Layout.{versionFrom, setsFrom, setsLength, valuesLength, versionWidth, messageLength}
 use Rattle.message.specs.Commit.{versionsAt}
 use Rattle.line.specs.Messages.{Answer, Nothing, Begun, Value, Waits, Written, CommittedAs, AbortedFor, Purged, Refused, Empty}
-use Rattle.line.specs.Line.{Call, Owner, ServerTakes, StationTakes, Begin, Read, Write, Commits, Aborts, Purges}
+use Rattle.line.specs.Line.{Call, Owner, ServerTakes, StationTakes, Op, Begin, Read, WriteSet, Write, Commits, Aborts, Purges}
 use Rattle.cases.specs.Archive.{filled, c12, readOf8}
 use Rattle.line_cases.specs.Seen.{Step, step}
 use Rattle.line_cases.specs.Rows.{OfLine, OfCommit, OfFile, Row, row}
@@ -71,7 +74,7 @@ reads i o =
 
 -- 0 writes v to 8 and has to ask; it gets page 1 whole
 abbrev asks : ℕ → Step
-asks v = sends (Owner 0 (Write 8 v)) Waits (message 2 0 1 0 1 0 0 [] ∷ [])
+asks v = sends (Owner 0 (Write 8 v)) Waits (message 2 0 1 0 1 0 0 (1 ∷ []) ∷ [])
 
 abbrev whole : List (List ℕ)
 whole = message 18 0 1 0 1 0 0 [] ∷ []
@@ -150,7 +153,7 @@ beaten =
     reads 0 0
     ++ reads 2 0
     ++ (asks 5
-    ∷ sends (Owner 2 (Write 8 6)) Waits (message 2 2 1 0 1 0 0 [] ∷ [])
+    ∷ sends (Owner 2 (Write 8 6)) Waits (message 2 2 1 0 1 0 0 (1 ∷ []) ∷ [])
     ∷ serves 0 callback
     ∷ serves 2 []
     ∷ sends (StationTakes 2) Nothing (message 6 2 0 0 1 0 0 [] ∷ [])
@@ -272,8 +275,8 @@ besideWhole =
     ∷ sends (Owner 2 (Purges 1)) Purged (message 5 2 1 0 0 0 0 [] ∷ [])
     ∷ serves 2 []
     ∷ serves 2 []
-    ∷ sends (Owner 0 (Write 9 6)) Waits (message 2 0 1 1 1 0 0 [] ∷ [])
-    ∷ serves 0 (message 18 0 1 1 1 0 0 [] ∷ [])
+    ∷ sends (Owner 0 (Write 9 6)) Waits (message 2 0 1 0 1 0 0 (2 ∷ []) ∷ [])
+    ∷ serves 0 whole
     ∷ answers (StationTakes 0) Written
     ∷ answers (Owner 1 Begin) (Begun 1)
     ∷ sends (Owner 1 (Write 8 7)) Waits (message 1 1 1 0 1 0 0 [] ∷ [])
@@ -530,8 +533,270 @@ usedAndUnused =
     (recorded 1 2 1 1 1 1 (8 ∷ 8 ∷ 9 ∷ []) (0 ∷ 1 ∷ 1 ∷ []))
     ∷ [])
 
+-- WISH 9: sets of objects of page 1
+
+-- these values to these addresses
+abbrev given : List (ℕ × ℕ) → ℕ → Val
+given [] a = none
+given (x ∷ l) a = cond (eqb a (x .0)) (some (x .1)) (given l a)
+
+-- "three counters of one page"
+abbrev three : Op
+three = WriteSet 1 (given ((8, 1) ∷ (9, 2) ∷ (10, 3) ∷ []))
+
+-- 0 writes the three and has to ask for all
+abbrev asksThree : Step
+asksThree = sends (Owner 0 three) Waits (message 2 0 1 0 1 0 0 (7 ∷ []) ∷ [])
+
+-- to station i, for 0's set
+abbrev calledForThree : ℕ → List ℕ
+calledForThree i = message 20 i 0 0 1 0 0 (0 ∷ 7 ∷ [])
+
+-- 2's 7 for 0, dropping the pages d
+abbrev answersCall : ℕ → Step
+answersCall d = sends (StationTakes 2) Nothing (message 7 2 0 0 1 d 0 [] ∷ [])
+
+-- 2 gets cause 1
+abbrev loses : List ℕ
+loses = message 22 2 0 1 1 0 0 []
+
+-- 0 has them
+abbrev wroteThree : List Step
+wroteThree =
+    answers (Owner 0 (Read 8)) (Value 1)
+    ∷ answers (Owner 0 (Read 9)) (Value 2)
+    ∷ answers (Owner 0 (Read 10)) (Value 3)
+    ∷ []
+
+-- their record, as commit n
+abbrev counters : ℕ → List ℕ
+counters n = recorded 0 3 n 1 0 0 (8 ∷ 9 ∷ 10 ∷ []) (1 ∷ 2 ∷ 3 ∷ [])
+
+unfoldable pub setWhole : Row
+setWhole =
+    row "A set of three, nobody else listed: 18, and all are written when it arrives."
+    (OfLine
+    (answers (Owner 0 Begin) (Begun 1)
+    ∷ asksThree
+    ∷ serves 0 whole
+    ∷ answers (StationTakes 0) Written
+    ∷ (wroteThree
+    ++ (sends (Owner 0 Commits) Waits (commit 0 1 2 (0 ∷ 0 ∷ 0 ∷ []) (counters 0) ∷ [])
+    ∷ step (ServerTakes 0) Nothing (message 21 0 0 0 1 0 1 [] ∷ []) (counters 1)
+    ∷ answers (StationTakes 0) (CommittedAs 1)
+    ∷ [])))
+    (counters 1)
+    ∷ [])
+
+-- 2 has read 11; 4 comes to the page behind the grant
+unfoldable pub setObjects : Row
+setObjects =
+    row "A set of three, another has the page: called back for all, 17 locks all in one step."
+    (OfLine
+    (reads 2 3
+    ++ (answers (Owner 0 Begin) (Begun 1)
+    ∷ asksThree
+    ∷ serves 0 (calledForThree 2 ∷ [])
+    ∷ answersCall 0
+    ∷ serves 2 (message 17 0 1 0 1 0 0 [] ∷ [])
+    ∷ answers (StationTakes 0) Written
+    ∷ (wroteThree
+    ++ (answers (Owner 4 Begin) (Begun 1)
+    ∷ sends (Owner 4 (Read 12)) Waits (message 1 4 1 4 1 0 0 [] ∷ [])
+    ∷ serves 4 (message 16 4 1 4 1 0 0 (7 ∷ []) ∷ [])
+    ∷ sends (Owner 2 (Read 10)) Waits (message 1 2 1 2 1 0 0 [] ∷ [])
+    ∷ serves 2 []
+    ∷ []))))
+    []
+    ∷ [])
+
+-- 0 has read 11, so 2 gets a lock on 9 alone, which it has read before 0's set comes
+unfoldable pub setBlocked : Row
+setBlocked =
+    row "A set waits for all its objects: one of three is locked by another."
+    (OfLine
+    (reads 0 3
+    ++ (answers (Owner 2 Begin) (Begun 1)
+    ∷ sends (Owner 2 (Write 9 7)) Waits (message 2 2 1 0 1 0 0 (2 ∷ []) ∷ [])
+    ∷ serves 2 (message 20 0 2 0 1 0 0 (0 ∷ 2 ∷ []) ∷ [])
+    ∷ sends (StationTakes 0) Nothing (message 7 0 2 0 1 0 0 [] ∷ [])
+    ∷ serves 0 (message 17 2 1 0 1 0 0 [] ∷ [])
+    ∷ answers (StationTakes 2) Written
+    ∷ asksThree
+    ∷ serves 0 []
+    ∷ sends (Owner 2 Commits) Waits (commit 2 1 2 (0 ∷ []) (recorded 0 1 0 1 2 0 (9 ∷ []) (7 ∷ [])) ∷ [])
+    ∷ step (ServerTakes 2) Nothing (message 21 2 0 0 1 0 1 [] ∷ calledForThree 2 ∷ []) (recorded 0 1 1 1 2 0 (9 ∷ []) (7 ∷ []))
+    ∷ answers (StationTakes 2) (CommittedAs 1)
+    ∷ answersCall 2
+    ∷ serves 2 (pageOne 18 0 0 1 (0 ∷ 7 ∷ []) (0 ∷ 1 ∷ []) ∷ [])
+    ∷ answers (StationTakes 0) Written
+    ∷ wroteThree))
+    (recorded 0 1 1 1 2 0 (9 ∷ []) (7 ∷ []))
+    ∷ [])
+
+-- both have read 10, the highest of the three
+unfoldable pub setCycle : Row
+setCycle =
+    row "Cause 1 and edges are reckoned for every object in the set: 2 has read 10 of 0's set and writes it."
+    (OfLine
+    (reads 0 2
+    ++ reads 2 2
+    ++ (asksThree
+    ∷ sends (Owner 2 (Write 10 9)) Waits (message 2 2 1 0 1 0 0 (4 ∷ []) ∷ [])
+    ∷ serves 0 (calledForThree 2 ∷ [])
+    ∷ serves 2 []
+    ∷ sends (StationTakes 2) Nothing (message 6 2 0 0 1 0 0 [] ∷ [])
+    ∷ serves 2 (loses ∷ [])
+    ∷ sends (StationTakes 2) (AbortedFor 1) (message 7 2 0 0 1 2 0 [] ∷ [])
+    ∷ serves 2 whole
+    ∷ answers (StationTakes 0) Written
+    ∷ []))
+    []
+    ∷ [])
+
+-- 0 has read 11 and 16; 2 has a lock on 10, the highest of the three, and wants 16
+unfoldable pub setEdges : Row
+setEdges =
+    row "An edge runs from every object in the set: 0 waits for 10, which 2 has locked, and 2 for 16, which 0 has read."
+    (OfLine
+    (reads 0 3
+    ++ (sends (Owner 0 (Read 16)) Waits (message 1 0 2 0 1 0 0 [] ∷ [])
+    ∷ serves 0 (message 16 0 2 0 1 0 0 [] ∷ [])
+    ∷ answers (StationTakes 0) (Value 0)
+    ∷ answers (Owner 2 Begin) (Begun 1)
+    ∷ sends (Owner 2 (Write 10 9)) Waits (message 2 2 1 0 1 0 0 (4 ∷ []) ∷ [])
+    ∷ serves 2 (message 20 0 2 0 1 0 0 (0 ∷ 4 ∷ []) ∷ [])
+    ∷ sends (StationTakes 0) Nothing (message 7 0 2 0 1 0 0 [] ∷ [])
+    ∷ serves 0 (message 17 2 1 0 1 0 0 [] ∷ [])
+    ∷ answers (StationTakes 2) Written
+    ∷ asksThree
+    ∷ serves 0 []
+    ∷ sends (Owner 2 (Write 16 5)) Waits (message 2 2 2 0 1 0 0 (1 ∷ []) ∷ [])
+    ∷ serves 2 (message 20 0 2 0 1 0 0 (0 ∷ 0 ∷ 1 ∷ []) ∷ [])
+    ∷ sends (StationTakes 0) Nothing (message 6 0 2 0 1 0 0 [] ∷ [])
+    ∷ serves 0 (loses ∷ calledForThree 2 ∷ [])
+    ∷ answers (StationTakes 2) (AbortedFor 1)
+    ∷ answersCall 2
+    ∷ serves 2 whole
+    ∷ answers (StationTakes 0) Written
+    ∷ []))
+    []
+    ∷ [])
+
+-- 0's set waits for 2, which has read 9; 4 comes to the page
+unfoldable pub setUnavailable : Row
+setUnavailable =
+    row "Unavailable sets are reckoned for every object in the set: those that wait to be written."
+    (OfLine
+    (reads 2 1
+    ++ (answers (Owner 0 Begin) (Begun 1)
+    ∷ asksThree
+    ∷ serves 0 (calledForThree 2 ∷ [])
+    ∷ sends (StationTakes 2) Nothing (message 6 2 0 0 1 0 0 [] ∷ [])
+    ∷ serves 2 []
+    ∷ answers (Owner 4 Begin) (Begun 1)
+    ∷ sends (Owner 4 (Read 12)) Waits (message 1 4 1 4 1 0 0 [] ∷ [])
+    ∷ serves 4 (message 16 4 1 4 1 0 0 (7 ∷ []) ∷ [])
+    ∷ []))
+    []
+    ∷ [])
+
+-- 4 waits to write 9 when 0's set is granted
+unfoldable pub setShown : Row
+setShown =
+    row "Unavailable in 17 is what others wait to write, without all of the set."
+    (OfLine
+    (reads 2 3
+    ++ (answers (Owner 0 Begin) (Begun 1)
+    ∷ asksThree
+    ∷ serves 0 (calledForThree 2 ∷ [])
+    ∷ answers (Owner 4 Begin) (Begun 1)
+    ∷ sends (Owner 4 (Write 9 4)) Waits (message 2 4 1 0 1 0 0 (2 ∷ []) ∷ [])
+    ∷ serves 4 []
+    ∷ answersCall 0
+    ∷ serves 2 (message 17 0 1 0 1 0 0 [] ∷ [])
+    ∷ answers (StationTakes 0) Written
+    ∷ []))
+    []
+    ∷ [])
+
+unfoldable pub setAtOnce : Row
+setAtOnce =
+    row "All are written at once if none is named: 0 holds page 1 whole."
+    (OfLine (reads 0 0 ++ getsWhole 5 ++ (answers (Owner 0 three) Written ∷ wroteThree)) [] ∷ [])
+
+-- 0 has a lock on 8, which it has written
+unfoldable pub setPartly : Row
+setPartly =
+    row "The request names those under no lock yet; all are written when the grant arrives."
+    (OfLine
+    (reads 0 0
+    ++ reads 2 3
+    ++ (asks 5
+    ∷ serves 0 callback
+    ∷ answersCall 0
+    ∷ serves 2 (message 17 0 1 0 1 0 0 [] ∷ [])
+    ∷ answers (StationTakes 0) Written
+    ∷ sends (Owner 0 three) Waits (message 2 0 1 0 1 0 0 (6 ∷ []) ∷ [])
+    ∷ serves 0 (message 20 2 0 0 1 0 0 (0 ∷ 6 ∷ []) ∷ [])
+    ∷ answersCall 0
+    ∷ serves 2 (message 17 0 1 0 1 0 0 [] ∷ [])
+    ∷ answers (StationTakes 0) Written
+    ∷ (wroteThree ++ (answers (Owner 0 three) Written ∷ []))))
+    []
+    ∷ [])
+
+unfoldable pub setRange : Row
+setRange =
+    row "The empty set, or several objects from a validating owner, is number 4."
+    (OfLine
+    (answers (Owner 0 (WriteSet 1 noneAt)) (Refused 4)
+    ∷ answers (Owner 0 (WriteSet 32 (given ((256, 1) ∷ [])))) (Refused 4)
+    ∷ answers (Owner 0 three) (Refused 8)
+    ∷ answers (Owner 0 Begin) (Begun 1)
+    ∷ asksThree
+    ∷ answers (Owner 0 three) (Refused 7)
+    ∷ answers (Owner 0 (WriteSet 1 noneAt)) (Refused 4)
+    ∷ answers (Owner 1 three) (Refused 4)
+    ∷ answers (Owner 1 Begin) (Begun 1)
+    ∷ answers (Owner 1 three) (Refused 4)
+    ∷ sends (Owner 1 (WriteSet 1 (given ((9, 7) ∷ [])))) Waits (message 1 1 1 1 1 0 0 [] ∷ [])
+    ∷ serves 1 (message 16 1 1 1 1 0 0 [] ∷ [])
+    ∷ answers (StationTakes 1) Written
+    ∷ answers (Owner 1 three) (Refused 4)
+    ∷ answers (Owner 1 (WriteSet 1 (given ((10, 8) ∷ [])))) Written
+    ∷ [])
+    []
+    ∷ [])
+
+-- 0 writes a set of n objects of page p, all 1, and gets the page whole
+abbrev setOfPage : ℕ → ℕ → Op
+setOfPage p n = WriteSet p (λ a. cond (ltb a (p * 8 + n)) (some 1) none)
+
+abbrev writesSet : ℕ → ℕ → ℕ → List Step
+writesSet p n u =
+    sends (Owner 0 (setOfPage p n)) Waits (message 2 0 p 0 1 0 0 (u ∷ []) ∷ [])
+    ∷ serves 0 (message 18 0 p 0 1 0 0 [] ∷ [])
+    ∷ answers (StationTakes 0) Written
+    ∷ []
+
+unfoldable pub setLong : Row
+setLong =
+    row "15, Long, for the whole set: 47 are written, and a set of two more is refused, one of them written before is not."
+    (OfLine
+    (answers (Owner 0 Begin) (Begun 1)
+    ∷ (eachOf (λ p. writesSet p 8 255) 5
+    ++ writesSet 5 7 127
+    ++ (answers (Owner 0 (setOfPage 6 2)) (Refused 15)
+    ∷ answers (Owner 0 (setOfPage 5 8)) Written
+    ∷ answers (Owner 0 (setOfPage 6 1)) (Refused 15)
+    ∷ answers (Owner 0 (setOfPage 5 8)) Written
+    ∷ [])))
+    []
+    ∷ [])
+
 unfoldable pub table : List Row
-table = C1 ∷ C2 ∷ C3 ∷ C4 ∷ C5 ∷ C6 ∷ C7 ∷ C8 ∷ inUse ∷ wroteNine ∷ besideWhole ∷ C9 ∷ C10 ∷ C11 ∷ C12 ∷ longReads ∷ longWrites ∷ longCommits ∷ neighboursCommit ∷ arrivesOver ∷ sameObject ∷ usedAndUnused ∷ []
+table = C1 ∷ C2 ∷ C3 ∷ C4 ∷ C5 ∷ C6 ∷ C7 ∷ C8 ∷ inUse ∷ wroteNine ∷ besideWhole ∷ C9 ∷ C10 ∷ C11 ∷ C12 ∷ longReads ∷ longWrites ∷ longCommits ∷ neighboursCommit ∷ arrivesOver ∷ sameObject ∷ usedAndUnused ∷ setWhole ∷ setObjects ∷ setBlocked ∷ setCycle ∷ setEdges ∷ setUnavailable ∷ setShown ∷ setAtOnce ∷ setPartly ∷ setRange ∷ setLong ∷ []
 
 -- WISH 2: "A beaten transaction keeps its age."
 
@@ -554,8 +819,8 @@ repeats =
     ∷ sends (Owner 2 (Read 8)) Waits (message 1 2 1 0 2 0 0 [] ∷ [])
     ∷ serves 2 (fives 16 ∷ [])
     ∷ answers (StationTakes 2) (Value 5)
-    ∷ sends (Owner 0 (Write 8 6)) Waits (message 2 0 1 0 2 0 0 [] ∷ [])
-    ∷ sends (Owner 2 (Write 8 7)) Waits (message 2 2 1 0 2 0 0 [] ∷ [])
+    ∷ sends (Owner 0 (Write 8 6)) Waits (message 2 0 1 0 2 0 0 (1 ∷ []) ∷ [])
+    ∷ sends (Owner 2 (Write 8 7)) Waits (message 2 2 1 0 2 0 0 (1 ∷ []) ∷ [])
     ∷ serves 0 (message 20 2 0 0 2 0 0 (0 ∷ 1 ∷ []) ∷ [])
     ∷ serves 2 []
     ∷ sends (StationTakes 2) Nothing (message 6 2 0 0 2 0 0 [] ∷ [])

@@ -17,16 +17,16 @@ use Rattle.record_meaning.specs.Parse.{recordOf}
 use Rattle.record_meaning.specs.Meaning.{read-written}
 use Rattle.line.specs.Messages.{address, Up, ReadRequest, WriteRequest, Commit, Abort, Purge, Busy, Done, WrittenSet}
 use Rattle.line.specs.Server.{usedPage}
-use Rattle.line.specs.Fields.{noValues, noVersions, oneSet, pageSet, workFields, entryVersions, upFields}
+use Rattle.line.specs.Fields.{noValues, noVersions, oneSet, objectSet, pageSet, fields, workFields, entryVersions, upFields}
 use Rattle.layout.specs.Record.{valueLength}
 use Rattle.message.specs.Layout.{pageFrom, objectFrom, transactionFrom, pagesFrom, versionFrom, setsFrom, setsLength, secondSet, valuesFrom, versionWidth, behindLength, messageLength, kindOf, stationOf, pageOf, requesterOf, objectOf, transactionOf, pagesOf, setOf}
-use Rattle.message.specs.Accepted.{fields-fit}
+use Rattle.message.specs.Accepted.{Zero, fields-fit}
 use Rattle.message.specs.Commit.{versionsAt, recordAt, entriesOf as entriesIn, entryVersion}
 use Rattle.message_meaning.specs.Meant.{objectsOn, pagesIn, workAt, upOf}
 use Rattle.message_meaning.specs.Kinds.{up-1, up-2, up-3, up-4, up-5, up-6, up-7, up-8}
 use Rattle.message_meaning.specs.Numbers.{numbers-written}
 use Rattle.message_meaning.specs.Sent.{Reads}
-use Rattle.message_meaning.specs.UpAccepted.{RequestFields, AbortFields, PurgeFields, BusyFields, DoneFields, WrittenSetFields, CommitFields, UpAccepted, up-accepted, commit-record, entries-are}
+use Rattle.message_meaning.specs.UpAccepted.{RequestFields, WriteRequestFields, AbortFields, PurgeFields, BusyFields, DoneFields, WrittenSetFields, CommitFields, UpAccepted, up-accepted, commit-record, entries-are}
 use Rattle.line_cases.specs.Wire.{words, wireRecord, wire}
 use Rattle.line_cases.specs.Parts.{part-rest, two-join, made, inside, zero-at, zero-32, zero-part, bits-back, table-same, table-join, words-table, set-of-page, pages-back, noneBehind, zero-behind, one-set, no-sets, none-behind, none-from-pages}
 use Rattle.line_cases.specs.Records.{versions-back, record-back}
@@ -48,8 +48,16 @@ module _ (i k : ℕ) (m : List ℕ) (hm : Bytes m) (hl : length m ≡ messageLen
   bytes-1 : kindOf m ≡ 1 → RequestFields m → m ≡ wire (upFields i k (ReadRequest (address (pageOf m) (objectOf m)) (transactionOf m)))
   bytes-1 e f = let r = none-from-pages m hl (f .unnamed-pages) in made m hm (omega arith) e own (page-is f) (object-is f) refl (r .0) (r .1) (r .2) (r .3)
 
-  bytes-2 : kindOf m ≡ 2 → RequestFields m → m ≡ wire (upFields i k (WriteRequest (address (pageOf m) (objectOf m)) (transactionOf m)))
-  bytes-2 e f = let r = none-from-pages m hl (f .unnamed-pages) in made m hm (omega arith) e own (page-is f) (object-is f) refl (r .0) (r .1) (r .2) (r .3)
+  -- a page, a transaction and a set
+  with-set : (c : ℕ) → kindOf m ≡ c → Zero m objectFrom 1 → Zero m pagesFrom (setsFrom - pagesFrom) → Zero m secondSet (messageLength - secondSet)
+      → m ≡ wire (fields c i (pageOf m) 0 (transactionOf m) 0 0 (oneSet (objectSet (objectsOn (pageOf m) (setOf m 0)) (pageOf m))) noValues)
+  with-set c e no-object no-pages z =
+      let set-is = one-set m (omega arith) (inside m secondSet (messageLength - secondSet) secondSet (valuesFrom - secondSet) z (omega arith) (omega arith)) ∙ ap oneSet (sym (set-of-page (pageOf m) (setOf m 0) (byte-at m setsFrom hm))) in
+      made m hm (omega arith) e own refl (zero-at m objectFrom 1 no-object (omega arith)) refl (zero-32 m pagesFrom (inside m pagesFrom (setsFrom - pagesFrom) pagesFrom 4 no-pages (omega arith) (omega arith)))
+      (zero-32 m versionFrom (inside m pagesFrom (setsFrom - pagesFrom) versionFrom 4 no-pages (omega arith) (omega arith))) set-is (none-behind m hl (inside m secondSet (messageLength - secondSet) valuesFrom behindLength z (omega arith) (omega arith)))
+
+  bytes-2 : kindOf m ≡ 2 → WriteRequestFields m → m ≡ wire (upFields i k (WriteRequest (pageOf m) (transactionOf m) (objectsOn (pageOf m) (setOf m 0))))
+  bytes-2 e f = with-set 2 e (f .unnamed-object) (f .unnamed-pages) (f .unnamed-other-sets)
 
   bytes-4 : kindOf m ≡ 4 → AbortFields m → m ≡ wire (upFields i k (Abort (transactionOf m)))
   bytes-4 e f =
@@ -75,11 +83,7 @@ module _ (i k : ℕ) (m : List ℕ) (hm : Bytes m) (hl : length m ≡ messageLen
       (no-sets m (omega arith) (inside m versionFrom (messageLength - versionFrom) setsFrom setsLength z (omega arith) (omega arith))) (none-behind m hl (inside m versionFrom (messageLength - versionFrom) valuesFrom behindLength z (omega arith) (omega arith)))
 
   bytes-8 : kindOf m ≡ 8 → WrittenSetFields m → m ≡ wire (upFields i k (WrittenSet (pageOf m) (transactionOf m) (objectsOn (pageOf m) (setOf m 0))))
-  bytes-8 e f =
-      let z = f .unnamed-other-sets in
-      let set-is = one-set m (omega arith) (inside m secondSet (messageLength - secondSet) secondSet (valuesFrom - secondSet) z (omega arith) (omega arith)) ∙ ap oneSet (sym (set-of-page (pageOf m) (setOf m 0) (byte-at m setsFrom hm))) in
-      made m hm (omega arith) e own refl (zero-at m objectFrom 1 (f .unnamed-object) (omega arith)) refl (zero-32 m pagesFrom (inside m pagesFrom (setsFrom - pagesFrom) pagesFrom 4 (f .unnamed-pages) (omega arith) (omega arith)))
-      (zero-32 m versionFrom (inside m pagesFrom (setsFrom - pagesFrom) versionFrom 4 (f .unnamed-pages) (omega arith) (omega arith))) set-is (none-behind m hl (inside m secondSet (messageLength - secondSet) valuesFrom behindLength z (omega arith) (omega arith)))
+  bytes-8 e f = with-set 8 e (f .unnamed-object) (f .unnamed-pages) (f .unnamed-other-sets)
 
 -- THE COMMIT: "one version for each entry of its record, in record order", then the record
 
@@ -156,10 +160,10 @@ module _ (kinds : List ℕ) (i : ℕ) (m : List ℕ) (hm : Bytes m) (own : stati
   written : UpAccepted kinds m → m ≡ wire (upFields i k (upOf m))
   written h =
       let c = kindOf m in
-      byEq c 1 (λ e. let q = eqb-yes c 1 e in bytes-1 i k m hm (short 1 q (omega arith)) own q (h .request (omega arith)) ∙ said (up-1 m q))
+      byEq c 1 (λ e. let q = eqb-yes c 1 e in bytes-1 i k m hm (short 1 q (omega arith)) own q (h .request q) ∙ said (up-1 m q))
       (λ e1.
       let l2 : 2 ≤ c = omega (arith, h .kind-from, eqb-no c 1 e1) in
-      byEq c 2 (λ e. let q = eqb-yes c 2 e in bytes-2 i k m hm (short 2 q (omega arith)) own q (h .request (omega arith)) ∙ said (up-2 m q))
+      byEq c 2 (λ e. let q = eqb-yes c 2 e in bytes-2 i k m hm (short 2 q (omega arith)) own q (h .write-request q) ∙ said (up-2 m q))
       (λ e2.
       let l3 : 3 ≤ c = omega (arith, l2, eqb-no c 2 e2) in
       byEq c 3

@@ -58,7 +58,7 @@ module _ (i : ℕ) (x : Serving) (h : AnsweredBy x) where
       (record {
         read-waits = λ a t u e. noticed t;
         read-now = λ a t u e. let y = notice i t x in more (y .server .kind) (y .recs) (y .sent) _ (noticed t);
-        write-waits = λ a t u e. noticed t;
+        write-waits = λ p t set u e. noticed t;
         commit-now =
             λ w u e f.
             let y = notice i (w .transaction) x in

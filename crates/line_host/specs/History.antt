@@ -12,7 +12,7 @@ use Rattle.layout.specs.Record.{archiveOf}
 use Rattle.line.specs.Messages.{Up, Down, To}
 use Rattle.line.specs.Station.{Station}
 use Rattle.line.specs.Server.{serverStep, unexpected}
-use Rattle.line.specs.Line.{World, Op, fresh, perform, act, run}
+use Rattle.line.specs.Line.{World, fresh, perform, act, run}
 use Rattle.line.specs.Bounds.{step-8}
 use Rattle.truth.specs.Frame.{append-assoc}
 use Rattle.message.specs.Layout.{kindOf}
@@ -38,8 +38,8 @@ use Rattle.line_bytes.specs.Served.{archive-join, records-are}
 use Rattle.line_bytes.specs.Runs.{callsOf, same-kinds, fresh-sim}
 use Rattle.line_bytes.specs.Simulates.{Sim, AllDown, asCall, act-sim, read-down, taken-down, owner-told, step-told-at, check-is, serves, archives}
 use Rattle.line_bytes.specs.Simulates as Sims
-use Rattle.line_host.specs.Line.{ownerHosted, stepHosted, serverHosted, answerIn, archivedIn, CallH, OwnerH, StationH, ServerH, FitsH, AllFitH, lineH, Event, EndedByOwner, Ended, ended, ownerEvents, stationEvents, serverEvents, eventsH, WorldH, freshH, actH, runH}
-use Rattle.line_host.specs.Same.{lent, plainOf, plainsOf, plain-fits, owner-found, step-found, server-found, act-same}
+use Rattle.line_host.specs.Line.{OpH, operation, ownerHosted, stepHosted, serverHosted, answerIn, archivedIn, CallH, OwnerH, StationH, ServerH, FitsH, AllFitH, lineH, Event, EndedByOwner, Ended, ended, ownerEvents, stationEvents, serverEvents, eventsH, WorldH, freshH, actH, runH}
+use Rattle.line_host.specs.Same.{lent, lentTo, plainOf, plainsOf, op-fits, plain-fits, owner-found, step-found, server-found, act-same}
 use Rattle.line_host.specs.Runs.{modelCalls}
 use Rattle.line_host.specs.Moves.{not-both}
 use Rattle.line_host.specs.Noted.{endedM, ownerNotes}
@@ -93,21 +93,22 @@ module _ (kinds : List ℕ) (ok : Number.kindsOk kinds ≡ true) (eight : length
   module _ (b : WorldB) (w : World) (sim : Sim kinds b w) where
     -- THE OWNER'S CALL
 
-    module _ (i : ℕ) (l : i < 8) (op : Op) (o c t : List ℕ) where
+    module _ (i : ℕ) (l : i < 8) (op : OpH) (o c t : List ℕ) where
       abbrev s : List ℕ
       s = b .station i
 
-      owner-events : FitsH (OwnerH i op o c t) → ready s (lent toldLength t o) (lent toldLength t c) ≡ true → ownerEvents i op o c t b ≡ ownerNotes i op w (perform op (w .station i))
+      owner-events : FitsH (OwnerH i op o c t) → ready s (lentTo op t o) (lentTo op t c) ≡ true
+          → ownerEvents i op o c t b ≡ ownerNotes i (operation op) w (perform (operation op) (w .station i))
       owner-events f r =
           let x = owner-found op s o c t in
-          let d = owner-told kinds ok i l b w op (lent toldLength t o) (lent toldLength t c) f r sim in
-          let said : answerIn ((ownerHosted op s o c t) .told) ≡ (perform op (w .station i)) .answer = x .answer ∙ d .answer in
+          let d = owner-told kinds ok i l b w (operation op) (lentTo op t o) (lentTo op t c) (op-fits op f) r sim in
+          let said : answerIn ((ownerHosted op s o c t) .told) ≡ (perform (operation op) (w .station i)) .answer = x .answer ∙ d .answer in
           rw (said, x .state, ap (λ (g : ℕ → ℕ). g i) (sim .notes .number), ended-same (EndedByOwner i) (sim .line .stations i l .is) (d .state))
 
-      owner-turned : ready s (lent toldLength t o) (lent toldLength t c) ≡ false → ownerEvents i op o c t b ≡ []
+      owner-turned : ready s (lentTo op t o) (lentTo op t c) ≡ false → ownerEvents i op o c t b ≡ []
       owner-turned r =
           let x = owner-found op s o c t in
-          let y = owner-unready op s (lent toldLength t o) (lent toldLength t c) r in
+          let y = owner-unready (operation op) s (lentTo op t o) (lentTo op t c) r in
           rw (x .answer, x .state, y) (ended-none (EndedByOwner i) s)
 
     -- THE STATION'S STEP
@@ -162,7 +163,7 @@ module _ (kinds : List ℕ) (ok : Number.kindsOk kinds ≡ true) (eight : length
     -- EVERY CALL
     events-same : (c : CallH) → FitsH c → eventsH c b ≡ eventsM (asCall b (plainOf c)) w
     events-same (OwnerH i op o c t) f =
-        byB (ready (b .station i) (lent toldLength t o) (lent toldLength t c))
+        byB (ready (b .station i) (lentTo op t o) (lentTo op t c))
         (λ r. byB (ltb i 8) (λ e. rw (r, e) (owner-events i (ltb-yes i 8 e) op o c t f r)) (λ e. rw (r, e)))
         (λ r. byB (ltb i 8) (λ e. rw (r, e) (owner-turned i (ltb-yes i 8 e) op o c t r)) (λ e. rw (r, e)))
     events-same (StationH i o c t) f =

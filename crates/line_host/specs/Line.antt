@@ -1,36 +1,68 @@
 -- The whole line as its hosts run it: document 01, "What a contract owes", (e). A call is a call of an exported function, and what it leaves
 -- is the term that the function's contract cites. What a host carries, and what an owner is told, is read from the number answered and
 -- from the numbers that the call left in `told` or `served`, and from nothing else.
-use Prim.Native.Nat.{ℕ}
+use Prim.Native.Nat.{ℕ, _^_, _<_}
 use mathlib.Core.Bool.{not, _&&_, cond}
 use mathlib.Core.List.{List, [], _∷_, _++_}
 use lib.Dec.{eqb, ltb}
 use lib.ListN.{length, getD, take}
 use Rattle.sets.specs.Base.{upd}
 use Rattle.line.specs.Messages.{Answer, Nothing, Begun, Value, Waits, Written, CommittedAs, AbortedFor, Purged, Refused, Empty}
-use Rattle.line.specs.Line.{Op, Begin, Read, Write, Commits, Aborts, Purges}
+use Rattle.line.specs.Line.{Op, Begin, Read, Write, WriteSet, Commits, Aborts, Purges}
 use Rattle.message.specs.Layout.{kindOf}
 use Rattle.station_state.specs.Layout.{number}
 use Rattle.station_answer.specs.Ask.{openB}
-use Rattle.station_owner.specs.Owner.{called, commitCalled, ownBeginB, ownReadB, ownWriteB, ownAbortB, ownPurgeB}
+use Rattle.station_owner.specs.Owner.{called, commitCalled, ownBeginB, ownReadB, ownWriteSetB, ownWriteB, ownAbortB, ownPurgeB}
 use Rattle.station.specs.Station.{stationStepB}
 use Rattle.host.specs.Host as Station
 use Rattle.server_actions.specs.Step.{serverCalled}
 use Rattle.server_host.specs.Host as Server
 use Rattle.call_meaning.specs.Buffers.{messagesIn, commitIn}
-use Rattle.call_meaning.specs.Calls.{OpFits}
+use Rattle.call_meaning.specs.Calls.{setOp}
 use Rattle.line_bytes.specs.Bytes.{WorldB, freshB, tellB, sentToB, restUp, restDown}
+
+-- AN OWNER'S CALL: the function of its name, with its arguments
+
+pub data OpH : Type 0 where
+  BeginH : OpH  -- wax_station_begin
+  ReadH : ℕ → OpH  -- wax_station_read: address
+  WriteH : ℕ → ℕ → OpH  -- wax_station_write: address, value
+  WriteSetH : ℕ → ℕ → List ℕ → OpH  -- wax_station_write_set: page, set, values
+  CommitH : OpH  -- wax_station_commit
+  AbortH : OpH  -- wax_station_abort
+  PurgeH : ℕ → OpH  -- wax_station_purge: page
+
+-- the operation that it asks for
+abbrev pub operation : OpH → Op
+operation BeginH = Begin
+operation (ReadH a) = Read a
+operation (WriteH a v) = Write a v
+operation (WriteSetH p x f) = setOp p x (Station.eightOf f)
+operation CommitH = Commits
+operation AbortH = Aborts
+operation (PurgeH p) = Purges p
+
+-- an argument is a number of its type: a value has 64 bits
+abbrev pub ArgumentsFit : OpH → Type 0
+ArgumentsFit BeginH = Unit {0}
+ArgumentsFit (ReadH a) = Unit {0}
+ArgumentsFit (WriteH a v) = v < 2 ^ 64
+ArgumentsFit (WriteSetH p x f) = (o : ℕ) → getD f o 0 < 2 ^ 64
+ArgumentsFit CommitH = Unit {0}
+ArgumentsFit AbortH = Unit {0}
+ArgumentsFit (PurgeH p) = Unit {0}
 
 -- THE FUNCTIONS: what each leaves of all that is lent to it, as its contract says (crates/host/src/lib.rt, crates/server_host/src/lib.rt)
 
--- wax_station_begin, .._read, .._write, .._commit, .._abort, .._purge: state; messages, commit, told
-abbrev pub ownerHosted : Op → List ℕ → List ℕ → List ℕ → List ℕ → Station.Hosted
-ownerHosted Begin s o c t = Station.hostOf s o c t (called s o c (ownBeginB s))
-ownerHosted (Read a) s o c t = Station.hostOf s o c t (called s o c (ownReadB a s))
-ownerHosted (Write a v) s o c t = Station.hostOf s o c t (called s o c (ownWriteB a v s))
-ownerHosted Commits s o c t = Station.hostOf s o c t (commitCalled s o c)
-ownerHosted Aborts s o c t = Station.hostOf s o c t (called s o c (ownAbortB s))
-ownerHosted (Purges p) s o c t = Station.hostOf s o c t (called s o c (ownPurgeB p s))
+-- of an owner: state; messages, commit, told
+abbrev pub ownerHosted : OpH → List ℕ → List ℕ → List ℕ → List ℕ → Station.Hosted
+ownerHosted BeginH s o c t = Station.hostOf s o c t (called s o c (ownBeginB s))
+ownerHosted (ReadH a) s o c t = Station.hostOf s o c t (called s o c (ownReadB a s))
+ownerHosted (WriteH a v) s o c t = Station.hostOf s o c t (called s o c (ownWriteB a v s))
+ownerHosted (WriteSetH p x f) s o c t = Station.hostSetOf f s o c t (called s o c (ownWriteSetB p x (Station.eightOf f) s))
+ownerHosted CommitH s o c t = Station.hostOf s o c t (commitCalled s o c)
+ownerHosted AbortH s o c t = Station.hostOf s o c t (called s o c (ownAbortB s))
+ownerHosted (PurgeH p) s o c t = Station.hostOf s o c t (called s o c (ownPurgeB p s))
 
 -- wax_station_step: message, state; messages, commit, told
 abbrev pub stepHosted : List ℕ → List ℕ → List ℕ → List ℕ → List ℕ → Station.Hosted
@@ -110,13 +142,12 @@ carryDownH h w =
 -- THE CALLS: "An owner's arguments and all output buffers are any.": `told` and `served` among them
 
 pub data CallH : Type 0 where
-  OwnerH : ℕ → Op → List ℕ → List ℕ → List ℕ → CallH  -- station, operation; lent for messages, for a commit, told
+  OwnerH : ℕ → OpH → List ℕ → List ℕ → List ℕ → CallH  -- station, call; lent for messages, for a commit, told
   StationH : ℕ → List ℕ → List ℕ → List ℕ → CallH  -- wax_station_step on the first message of its down line; lent for messages, for a commit, told
   ServerH : ℕ → List ℕ → List ℕ → List ℕ → CallH  -- wax_server_step on the first message of the station's up line; lent for messages, for records, served
 
--- an argument is a number of its type: a value has 64 bits
 abbrev pub FitsH : CallH → Type 0
-FitsH (OwnerH i op o c t) = OpFits op
+FitsH (OwnerH i op o c t) = ArgumentsFit op
 FitsH (StationH i o c t) = Unit {0}
 FitsH (ServerH i o q t) = Unit {0}
 
@@ -126,8 +157,8 @@ AllFitH (c ∷ cs) = FitsH c × AllFitH cs
 
 -- A CALL: "Each call gets the state its end's last call left; nobody else writes it". What a call leaves is carried whatever it answers.
 
-unfoldable pub ownerActsH : ℕ → Op → List ℕ → List ℕ → List ℕ → WorldB → WorldB
-ownerActsH i op o c t w = let h = ownerHosted op (w .station i) o c t in tellB i op (answerIn (h .told)) (carryUpH i h w)
+unfoldable pub ownerActsH : ℕ → OpH → List ℕ → List ℕ → List ℕ → WorldB → WorldB
+ownerActsH i op o c t w = let h = ownerHosted op (w .station i) o c t in tellB i (operation op) (answerIn (h .told)) (carryUpH i h w)
 
 -- "an accepted step takes the first message of its line, a refused call moves none"; no message, no call
 unfoldable pub stationTakesH : ℕ → List (List ℕ) → List ℕ → List ℕ → List ℕ → WorldB → WorldB
@@ -158,7 +189,7 @@ pub data Event : Type 0 where
 abbrev pub askedBy : ℕ → Op → ℕ → List Event
 askedBy i Begin n = []
 askedBy i (Read a) n = []
-askedBy i (Write a v) n = []
+askedBy i (WriteSet p f) n = []
 askedBy i Commits n = Asked i n ∷ []
 askedBy i Aborts n = []
 askedBy i (Purges p) n = []
@@ -180,10 +211,10 @@ toldBy i op n Empty = []
 abbrev pub ended : (ℕ → Event) → List ℕ → List ℕ → List Event
 ended e s z = cond (openB s && not (openB z)) (e (number s) ∷ []) []
 
-abbrev pub ownerEvents : ℕ → Op → List ℕ → List ℕ → List ℕ → WorldB → List Event
+abbrev pub ownerEvents : ℕ → OpH → List ℕ → List ℕ → List ℕ → WorldB → List Event
 ownerEvents i op o c t w =
     let h = ownerHosted op (w .station i) o c t in
-    toldBy i op (w .number i) (answerIn (h .told)) ++ ended (EndedByOwner i) (w .station i) (h .state)
+    toldBy i (operation op) (w .number i) (answerIn (h .told)) ++ ended (EndedByOwner i) (w .station i) (h .state)
 
 abbrev pub stationEvents : ℕ → List (List ℕ) → List ℕ → List ℕ → List ℕ → WorldB → List Event
 stationEvents i [] o c t w = []

@@ -48,7 +48,7 @@ pub data OwnerMove (s : Station) (op : Op) (d : Did) : Type 0 where
 idle-no : (w : Wait) → waiting w ≡ false → forCommit w ≡ false
 idle-no Idle e = refl
 idle-no (ForRead a) e = refl
-idle-no (ForWrite a v) e = refl
+idle-no (ForWrite p f) e = refl
 idle-no ForCommit e = e
 
 no-commit : {G : Type 0} → false ≡ true → G
@@ -64,8 +64,8 @@ owns s =
       reads-again = λ a v r k q f. stays-so (stays refl refl (λ e. e));
       reads-here = λ a r k q f u. stays-so (stays refl refl (λ e. e));
       reads-ask = λ a r k q f u. stays-so (stays refl refl no-commit);
-      writes-here = λ a v r k q. stays-so (stays refl refl (λ e. e));
-      writes-ask = λ a v r k q. stays-so (stays refl refl no-commit);
+      writes-here = λ p f r k q. stays-so (stays refl refl (λ e. e));
+      writes-ask = λ p f r k q. stays-so (stays refl refl no-commit);
       commits = λ k. asks refl refl (k .opened) (k .opened) refl;
       aborts = λ k. let e = close-ends (s .num) (AbortedFor 0) _ (undo-num s) refl in stays-so (over e (e .says));
       purges = λ p r q f u. stays-so (stays refl refl (λ e. e));
@@ -107,7 +107,7 @@ station-takes s =
       refused = λ m f. stays refl refl (λ e. e);
       old-page = λ a t v u x f. stays refl refl (λ e. e);
       page-read = λ a t v u x f p. stays (lock-open NoLock a s) (lock-num NoLock a s) no-commit;
-      page-write = λ m a t v u x y f p o. stays (lock-open m a s) (lock-num m a s) no-commit;
+      page-write = λ m a t v u x p y f w o c. stays (lock-open m a s) (lock-num m a s) no-commit;
       deescalates =
           λ p t f.
           byB (live s t && s .wl p) (λ c. rw c (stays refl refl (λ e. e))) (λ c. rw c (stays refl refl (λ e. e)));

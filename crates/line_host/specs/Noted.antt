@@ -1,19 +1,19 @@
 -- What is kept of the history while calls are made: who is open has begun, whose commit is out has asked for it, every record has both, and
 -- what is noted as ended by 23 or by its owner was told as aborted. Over the world of `line`.
-use Prim.Native.Nat.{ℕ, _+_, _≤_, _<_}
+use Prim.Native.Nat.{ℕ, zero, suc, _+_, _≤_, _<_}
 use mathlib.Core.Path.{_≡_, refl, sym, ap, _∙_}
 use mathlib.Core.Bool.{Bool, true, false, not, _&&_, cond, false≢true}
 use mathlib.Core.List.{List, [], _∷_, _++_}
 use mathlib.Core.Logic.{_⊎_, inl, inr}
 use native.Mathlib.Omega.{arith}
 use lib.ListN.{length, length-append}
-use Rattle.sets.specs.Base.{upd}
+use Rattle.sets.specs.Base.{upd, Val, none, some}
 use Rattle.sets.specs.Laws.{byB, byEq, eqb-same, eqb-yes, and-l}
 use Rattle.layout.specs.Record.{archiveOf}
 use Rattle.recs.specs.Recs.{recordsOf}
 use Rattle.line.specs.Messages.{Down, Committed, Sent, To, Rec, Answer, Nothing, Begun, Value, Waits, Written, CommittedAs, AbortedFor, Purged, Refused, Empty}
 use Rattle.line.specs.Station.{Station, Did, forCommit, stationStep}
-use Rattle.line.specs.Line.{World, worldDown, Op, Begin, Read, Write, Commits, Aborts, Purges, Told, ToldAbort, tell, carryUp, perform, sentTo, isRefused}
+use Rattle.line.specs.Line.{World, worldDown, Op, Begin, Read, WriteSet, Commits, Aborts, Purges, Told, ToldAbort, writesOf, tell, tellWrite, tellWrites, carryUp, perform, sentTo, isRefused}
 use Rattle.line.specs.Truth.{In, here, there}
 use Rattle.line.specs.All.{All}
 use Rattle.truth.specs.Frame.{append-assoc}
@@ -204,13 +204,22 @@ pub record Grown (w v : World) : Type 0 where
   pub archive : v .archive ≡ w .archive
   pub told : (e : Told) → In e (w .told) → In e (v .told)
 
+write-grows : (i t a : ℕ) (x : Val) {l : List Told} {e : Told} → In e l → In e (tellWrite i t a x l)
+write-grows i t a none u = u
+write-grows i t a (some v) {l} u = in-left l _ u
+
+writes-grow : (i t n : ℕ) (f : ℕ → Val) {l : List Told} {e : Told} → In e l → In e (tellWrites i t n f l)
+unfolding tellWrites
+writes-grow i t zero f u = u
+writes-grow i t (suc n) f u = write-grows i t n (f n) (writes-grow i t n f u)
+
 tell-grows : (i : ℕ) (op : Op) (a : Answer) (w : World) → Grown w (tell i op a w)
 unfolding tell
 tell-grows i op Nothing w = record { station = refl; archive = refl; told = λ e u. u }
 tell-grows i op (Begun t) w = record { station = refl; archive = refl; told = λ e u. u }
 tell-grows i op (Value v) w = record { station = refl; archive = refl; told = λ e u. in-left (w .told) _ u }
 tell-grows i op Waits w = record { station = refl; archive = refl; told = λ e u. u }
-tell-grows i op Written w = record { station = refl; archive = refl; told = λ e u. in-left (w .told) _ u }
+tell-grows i op Written w = record { station = refl; archive = refl; told = λ e u. writes-grow i (w .number i) 256 (writesOf op) u }
 tell-grows i op (CommittedAs n) w = record { station = refl; archive = refl; told = λ e u. in-left (w .told) _ u }
 tell-grows i op (AbortedFor c) w = record { station = refl; archive = refl; told = λ e u. in-left (w .told) _ u }
 tell-grows i op Purged w = record { station = refl; archive = refl; told = λ e u. u }
@@ -225,7 +234,7 @@ told-aborted i op c w = in-last (w .told) _
 asked-quiet : (i : ℕ) (op : Op) (m : ℕ) → All (λ e. isEnd e ≡ false) (askedBy i op m)
 asked-quiet i Begin m = tt
 asked-quiet i (Read a) m = tt
-asked-quiet i (Write a v) m = tt
+asked-quiet i (WriteSet p f) m = tt
 asked-quiet i Commits m = (refl, tt)
 asked-quiet i Aborts m = tt
 asked-quiet i (Purges p) m = tt

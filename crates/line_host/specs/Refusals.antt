@@ -6,7 +6,7 @@ use mathlib.Core.List.{List}
 use lib.Dec.{eqb}
 use lib.ListN.{length}
 use Rattle.sets.specs.Laws.{byEq}
-use Rattle.line.specs.Line.{Op, Begin, Read, Write, Commits, Aborts, Purges}
+use Rattle.line.specs.Line.{Op, Begin, Read, WriteSet, Commits, Aborts, Purges}
 use Rattle.message.specs.Layout.{setsFrom, kindOf, transactionOf}
 use Rattle.station_state.specs.Layout.{wait, readSetFrom, writtenSetFrom, member}
 use Rattle.station_pages.specs.Pages.{inUseB}
@@ -15,7 +15,7 @@ use Rattle.station_answer.specs.declared.Answer.{Answer}
 use Rattle.station_answer.specs.declared.Answer.the-variants.{Refused, Begun, Value, Waits, Written, Committed, Aborted, Purged, Nothing}
 use Rattle.station_answer.specs.Did.{Did, Outcome, laid}
 use Rattle.station_delivery.specs.Delivery.{endedB, answerWaitB, onPageB, onDeescalateB, onCallbackB, onCommittedB, onAbortedB, onInvalidateB, onDownB}
-use Rattle.station_owner.specs.Owner.{ready, called, unlessB, checkBeginB, checkOpenB, longReadB, longWriteB, checkAddressB, checkPurgeB, commitCalled, ownBeginB, shownB, readLocalB, readAskB, readHereB, readAsB, ownReadB, mayWriteB, writeAskB, writeAsB, ownWriteB, ownAbortB, ownPurgeB}
+use Rattle.station_owner.specs.Owner.{ready, called, unlessB, checkBeginB, checkOpenB, checkReadB, checkWriteB, checkPurgeB, commitCalled, ownBeginB, shownB, readLocalB, readAskB, readHereB, readAsB, ownReadB, namedB, writeAskB, writeAsB, ownWriteSetB, ownAbortB, ownPurgeB}
 use Rattle.station.specs.Station.{checkStepB, stationStepB}
 use Rattle.call_meaning.specs.Calls.{performB, stepB}
 
@@ -52,12 +52,12 @@ module _ (s : List ℕ) where
   read-sure : (a : ℕ) → SureDid (ownReadB a s)
   unfolding ownReadB readAsB readHereB readLocalB readAskB
   read-sure a =
-      unless-sure (checkAddressB a (longReadB a s) s) _
+      unless-sure (checkReadB a s) _
       (both SureDid (member s writtenSetFrom a) tt (both SureDid (member s readSetFrom a) tt (both SureDid (shownB a s) tt tt)))
 
-  write-sure : (a v : ℕ) → SureDid (ownWriteB a v s)
-  unfolding ownWriteB writeAsB writeAskB
-  write-sure a v = unless-sure (checkAddressB a (longWriteB a s) s) _ (both SureDid (mayWriteB a s) tt tt)
+  write-sure : (p x : ℕ) (f : List ℕ) → SureDid (ownWriteSetB p x f s)
+  unfolding ownWriteSetB writeAsB writeAskB
+  write-sure p x f = unless-sure (checkWriteB p x s) _ (both SureDid (eqb (namedB p x s) 0) tt tt)
 
   abort-sure : SureDid (ownAbortB s)
   unfolding ownAbortB
@@ -98,7 +98,7 @@ module _ (s : List ℕ) where
     pub owner-sure : (op : Op) → Sure (performB op s o c)
     owner-sure Begin = called-sure _ begin-sure
     owner-sure (Read a) = called-sure _ (read-sure a)
-    owner-sure (Write a v) = called-sure _ (write-sure a v)
+    owner-sure (WriteSet p f) = called-sure _ (write-sure p _ _)
     owner-sure Commits = commit-sure
     owner-sure Aborts = called-sure _ abort-sure
     owner-sure (Purges p) = called-sure _ (purge-sure p)

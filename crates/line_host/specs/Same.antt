@@ -1,18 +1,21 @@
--- Every call of an exported function is the call of `line_bytes` with the same arguments and buffers; where `told` or `served` is too short
--- it is one with no output at all, which number 1 turns back.
-use Prim.Native.Nat.{ℕ, _<_}
+-- Every call of an exported function is the call of `line_bytes` with the same arguments and buffers; where `told` or `served`, or the values of
+-- a set, are too short it is one with no output at all, which number 1 turns back.
+use Prim.Native.Nat.{ℕ, _^_, _<_}
 use mathlib.Core.Path.{_≡_, refl, sym, ap, _∙_}
-use mathlib.Core.Bool.{true, false, not, cond, false≢true}
+use mathlib.Core.Bool.{Bool, true, false, not, _||_, cond, false≢true}
 use mathlib.Core.List.{List, [], _∷_}
+use native.Mathlib.Omega.{arith}
 use lib.Dec.{eqb, ltb}
 use lib.ListN.{length, getD, take}
 use borrow.Author.Tests.{lt-ltb}
 use Rattle.sets.specs.Laws.{byB, byEq}
 use Rattle.line.specs.Line.{Op, Begin, Read, Write, Commits, Aborts, Purges, isRefused}
+use Rattle.archive_truth.specs.Fits.{one-fits}
 use Rattle.station_answer.specs.declared.Answer.{Answer}
 use Rattle.station_answer.specs.declared.Answer.the-variants.{Refused, Begun, Value, Waits, Written, Committed, Aborted, Purged, Nothing}
 use Rattle.station_answer.specs.Did.{Outcome, refuses, laid}
 use Rattle.station_state.specs.Valid.{valid}
+use Rattle.station_state.specs.Stores.{values-at}
 use Rattle.station_owner.specs.Owner.{ready}
 use Rattle.server_state.specs.Valid as ServerValid
 use Rattle.server_actions.specs.Pass.{serverStepB}
@@ -25,10 +28,10 @@ use Rattle.host.specs.Host.{toldLength}
 use Rattle.server_host.specs.Host.{servedLength}
 use Rattle.call_meaning.specs.Relation.{answerOf}
 use Rattle.call_meaning.specs.Buffers.{messagesIn, sentBy}
-use Rattle.call_meaning.specs.Calls.{performB, stepB, owner-unready, step-unready}
+use Rattle.call_meaning.specs.Calls.{performB, OpFits, one-called, set-called, set-fits, stepB, owner-unready, step-unready}
 use Rattle.line_bytes.specs.Bytes.{WorldB, CallB, OwnerB, ServerTakesB, StationTakesB, Fits, AllFit, restUp, restDown, carryUpB, carryDownB, ownerActsB, stationTakesB, serverTakesB, tellB, actB, runB}
 use Rattle.line_bytes.specs.Simulates.{carry-none, carry-refused}
-use Rattle.line_host.specs.Line.{ownerHosted, stepHosted, serverHosted, answerIn, countIn, sentIn, postedIn, archivedIn, carryUpH, carryDownH, CallH, OwnerH, StationH, ServerH, FitsH, AllFitH, ownerActsH, stationTakesH, serverTakesH, lineH, WorldH, actH, runH}
+use Rattle.line_host.specs.Line.{OpH, BeginH, ReadH, WriteH, WriteSetH, CommitH, AbortH, PurgeH, operation, ArgumentsFit, ownerHosted, stepHosted, serverHosted, answerIn, countIn, sentIn, postedIn, archivedIn, carryUpH, carryDownH, CallH, OwnerH, StationH, ServerH, FitsH, AllFitH, ownerActsH, stationTakesH, serverTakesH, lineH, WorldH, actH, runH}
 use Rattle.line_host.specs.Refusals.{Said, Sure, owner-sure, delivery-sure}
 
 -- THE CALL OF line_bytes
@@ -36,8 +39,25 @@ use Rattle.line_host.specs.Refusals.{Said, Sure, owner-sure, delivery-su
 abbrev pub lent : ℕ → List ℕ → List ℕ → List ℕ
 lent n t o = cond (ltb (length t) n) [] o
 
+-- a set's values that are fewer than eight
+abbrev pub fewValues : OpH → Bool
+fewValues BeginH = false
+fewValues (ReadH a) = false
+fewValues (WriteH a v) = false
+fewValues (WriteSetH p x f) = ltb (length f) 8
+fewValues CommitH = false
+fewValues AbortH = false
+fewValues (PurgeH p) = false
+
+-- what an owner's call lacks, beside its output: `told`, or values
+abbrev pub lacks : OpH → List ℕ → Bool
+lacks op t = fewValues op || ltb (length t) toldLength
+
+abbrev pub lentTo : OpH → List ℕ → List ℕ → List ℕ
+lentTo op t o = cond (lacks op t) [] o
+
 abbrev pub plainOf : CallH → CallB
-plainOf (OwnerH i op o c t) = OwnerB i op (lent toldLength t o) (lent toldLength t c)
+plainOf (OwnerH i op o c t) = OwnerB i (operation op) (lentTo op t o) (lentTo op t c)
 plainOf (StationH i o c t) = StationTakesB i (lent toldLength t o) (lent toldLength t c)
 plainOf (ServerH i o q t) = ServerTakesB i (lent servedLength t o) (lent servedLength t q)
 
@@ -45,8 +65,21 @@ abbrev pub plainsOf : List CallH → List CallB
 plainsOf [] = []
 plainsOf (c ∷ cs) = plainOf c ∷ plainsOf cs
 
+eight-fit : (f : List ℕ) → ((o : ℕ) → getD f o 0 < 2 ^ 64) → (o : ℕ) → o < 8 → getD (Station.eightOf f) o 0 < 2 ^ 64
+unfolding Station.eightOf
+eight-fit f l o lo = rw (values-at (λ o. getD f o 0) 8 o (omega arith) lo) (l o)
+
+pub op-fits : (op : OpH) → ArgumentsFit op → OpFits (operation op)
+op-fits BeginH f = f
+op-fits (ReadH a) f = f
+op-fits (WriteH a v) f = one-fits a v f
+op-fits (WriteSetH p x f) l = set-fits p x (Station.eightOf f) (eight-fit f l)
+op-fits CommitH f = f
+op-fits AbortH f = f
+op-fits (PurgeH p) f = f
+
 pub plain-fits : (c : CallH) → FitsH c → Fits (plainOf c)
-plain-fits (OwnerH i op o c t) f = f
+plain-fits (OwnerH i op o c t) f = op-fits op f
 plain-fits (StationH i o c t) f = f
 plain-fits (ServerH i o q t) f = f
 
@@ -119,13 +152,35 @@ same-call f q u s o c t =
     (λ l. rw (l, u s [] [] (no-room s)) (short-found s o c t (f s o c) l))
     (λ l. rw l (made-found s o c t (f s o c) (q s o c) l))
 
-pub owner-found : (op : Op) (s o c t : List ℕ) → Found (ownerHosted op s o c t) (performB op s (lent toldLength t o) (lent toldLength t c))
-owner-found Begin = same-call (performB Begin) (λ s o c. owner-sure s o c Begin) (owner-unready Begin)
-owner-found (Read a) = same-call (performB (Read a)) (λ s o c. owner-sure s o c (Read a)) (owner-unready (Read a))
-owner-found (Write a v) = same-call (performB (Write a v)) (λ s o c. owner-sure s o c (Write a v)) (owner-unready (Write a v))
-owner-found Commits = same-call (performB Commits) (λ s o c. owner-sure s o c Commits) (owner-unready Commits)
-owner-found Aborts = same-call (performB Aborts) (λ s o c. owner-sure s o c Aborts) (owner-unready Aborts)
-owner-found (Purges p) = same-call (performB (Purges p)) (λ s o c. owner-sure s o c (Purges p)) (owner-unready (Purges p))
+-- a set's values: with fewer than eight the call is none
+module _ (p x : ℕ) (f : List ℕ) where
+  abbrev set : OpH
+  set = WriteSetH p x f
+
+  set-few : (s o c t : List ℕ) → ltb (length f) 8 ≡ true → ownerHosted set s o c t ≡ Station.hosted s o c t 1
+  unfolding Station.hostSetOf
+  set-few s o c t e = rw e
+
+  set-lent : (s o c t : List ℕ) → ltb (length f) 8 ≡ false → ownerHosted set s o c t ≡ Station.hostOf s o c t (performB (operation set) s o c)
+  unfolding Station.hostSetOf
+  set-lent s o c t e = rw e (ap (Station.hostOf s o c t) (set-called p x (Station.eightOf f) s o c))
+
+  set-found : (s o c t : List ℕ) → Found (ownerHosted set s o c t) (performB (operation set) s (lentTo set t o) (lentTo set t c))
+  unfolding messagesIn
+  set-found s o c t =
+      byB (ltb (length f) 8)
+      (λ e. rw (e, set-few s o c t e, owner-unready (operation set) s [] [] (no-room s)) (record { state = refl; answer = refl; sent = refl; accepted = refl }))
+      (λ e. rw (e, set-lent s o c t e) (same-call (performB (operation set)) (λ s o c. owner-sure s o c (operation set)) (owner-unready (operation set)) s o c t))
+
+pub owner-found : (op : OpH) (s o c t : List ℕ) → Found (ownerHosted op s o c t) (performB (operation op) s (lentTo op t o) (lentTo op t c))
+owner-found BeginH = same-call (performB Begin) (λ s o c. owner-sure s o c Begin) (owner-unready Begin)
+owner-found (ReadH a) = same-call (performB (Read a)) (λ s o c. owner-sure s o c (Read a)) (owner-unready (Read a))
+owner-found (WriteH a v) =
+    λ s o c t. rw (one-called a v s o c) (same-call (performB (Write a v)) (λ s o c. owner-sure s o c (Write a v)) (owner-unready (Write a v)) s o c t)
+owner-found (WriteSetH p x f) = set-found p x f
+owner-found CommitH = same-call (performB Commits) (λ s o c. owner-sure s o c Commits) (owner-unready Commits)
+owner-found AbortH = same-call (performB Aborts) (λ s o c. owner-sure s o c Aborts) (owner-unready Aborts)
+owner-found (PurgeH p) = same-call (performB (Purges p)) (λ s o c. owner-sure s o c (Purges p)) (owner-unready (Purges p))
 
 pub step-found : (x s o c t : List ℕ) → Found (stepHosted x s o c t) (stepB x s (lent toldLength t o) (lent toldLength t c))
 step-found x = same-call (stepB x) (λ s o c. delivery-sure s o c x) (step-unready x)
@@ -186,7 +241,7 @@ carry-down-same : (h : Server.Hosted) (x : ServerCall.Outcome) (w : WorldB) → 
 unfolding carryDownH carryDownB
 carry-down-same h x w f = rw (f .state, f .sent, f .archived)
 
-pub owner-same : (i : ℕ) (op : Op) (o c t : List ℕ) (w : WorldB) → ownerActsH i op o c t w ≡ ownerActsB i op (lent toldLength t o) (lent toldLength t c) w
+pub owner-same : (i : ℕ) (op : OpH) (o c t : List ℕ) (w : WorldB) → ownerActsH i op o c t w ≡ ownerActsB i (operation op) (lentTo op t o) (lentTo op t c) w
 unfolding ownerActsH ownerActsB
 owner-same i op o c t w =
     let f = owner-found op (w .station i) o c t in
@@ -220,10 +275,11 @@ unfolding runH runB
 run-same [] w = refl
 run-same (c ∷ cs) w = run-same cs (actH c w) ∙ ap (runB (plainsOf cs)) (act-same c (w .line))
 
--- TOO SHORT: a call whose `told` or `served` is too short is a call like any other. It answers 1 (`short-told`, `short-served`) and leaves the line as it was.
+-- TOO SHORT: a call whose `told` or `served`, or whose set's values, are too short is a call like any other. It answers 1 (`short-told`, `set-few`,
+-- `short-served`) and leaves the line as it was.
 
 abbrev pub Short : CallH → Type 0
-Short (OwnerH i op o c t) = length t < toldLength
+Short (OwnerH i op o c t) = lacks op t ≡ true
 Short (StationH i o c t) = length t < toldLength
 Short (ServerH i o q t) = length t < servedLength
 
@@ -233,12 +289,12 @@ module _ (i : ℕ) (w : WorldB) (h : Station.Hosted) (f : Found h (laid [] [] (r
   unfolding tellB messagesIn
   still op = rw (f .answer) (carry-up-same i h _ w f ∙ carry-none i (laid [] [] (refuses 1 (w .station i))) w refl refl)
 
-owner-short : (i : ℕ) (op : Op) (o c t : List ℕ) (w : WorldB) → ltb (length t) toldLength ≡ true → ownerActsH i op o c t w ≡ w
+owner-short : (i : ℕ) (op : OpH) (o c t : List ℕ) (w : WorldB) → lacks op t ≡ true → ownerActsH i op o c t w ≡ w
 unfolding ownerActsH
 owner-short i op o c t w l =
     let s = w .station i in
-    let f : Found (ownerHosted op s o c t) (laid [] [] (refuses 1 s)) = rw (l, owner-unready op s [] [] (no-room s)) at (owner-found op s o c t) in
-    still i w (ownerHosted op s o c t) f op
+    let f : Found (ownerHosted op s o c t) (laid [] [] (refuses 1 s)) = rw (l, owner-unready (operation op) s [] [] (no-room s)) at (owner-found op s o c t) in
+    still i w (ownerHosted op s o c t) f (operation op)
 
 station-short : (i : ℕ) (ms : List (List ℕ)) (o c t : List ℕ) (w : WorldB) → ltb (length t) toldLength ≡ true → stationTakesH i ms o c t w ≡ w
 unfolding stationTakesH
@@ -259,6 +315,6 @@ server-short i (m ∷ ms) o q t w l =
 
 pub short-still : (c : CallH) (w : WorldB) → Short c → lineH c w ≡ w
 unfolding lineH
-short-still (OwnerH i op o c t) w l = byB (ltb i 8) (λ e. rw e (owner-short i op o c t w (lt-ltb (length t) toldLength l))) (λ e. rw e)
+short-still (OwnerH i op o c t) w l = byB (ltb i 8) (λ e. rw e (owner-short i op o c t w l)) (λ e. rw e)
 short-still (StationH i o c t) w l = byB (ltb i 8) (λ e. rw e (station-short i (w .down i) o c t w (lt-ltb (length t) toldLength l))) (λ e. rw e)
 short-still (ServerH i o q t) w l = byB (ltb i 8) (λ e. rw e (server-short i (w .up i) o q t w (lt-ltb (length t) servedLength l))) (λ e. rw e)

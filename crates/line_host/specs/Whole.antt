@@ -2,7 +2,7 @@
 -- history are those of `line`, and can be computed there.
 use Prim.Native.Nat.{ℕ, _≤_}
 use mathlib.Core.Path.{_≡_, refl, ap, subst, _∙_}
-use mathlib.Core.Bool.{true}
+use mathlib.Core.Bool.{true, false}
 use mathlib.Core.List.{List, [], _∷_, _++_}
 use lib.Dec.{ltb}
 use lib.ListN.{length, getD}
@@ -20,13 +20,13 @@ use Rattle.line_bytes.specs.Runs.{callsOf}
 use Rattle.line_bytes.specs.Ready.{Ready, ready-of-run}
 use Rattle.line_bytes.specs.Whole.{nameOf, namesOf, Room, AllRoom, same-act, run-more, calls-more, fit-more, run-is}
 use Rattle.line_host.specs.Line.{CallH, OwnerH, StationH, ServerH, AllFitH, freshH, runH}
-use Rattle.line_host.specs.Same.{plainOf, plainsOf, plains-fit, run-same}
+use Rattle.line_host.specs.Same.{fewValues, plainOf, plainsOf, plains-fit, run-same}
 use Rattle.line_host.specs.Events.{eventsM, historyM}
 use Rattle.line_host.specs.History.{history-same}
 
--- 8 messages and 1,408 commit bytes (station), 128 messages and 7,040 record bytes (server); four numbers told, two served
+-- 8 messages and 1,408 commit bytes (station), 128 messages and 7,040 record bytes (server); four numbers told, two served; a set's eight values
 abbrev pub RoomH : CallH → Type 0
-RoomH (OwnerH i op o c t) = (stationRoom ≤ length o) × (commitRoom ≤ length c) × (toldLength ≤ length t)
+RoomH (OwnerH i op o c t) = (stationRoom ≤ length o) × (commitRoom ≤ length c) × (toldLength ≤ length t) × (fewValues op ≡ false)
 RoomH (StationH i o c t) = (stationRoom ≤ length o) × (commitRoom ≤ length c) × (toldLength ≤ length t)
 RoomH (ServerH i o q t) = (serverRoom ≤ length o) × (recordsRoom ≤ length q) × (servedLength ≤ length t)
 
@@ -47,7 +47,7 @@ names-plain [] = refl
 names-plain (c ∷ cs) = rw (names-plain cs)
 
 room-plain : (c : CallH) → RoomH c → Room (plainOf c)
-room-plain (OwnerH i op o c t) r = rw (le-ltb (length t) toldLength (r .2)) (r .0, r .1)
+room-plain (OwnerH i op o c t) r = rw (r .3, le-ltb (length t) toldLength (r .2)) (r .0, r .1)
 room-plain (StationH i o c t) r = rw (le-ltb (length t) toldLength (r .2)) (r .0, r .1)
 room-plain (ServerH i o q t) r = rw (le-ltb (length t) servedLength (r .2)) (r .0, r .1)
 

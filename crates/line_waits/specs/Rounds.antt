@@ -31,8 +31,8 @@ use Rattle.line_bytes.specs.Bytes.{WorldB, freshB, CallB, AllFit, runB, actB}
 use Rattle.line_bytes.specs.Simulates.{Sim, AllDown, asCall}
 use Rattle.line_bytes.specs.Runs.{callsOf}
 use Rattle.line_bytes.specs.Whole.{Room, AllRoom, namesOf, same-run}
-use Rattle.line_host.specs.Line.{CallH, OwnerH, StationH, ServerH, FitsH, AllFitH, freshH, runH}
-use Rattle.line_host.specs.Same.{plainOf, plainsOf, plains-fit, run-same}
+use Rattle.line_host.specs.Line.{operation, CallH, OwnerH, StationH, ServerH, FitsH, AllFitH, freshH, runH}
+use Rattle.line_host.specs.Same.{fewValues, plainOf, plainsOf, plains-fit, run-same}
 use Rattle.line_host.specs.Runs.{modelCalls, hosts-simulate}
 use Rattle.line_waits.specs.Jams.{EnoughServer, EnoughStation, at-least}
 use Rattle.line_waits.specs.Waits.{ownerWaits, QuietB, valid-then, quiet-so, owner-is}
@@ -40,7 +40,7 @@ use Rattle.line_waits.specs.Waits.{ownerWaits, QuietB, valid-then, quiet
 -- CALLS THAT ARE LENT ENOUGH
 
 abbrev pub Enough : CallH → Type 0
-Enough (OwnerH i op o c t) = EnoughStation o c t
+Enough (OwnerH i op o c t) = EnoughStation o c t × (fewValues op ≡ false)
 Enough (StationH i o c t) = EnoughStation o c t
 Enough (ServerH i o q t) = EnoughServer o q t
 
@@ -50,7 +50,7 @@ AllEnough (c ∷ cs) = Enough c × AllEnough cs
 
 -- the line's call of its name
 abbrev pub nameH : CallH → Call
-nameH (OwnerH i op o c t) = Owner i op
+nameH (OwnerH i op o c t) = Owner i (operation op)
 nameH (StationH i o c t) = StationTakes i
 nameH (ServerH i o q t) = ServerTakes i
 
@@ -60,12 +60,12 @@ namesH (c ∷ cs) = nameH c ∷ namesH cs
 
 names-plain : (cs : List CallH) → namesOf (plainsOf cs) ≡ namesH cs
 names-plain [] = refl
-names-plain (OwnerH i op o c t ∷ cs) = ap (λ (l : List Call). Owner i op ∷ l) (names-plain cs)
+names-plain (OwnerH i op o c t ∷ cs) = ap (λ (l : List Call). Owner i (operation op) ∷ l) (names-plain cs)
 names-plain (StationH i o c t ∷ cs) = ap (λ (l : List Call). StationTakes i ∷ l) (names-plain cs)
 names-plain (ServerH i o q t ∷ cs) = ap (λ (l : List Call). ServerTakes i ∷ l) (names-plain cs)
 
 room-of : (c : CallH) → Enough c → Room (plainOf c)
-room-of (OwnerH i op o c t) e = rw (at-least toldLength t (e .told)) (e .messages, e .commit)
+room-of (OwnerH i op o c t) e = rw (e .1, at-least toldLength t (e .0 .told)) (e .0 .messages, e .0 .commit)
 room-of (StationH i o c t) e = rw (at-least toldLength t (e .told)) (e .messages, e .commit)
 room-of (ServerH i o q t) e = rw (at-least servedLength t (e .served)) (e .messages, e .records)
 

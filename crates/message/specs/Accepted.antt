@@ -12,10 +12,10 @@ use Rattle.lists.specs.Tests.{and-l, and-r, allTo-at}
 use Rattle.lists.specs.Bytes.{Bytes, byte-at}
 use Rattle.le.specs.Width.{numAt-lt}
 use Rattle.le.specs.Laws.{u32At-is, u64At-is}
-use Rattle.sets.specs.Laws.{byEq, eqb-no}
+use Rattle.sets.specs.Laws.{byEq, eqb-yes, eqb-no}
 use Rattle.layout.specs.Record.{valueLength}
 use Rattle.message.specs.Layout.{pageFrom, objectFrom, transactionFrom, pagesFrom, versionFrom, setsFrom, secondSet, valuesFrom, messageLength, kindOf, stationOf, pageOf, requesterOf, objectOf, causeOf, transactionOf, pagesOf, versionOf, setOf, valueOf, pageVersionOf, pageVersionsFrom, versionWidth}
-use Rattle.message.specs.Range.{zeroAt, zeros, stationOk, pageOk, objectOk, requesterOk, transactionOk, pageMessageOk, deescalateOk, callbackOk, committedOk, abortedOk, invalidateOk, downFieldsOk}
+use Rattle.message.specs.Range.{zeroAt, zeros, stationOk, pageOk, objectOk, requesterOk, transactionOk, pageMessageOk, grantOk, deescalateOk, callbackOk, committedOk, abortedOk, invalidateOk, downFieldsOk}
 use Rattle.message.specs.Number.{lengthOk, downRange, downNumber}
 
 -- the n bytes from a are 0
@@ -74,7 +74,7 @@ passed false x n e = absurd (omega arith)
 
 -- WHAT EACH KIND'S FIELDS ARE
 
--- "16 page (page, object, transaction, version, unavailable set, values)", the versions behind the values; 17 and 18 the same
+-- "16 page (page, object, transaction, version, unavailable set, values)", the versions behind the values; 17 and 18 the same, without an object
 pub record PageFields (m : List ℕ) : Type 0 where
   pub page-is : pageOf m < 32
   pub object-is : objectOf m < 8
@@ -192,6 +192,8 @@ pub record DownAccepted (at : ℕ) (m : List ℕ) : Type 0 where
   pub kind-to : kindOf m ≤ 23
   -- 16, 17 and 18
   pub page : kindOf m ≤ 18 → PageFields m
+  -- 17 and 18
+  pub grant : 17 ≤ kindOf m → kindOf m ≤ 18 → objectOf m ≡ 0
   pub deescalate : kindOf m ≡ 19 → DeescalateFields m
   pub callback : kindOf m ≡ 20 → CallbackFields at m
   pub committed : kindOf m ≡ 21 → CommittedFields m
@@ -203,15 +205,27 @@ length-down : (m : List ℕ) → 16 ≤ kindOf m → lengthOk m ≡ true → len
 unfolding lengthOk
 length-down m k h = eqb-true (length m) messageLength (rw (ne-eqb (kindOf m) 3 (λ e. omega arith)) at h)
 
+grant-kind : (at : ℕ) (m : List ℕ) → 17 ≤ kindOf m → kindOf m ≤ 18 → downFieldsOk at m ≡ true → grantOk m ≡ true
+unfolding downFieldsOk
+grant-kind at m from to h =
+    byEq (kindOf m) 17 (λ e. rw (eqb-yes (kindOf m) 17 e) at h)
+    (λ e.
+    let is : kindOf m ≡ 18 = omega (arith, eqb-no (kindOf m) 17 e) in
+    rw is at h)
+
+grant-page : (m : List ℕ) → grantOk m ≡ true → PageFields m
+unfolding grantOk
+grant-page m h = page-fields m (and-l (pageMessageOk m) (zeros m objectFrom 1) h)
+
+grant-object : (m : List ℕ) → grantOk m ≡ true → objectOf m ≡ 0
+unfolding grantOk
+grant-object m h = zeros-are m objectFrom 1 (and-r (pageMessageOk m) (zeros m objectFrom 1) h) 0 (omega arith)
+
 page-kind : (at : ℕ) (m : List ℕ) → 16 ≤ kindOf m → kindOf m ≤ 18 → downFieldsOk at m ≡ true → PageFields m
 unfolding downFieldsOk
 page-kind at m from to h =
     byEq (kindOf m) 16 (λ e. page-fields m (rw e at h))
-    (λ e.
-    byEq (kindOf m) 17 (λ f. page-fields m (rw (e, f) at h))
-    (λ f.
-    let is : kindOf m ≡ 18 = omega (arith, eqb-no (kindOf m) 16 e, eqb-no (kindOf m) 17 f) in
-    page-fields m (rw is at h)))
+    (λ e. grant-page m (grant-kind at m (omega (arith, eqb-no (kindOf m) 16 e)) to h))
 
 pub down-accepted : (at : ℕ) (m : List ℕ) → downNumber at m ≡ 0 → DownAccepted at m
 unfolding downNumber downRange downFieldsOk
@@ -229,6 +243,7 @@ down-accepted at m h =
       kind-from = from;
       kind-to = leb-true (kindOf m) 23 (and-r (leb 16 (kindOf m)) _ (kinds .0));
       page = λ to. page-kind at m from to fields;
+      grant = λ low to. grant-object m (grant-kind at m low to fields);
       deescalate = λ e. deescalate-fields m (rw e at fields);
       callback = λ e. callback-fields at m (rw e at fields);
       committed = λ e. committed-fields m (rw e at fields);

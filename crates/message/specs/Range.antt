@@ -6,7 +6,7 @@ use mathlib.Core.Bool.{Bool, false, not, _&&_, cond}
 use lib.ListN.{getD}
 use lib.Dec.{eqb, leb}
 use Rattle.lists.specs.Tests.{allTo}
-use Rattle.message.specs.Layout.{pageFrom, objectFrom, transactionFrom, pagesFrom, versionFrom, setsFrom, secondSet, valuesFrom, messageLength, kindOf, stationOf, pageOf, requesterOf, objectOf, causeOf, transactionOf, versionOf}
+use Rattle.message.specs.Layout.{pageFrom, objectFrom, transactionFrom, pagesFrom, versionFrom, setsFrom, secondSet, valuesFrom, messageLength, kindOf, stationOf, pageOf, requesterOf, objectOf, causeOf, transactionOf, versionOf, setOf}
 
 unfoldable pub zeroAt : List ℕ → ℕ → ℕ → Bool
 zeroAt m a i = eqb (getD m (a + i) 0) 0
@@ -32,7 +32,7 @@ transactionOk m = not (eqb (transactionOf m) 0)
 
 -- up
 
--- 1 and 2: page, object, transaction
+-- 1: page, object, transaction
 unfoldable pub requestOk : List ℕ → Bool
 requestOk m = pageOk m && objectOk m && transactionOk m && zeros m pagesFrom (messageLength - pagesFrom)
 
@@ -60,11 +60,19 @@ doneOk m = requesterOk m && zeros m objectFrom 1 && transactionOk m && zeros m v
 unfoldable pub writtenSetOk : List ℕ → Bool
 writtenSetOk m = pageOk m && zeros m objectFrom 1 && transactionOk m && zeros m pagesFrom (setsFrom - pagesFrom) && zeros m secondSet (messageLength - secondSet)
 
+-- 2: the same, "the empty set .. is number 4"
+unfoldable pub writeRequestOk : List ℕ → Bool
+writeRequestOk m = not (eqb (setOf m 0) 0) && writtenSetOk m
+
 -- down
 
--- 16, 17 and 18: page, object, transaction, unavailable set, values, versions
+-- 16: page, object, transaction, unavailable set, values, versions
 unfoldable pub pageMessageOk : List ℕ → Bool
 pageMessageOk m = pageOk m && objectOk m && transactionOk m && zeros m pagesFrom (setsFrom - pagesFrom) && zeros m secondSet (valuesFrom - secondSet)
+
+-- 17 and 18: the same, "byte 3 is then 0"
+unfoldable pub grantOk : List ℕ → Bool
+grantOk m = pageMessageOk m && zeros m objectFrom 1
 
 -- 19: page, transaction
 unfoldable pub deescalateOk : List ℕ → Bool
@@ -90,12 +98,12 @@ invalidateOk m = zeros m pageFrom (setsFrom - pageFrom) && zeros m valuesFrom (m
 unfoldable pub upFieldsOk : List ℕ → Bool
 upFieldsOk m =
     let k = kindOf m in
-    cond (eqb k 1) (requestOk m) (cond (eqb k 2) (requestOk m) (cond (eqb k 3) (commitOk m) (cond (eqb k 4) (abortOk m)
+    cond (eqb k 1) (requestOk m) (cond (eqb k 2) (writeRequestOk m) (cond (eqb k 3) (commitOk m) (cond (eqb k 4) (abortOk m)
     (cond (eqb k 5) (purgeOk m) (cond (eqb k 6) (busyOk m) (cond (eqb k 7) (doneOk m) (cond (eqb k 8) (writtenSetOk m) false)))))))
 
 -- "and 16 to 23 to stations"
 unfoldable pub downFieldsOk : ℕ → List ℕ → Bool
 downFieldsOk at m =
     let k = kindOf m in
-    cond (eqb k 16) (pageMessageOk m) (cond (eqb k 17) (pageMessageOk m) (cond (eqb k 18) (pageMessageOk m) (cond (eqb k 19) (deescalateOk m)
+    cond (eqb k 16) (pageMessageOk m) (cond (eqb k 17) (grantOk m) (cond (eqb k 18) (grantOk m) (cond (eqb k 19) (deescalateOk m)
     (cond (eqb k 20) (callbackOk at m) (cond (eqb k 21) (committedOk m) (cond (eqb k 22) (abortedOk m) (cond (eqb k 23) (invalidateOk m) false)))))))

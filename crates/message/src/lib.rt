@@ -5,7 +5,7 @@ ghost use lib.ListN.{length, replicate};
 ghost use lib.Seq.{sets};
 ghost use mathlib.Core.Bool.{cond};
 ghost use Rattle.message.specs.Layout.{setsFrom, setsLength, behindLength, messageLength, versionWidth, kindOf, message as Layout·message, upMessage};
-ghost use Rattle.message.specs.Range.{zeroAt, zeros as Range·zeros, requestOk, commitOk, abortOk, purgeOk, busyOk, doneOk, writtenSetOk, pageMessageOk, deescalateOk, callbackOk, committedOk, abortedOk, invalidateOk, upFieldsOk, downFieldsOk};
+ghost use Rattle.message.specs.Range.{zeroAt, zeros as Range·zeros, requestOk, commitOk, abortOk, purgeOk, busyOk, doneOk, writtenSetOk, writeRequestOk, pageMessageOk, grantOk, deescalateOk, callbackOk, committedOk, abortedOk, invalidateOk, upFieldsOk, downFieldsOk};
 ghost use Rattle.layout.specs.Record.{headerLength, entryLength};
 ghost use Rattle.message.specs.Commit.{versionsAt, shortestCommit, countOf, recordAt as Commit·recordAt, addressesAt, sentReads, sentWrites, entriesOf, commitLengthOk, fewOk, versionOk, pagesTo, recordAgrees, commitNumber};
 ghost use Rattle.message.specs.Number.{lengthOk, upRange, downRange, downNumber, kindOk, kindsOk, upNumber};
@@ -257,6 +257,14 @@ fn written_set_ok(m: &[u8]) -> bool
         & zeros(m, SECOND_SET, FROM_SECOND_SET)
 }
 
+// The request to write: the set of what is wanted.
+fn write_request_ok(m: &[u8]) -> bool
+    requires { ⌜ messageLength ≤ length (now m) ⌝ }
+    ensures { λ r. ⌜ r ≡ writeRequestOk (now (m .entry)) ⌝ }
+{
+    (m[SETS] != 0) & written_set_ok(m)
+}
+
 fn page_message_ok(m: &[u8]) -> bool
     requires { ⌜ messageLength ≤ length (now m) ⌝ }
     ensures { λ r. ⌜ r ≡ pageMessageOk (now (m .entry)) ⌝ }
@@ -266,6 +274,14 @@ fn page_message_ok(m: &[u8]) -> bool
         & (le::get_u32(m, TRANSACTION) != 0)
         & zeros(m, PAGES, PAGES_VERSION)
         & zeros(m, SECOND_SET, OTHER_SETS)
+}
+
+// A page with a lock names no object: the station knows what it asked for.
+fn grant_ok(m: &[u8]) -> bool
+    requires { ⌜ messageLength ≤ length (now m) ⌝ }
+    ensures { λ r. ⌜ r ≡ grantOk (now (m .entry)) ⌝ }
+{
+    page_message_ok(m) & zeros(m, OBJECT, 1)
 }
 
 fn deescalate_ok(m: &[u8]) -> bool
@@ -326,7 +342,7 @@ fn up_fields(m: &[u8]) -> bool
 {
     match m[KIND] {
         1 => request_ok(m),
-        2 => request_ok(m),
+        2 => write_request_ok(m),
         3 => commit_ok(m),
         4 => abort_ok(m),
         5 => purge_ok(m),
@@ -344,8 +360,8 @@ fn down_fields(at: u32, m: &[u8]) -> bool
 {
     match m[KIND] {
         16 => page_message_ok(m),
-        17 => page_message_ok(m),
-        18 => page_message_ok(m),
+        17 => grant_ok(m),
+        18 => grant_ok(m),
         19 => deescalate_ok(m),
         20 => callback_ok(at, m),
         21 => committed_ok(m),

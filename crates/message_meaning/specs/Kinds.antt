@@ -18,7 +18,7 @@ module _ (m : List ℕ) where
   unfolding upOf
   up-1 e = rw e
 
-  pub up-2 : kindOf m ≡ 2 → upOf m ≡ WriteRequest (address (pageOf m) (objectOf m)) (transactionOf m)
+  pub up-2 : kindOf m ≡ 2 → upOf m ≡ WriteRequest (pageOf m) (transactionOf m) (objectsOn (pageOf m) (setOf m 0))
   unfolding upOf
   up-2 e = rw e
 

@@ -61,12 +61,13 @@ workAt m =
 
 -- "Up: 1 read request (page, object, transaction); 2 write request (same); 3 commit (transaction, set of pages used); 4 abort
 -- (transaction); 5 purge (page); 6 busy (requester, its transaction); 7 done (same, and the set of dropped pages); 8 written set (page,
--- own transaction as named in kind 19, set)." A commit's set of pages used is that of its record (number 5 otherwise).
+-- own transaction as named in kind 19, set)." By document 02 "the write request (2) carries an object set in byte 16, its byte 3 is then
+-- 0". A commit's set of pages used is that of its record (number 5 otherwise).
 unfoldable pub upOf : List ℕ → Up
 upOf m =
     let k = kindOf m in
     cond (eqb k 1) (ReadRequest (address (pageOf m) (objectOf m)) (transactionOf m))
-    (cond (eqb k 2) (WriteRequest (address (pageOf m) (objectOf m)) (transactionOf m))
+    (cond (eqb k 2) (WriteRequest (pageOf m) (transactionOf m) (objectsOn (pageOf m) (setOf m 0)))
     (cond (eqb k 3) (Commit (workAt m))
     (cond (eqb k 4) (Abort (transactionOf m))
     (cond (eqb k 5) (Purge (pageOf m))

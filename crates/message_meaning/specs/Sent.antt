@@ -14,7 +14,7 @@ use Rattle.le.specs.Width.{bytes}
 use Rattle.line.specs.Messages.{address, Up, ReadRequest, WriteRequest, Abort, Purge, Busy, Done, WrittenSet}
 use Rattle.message.specs.Stores.{length-up}
 use Rattle.message.specs.Layout.{pageFrom, objectFrom, transactionFrom, pagesFrom, versionFrom, setsFrom, setsLength, secondSet, behindLength, messageLength, kindOf, stationOf, transactionOf, message, single, upMessage}
-use Rattle.message.specs.Range.{zeroAt, zeros, transactionOk, requestOk, abortOk, purgeOk, busyOk, doneOk, writtenSetOk, upFieldsOk}
+use Rattle.message.specs.Range.{zeroAt, zeros, transactionOk, requestOk, abortOk, purgeOk, busyOk, doneOk, writtenSetOk, writeRequestOk, upFieldsOk}
 use Rattle.message.specs.Number.{lengthOk, upRange, kindsOk, upNumber}
 use Rattle.message_meaning.specs.Meant.{objectsOn, pagesIn, upOf}
 use Rattle.message_meaning.specs.Kinds.{up-1, up-2, up-4, up-5, up-6, up-7, up-8}
@@ -102,28 +102,20 @@ module _ (kinds : List ℕ) (ok : kindsOk kinds ≡ true) (st : ℕ) (hst : st <
         meant = meant;
       }
 
-  request-ok : (k p o t : ℕ) → p < 32 → o < 8 → t ≢ 0 → t < 2 ^ 32 → requestOk (upMessage k st p o t 0 0) ≡ true
+  request-ok : (p o t : ℕ) → p < 32 → o < 8 → t ≢ 0 → t < 2 ^ 32 → requestOk (upMessage 1 st p o t 0 0) ≡ true
   unfolding requestOk
-  request-ok k p o t hp ho h0 ht =
-      let m = upMessage k st p o t 0 0 in
-      let r = up-read k st p o t 0 0 ht (omega arith) in
-      rw (r .page-is, r .object-is, le-leb p 31 (omega arith), le-leb o 7 (omega arith), named m t (r .transaction-is) h0, zeros-from-pages k st p o t 0 0)
+  request-ok p o t hp ho h0 ht =
+      let m = upMessage 1 st p o t 0 0 in
+      let r = up-read 1 st p o t 0 0 ht (omega arith) in
+      rw (r .page-is, r .object-is, le-leb p 31 (omega arith), le-leb o 7 (omega arith), named m t (r .transaction-is) h0, zeros-from-pages 1 st p o t 0 0)
 
   -- "1 read request (page, object, transaction)"
   pub read-sent : (p o t : ℕ) → p < 32 → o < 8 → t ≢ 0 → t < 2 ^ 32 → Reads kinds st messageLength (upMessage 1 st p o t 0 0) (ReadRequest (address p o) t)
   unfolding upFieldsOk
   read-sent p o t hp ho h0 ht =
       let r = up-read 1 st p o t 0 0 ht (omega arith) in
-      sent 1 p o t 0 0 r (omega arith) refl refl hp ho (omega arith) (rw (r .kind-is) (request-ok 1 p o t hp ho h0 ht))
+      sent 1 p o t 0 0 r (omega arith) refl refl hp ho (omega arith) (rw (r .kind-is) (request-ok p o t hp ho h0 ht))
       (up-1 _ (r .kind-is) ∙ rw (r .page-is, r .object-is, r .transaction-is))
-
-  -- "2 write request (same)"
-  pub write-sent : (p o t : ℕ) → p < 32 → o < 8 → t ≢ 0 → t < 2 ^ 32 → Reads kinds st messageLength (upMessage 2 st p o t 0 0) (WriteRequest (address p o) t)
-  unfolding upFieldsOk
-  write-sent p o t hp ho h0 ht =
-      let r = up-read 2 st p o t 0 0 ht (omega arith) in
-      sent 2 p o t 0 0 r (omega arith) refl refl hp ho (omega arith) (rw (r .kind-is) (request-ok 2 p o t hp ho h0 ht))
-      (up-2 _ (r .kind-is) ∙ rw (r .page-is, r .object-is, r .transaction-is))
 
   abort-ok : (t : ℕ) → t ≢ 0 → t < 2 ^ 32 → abortOk (upMessage 4 st 0 0 t 0 0) ≡ true
   unfolding abortOk
@@ -186,18 +178,34 @@ module _ (kinds : List ℕ) (ok : kindsOk kinds ≡ true) (st : ℕ) (hst : st <
       sent 7 q 0 t pages 0 r (omega arith) refl refl (omega arith) (omega arith) (omega arith) (rw (r .kind-is) (done-ok q t pages hq h0 ht hp))
       (up-7 _ (r .kind-is) ∙ rw (r .page-is, r .transaction-is, r .pages-are))
 
-  written-set-ok : (p t set : ℕ) → p < 32 → t ≢ 0 → t < 2 ^ 32 → writtenSetOk (upMessage 8 st p 0 t 0 set) ≡ true
+  -- a page, a transaction and a set: 2 and 8
+  written-set-ok : (k p t set : ℕ) → p < 32 → t ≢ 0 → t < 2 ^ 32 → writtenSetOk (upMessage k st p 0 t 0 set) ≡ true
   unfolding writtenSetOk
-  written-set-ok p t set hp h0 ht =
-      let r = up-read 8 st p 0 t 0 set ht (omega arith) in
+  written-set-ok k p t set hp h0 ht =
+      let r = up-read k st p 0 t 0 set ht (omega arith) in
       rw (
         r .page-is,
         le-leb p 31 (omega arith),
-        zeros-object 8 st p 0 t 0 set,
-        named (upMessage 8 st p 0 t 0 set) t (r .transaction-is) h0,
-        zeros-pages-version 8 st p 0 t 0 set,
-        zeros-from-second 8 st p 0 t 0 set,
+        zeros-object k st p 0 t 0 set,
+        named (upMessage k st p 0 t 0 set) t (r .transaction-is) h0,
+        zeros-pages-version k st p 0 t 0 set,
+        zeros-from-second k st p 0 t 0 set,
       )
+
+  write-request-ok : (p t set : ℕ) → p < 32 → t ≢ 0 → t < 2 ^ 32 → set ≢ 0 → writeRequestOk (upMessage 2 st p 0 t 0 set) ≡ true
+  unfolding writeRequestOk
+  write-request-ok p t set hp h0 ht some =
+      let r = up-read 2 st p 0 t 0 set ht (omega arith) in
+      rw (r .set-is 0 (omega arith), ne-eqb set 0 some, written-set-ok 2 p t set hp h0 ht)
+
+  -- document 02: "The write request (2) carries an object set in byte 16"
+  pub write-sent : (p t set : ℕ) → p < 32 → t ≢ 0 → t < 2 ^ 32 → set ≢ 0 → set < 256
+      → Reads kinds st messageLength (upMessage 2 st p 0 t 0 set) (WriteRequest p t (objectsOn p set))
+  unfolding upFieldsOk
+  write-sent p t set hp h0 ht some hx =
+      let r = up-read 2 st p 0 t 0 set ht (omega arith) in
+      sent 2 p 0 t 0 set r (omega arith) refl refl hp (omega arith) hx (rw (r .kind-is) (write-request-ok p t set hp h0 ht some))
+      (up-2 _ (r .kind-is) ∙ rw (r .page-is, r .transaction-is, r .set-is 0 (omega arith)))
 
   -- "8 written set (page, own transaction as named in kind 19, set)"
   pub written-set-sent : (p t set : ℕ) → p < 32 → t ≢ 0 → t < 2 ^ 32 → set < 256
@@ -205,5 +213,5 @@ module _ (kinds : List ℕ) (ok : kindsOk kinds ≡ true) (st : ℕ) (hst : st <
   unfolding upFieldsOk
   written-set-sent p t set hp h0 ht hx =
       let r = up-read 8 st p 0 t 0 set ht (omega arith) in
-      sent 8 p 0 t 0 set r (omega arith) refl refl hp (omega arith) hx (rw (r .kind-is) (written-set-ok p t set hp h0 ht))
+      sent 8 p 0 t 0 set r (omega arith) refl refl hp (omega arith) hx (rw (r .kind-is) (written-set-ok 8 p t set hp h0 ht))
       (up-8 _ (r .kind-is) ∙ rw (r .page-is, r .transaction-is, r .set-is 0 (omega arith)))

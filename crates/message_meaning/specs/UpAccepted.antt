@@ -1,21 +1,21 @@
 -- What a message that the server takes tells of its bytes: numbers 2 to 5 are not due.
 use Prim.Native.Nat.{ℕ, suc, _+_, _-_, _*_, _^_, _≤_, _<_}
 use mathlib.Core.Path.{_≡_, refl, sym, _∙_}
-use mathlib.Core.Bool.{Bool, true, false, _&&_, cond, or-false, false≢true}
+use mathlib.Core.Bool.{Bool, true, false, not, _&&_, cond, or-false, false≢true}
 use mathlib.Core.List.{List, [], _∷_}
 use mathlib.Core.Logic.{_≢_}
 use native.Mathlib.Omega.{arith}
 use lib.ListN.{length, getD, drop, length-drop}
 use lib.Seq.{getD-drop}
 use lib.Dec.{eqb, leb}
-use borrow.Author.Tests.{eqb-true, eqb-false, ne-eqb, leb-true}
+use borrow.Author.Tests.{eqb-true, eqb-false, ne-eqb, leb-true, not-true}
 use Rattle.lists.specs.Tests.{allTo, and-l, and-r, allTo-at}
 use Rattle.lists.specs.Bytes.{Bytes, bytes-drop}
 use Rattle.le.specs.Le.{u16At, u32At}
 use Rattle.le.specs.Width.{numAt-lt}
 use Rattle.le.specs.Laws.{u32At-is}
 use Rattle.sets.specs.Base.{some, has}
-use Rattle.sets.specs.Laws.{byB, byEq, eqb-no}
+use Rattle.sets.specs.Laws.{byB}
 use Rattle.cells.specs.Bits.{tb}
 use Rattle.limits.specs.Limit.{limit}
 use Rattle.layout.specs.Record.{Entry, WellFormed, AllFit}
@@ -25,8 +25,8 @@ use Rattle.record_meaning.specs.Meaning.{read-written}
 use Rattle.line.specs.Server.{usedPage}
 use Rattle.line.specs.Fit.{LimitedWork}
 use Rattle.entries.specs.Entries.{valueIn, FitVal, Within, says-few}
-use Rattle.message.specs.Layout.{pageFrom, objectFrom, transactionFrom, pagesFrom, versionFrom, setsFrom, secondSet, versionWidth, messageLength, kindOf, stationOf, pageOf, requesterOf, objectOf, transactionOf, pagesOf}
-use Rattle.message.specs.Range.{zeros, stationOk, pageOk, requestOk, commitOk, abortOk, purgeOk, busyOk, doneOk, writtenSetOk, upFieldsOk}
+use Rattle.message.specs.Layout.{pageFrom, objectFrom, transactionFrom, pagesFrom, versionFrom, setsFrom, secondSet, versionWidth, messageLength, kindOf, stationOf, pageOf, requesterOf, objectOf, transactionOf, pagesOf, setOf}
+use Rattle.message.specs.Range.{zeros, stationOk, pageOk, requestOk, commitOk, abortOk, purgeOk, busyOk, doneOk, writtenSetOk, writeRequestOk, upFieldsOk}
 use Rattle.message.specs.Commit.{versionsAt, recordAt, addressesAt, entriesOf as entriesIn, entryVersion, commitLengthOk, fewOk, versionOk, pagesTo, recordAgrees, commitNumber}
 use Rattle.message.specs.Number.{lengthOk, upRange, kindsOk, recordNumber, upNumber}
 use Rattle.message_meaning.specs.Meant.{versionIn, workAt}
@@ -37,7 +37,7 @@ use Rattle.message_meaning.specs.WorkSent.{WorkFits}
 
 -- WHAT EACH KIND'S FIELDS ARE
 
--- "1 read request (page, object, transaction); 2 write request (same)"
+-- "1 read request (page, object, transaction)"
 pub record RequestFields (m : List ℕ) : Type 0 where
   pub page-is : pageOf m < 32
   pub object-is : objectOf m < 8
@@ -131,6 +131,28 @@ written-set-fields m h =
       unnamed-other-sets = zeros-are m secondSet (messageLength - secondSet) (search (and-l, and-r));
     }
 
+-- "2 write request", by document 02 with "an object set in byte 16, its byte 3 is then 0"; "the empty set .. is number 4"
+pub record WriteRequestFields (m : List ℕ) : Type 0 where
+  pub some-named : setOf m 0 ≢ 0
+  pub page-is : pageOf m < 32
+  pub transaction-not-0 : transactionOf m ≢ 0
+  pub unnamed-object : Zero m objectFrom 1
+  pub unnamed-pages : Zero m pagesFrom (setsFrom - pagesFrom)
+  pub unnamed-other-sets : Zero m secondSet (messageLength - secondSet)
+
+write-request-fields : (m : List ℕ) → writeRequestOk m ≡ true → WriteRequestFields m
+unfolding writeRequestOk
+write-request-fields m h =
+    let w = written-set-fields m (and-r (not (eqb (setOf m 0) 0)) (writtenSetOk m) h) in
+    record {
+      some-named = eqb-false (setOf m 0) 0 (not-true (eqb (setOf m 0) 0) (and-l (not (eqb (setOf m 0) 0)) (writtenSetOk m) h));
+      page-is = w .page-is;
+      transaction-not-0 = w .transaction-not-0;
+      unnamed-object = w .unnamed-object;
+      unnamed-pages = w .unnamed-pages;
+      unnamed-other-sets = w .unnamed-other-sets;
+    }
+
 -- "3 commit (transaction, set of pages used)", by document 02 with "one version for each entry of its record, in record order .. from a locking
 -- station all are 0": what number 5 looks at; kind is that of the station at the server
 pub record CommitFields (kind : ℕ) (m : List ℕ) : Type 0 where
@@ -205,8 +227,8 @@ pub record UpAccepted (kinds m : List ℕ) : Type 0 where
   pub kind-from : 1 ≤ kindOf m
   pub kind-to : kindOf m ≤ 8
   pub length-is : kindOf m ≢ 3 → length m ≡ messageLength
-  -- 1 and 2
-  pub request : kindOf m ≤ 2 → RequestFields m
+  pub request : kindOf m ≡ 1 → RequestFields m
+  pub write-request : kindOf m ≡ 2 → WriteRequestFields m
   pub commit : kindOf m ≡ 3 → CommitFields (getD kinds (stationOf m) 0) m
   pub abort : kindOf m ≡ 4 → AbortFields m
   pub purge : kindOf m ≡ 5 → PurgeFields m
@@ -221,14 +243,6 @@ length-up m h k = eqb-true (length m) messageLength (rw (ne-eqb (kindOf m) 3 k) 
 length-commit : (m : List ℕ) → lengthOk m ≡ true → kindOf m ≡ 3 → commitLengthOk m ≡ true
 unfolding lengthOk
 length-commit m h k = rw k at h
-
-request-kind : (m : List ℕ) → 1 ≤ kindOf m → kindOf m ≤ 2 → upFieldsOk m ≡ true → RequestFields m
-unfolding upFieldsOk
-request-kind m from to h =
-    byEq (kindOf m) 1 (λ e. request-fields m (rw e at h))
-    (λ e.
-    let is : kindOf m ≡ 2 = omega (arith, eqb-no (kindOf m) 1 e) in
-    request-fields m (rw is at h))
 
 commit-kind : (m : List ℕ) → kindOf m ≡ 3 → upFieldsOk m ≡ true → commitOk m ≡ true
 unfolding upFieldsOk
@@ -250,15 +264,15 @@ up-accepted kinds m h =
     let number = number-5 (eqb (upRange m) 0) (recordNumber kinds m) (upRange m) refl (len .1) in
     let range = passed (leb 1 (kindOf m) && leb (kindOf m) 8) (cond (stationOk m && upFieldsOk m) 0 4) 2 (number .0) in
     let tests = passed (stationOk m && upFieldsOk m) 0 3 (range .1) in
-    let from : 1 ≤ kindOf m = leb-true 1 (kindOf m) (and-l _ _ (range .0)) in
     let fields : upFieldsOk m ≡ true = and-r (stationOk m) (upFieldsOk m) (tests .0) in
     record {
       kinds-ok = ok .0;
       station-is = station-lt m (and-l (stationOk m) (upFieldsOk m) (tests .0));
-      kind-from = from;
+      kind-from = leb-true 1 (kindOf m) (and-l _ _ (range .0));
       kind-to = leb-true (kindOf m) 8 (and-r (leb 1 (kindOf m)) _ (range .0));
       length-is = length-up m (len .0);
-      request = λ to. request-kind m from to fields;
+      request = λ e. request-fields m (rw e at fields);
+      write-request = λ e. write-request-fields m (rw e at fields);
       commit = λ e. commit-fields (getD kinds (stationOf m) 0) m (commit-kind m e fields) (length-commit m (len .0) e) (commit-5 kinds m (number .1) e);
       abort = λ e. abort-fields m (rw e at fields);
       purge = λ e. purge-fields m (rw e at fields);

@@ -35,7 +35,7 @@ module _ (p t : ℕ) (U : List Up) (D : List Down) (s : Station) where
         refused = λ m e n. absurd (false≢true (sym n));
         old-page = λ a u x y z e n. past (Page NoLock a u x y z) [] refl;
         page-read = λ a u x y z e f n. past (Page NoLock a u x y z) [] refl;
-        page-write = λ l a u x y z k e f g n. past (Page l a u x y z) [] refl;
+        page-write = λ l a u x y z q k e f g c n. past (Page l a u x y z) [] refl;
         deescalates = λ q u e n. omega (arith, count-snoc (setOf p t) U (WrittenSet q u (writtenOn q u s)));
         keeps = λ r u set e f n. past (Callback r u set) (Busy r u ∷ []) refl;
         dones = λ r u set e f n. past (Callback r u set) _ refl;
@@ -238,7 +238,7 @@ module _ (i : ℕ) (l : List Up) (w : World) (h : Of P5Of w) (k : Apart (w .serv
         read-now = λ a T n e q p g b c.
             let y : Serving = notice i T x in
             further u d p g (y .server .wl p) (y .server .asked p) (y .server .latest g) (y .sent) (To i (Page NoLock _ _ _ _ _) ∷ []) (noticed (ReadRequest a T) T (λ p t. refl) n q p g b c);
-        write-waits = λ a T n e. joined (WriteRequest a T) T _ (λ p t. refl) n;
+        write-waits = λ p T set n e. joined (WriteRequest p T set) T _ (λ p t. refl) n;
         commit-now = λ v n f e q p g b c. commit-asked u d p g i v (notice i (v .transaction) x) (noticed (Commit v) (v .transaction) (λ p t. refl) n q p g b c);
         commit-waits = λ v n e. joined (Commit v) (v .transaction) _ (λ p t. refl) n;
         aborts = λ T n e q p g b c. end-asked u d p g i ByMessage (notice i T x) (noticed (Abort T) T (λ p t. refl) n q p g b c);

@@ -127,7 +127,7 @@ pub accept-other : (i : ℕ) (m : Up) (x : Serving) → Same x (accept i m x)
 unfolding accept joinRead joinWrite joinCommit join serveNow sendPage finish unlist markBusy answered loosen
 accept-other i (ReadRequest a t) x =
     if-keeps (Same x) (locking (x .server .kind i)) (λ e. ap beaten (noticed-sent i t x)) (λ e. other ((notice i t x) .sent) (To i (Page NoLock _ _ _ _ _) ∷ []) refl ∙ ap beaten (noticed-sent i t x))
-accept-other i (WriteRequest a t) x = ap beaten (noticed-sent i t x)
+accept-other i (WriteRequest p t set) x = ap beaten (noticed-sent i t x)
 accept-other i (Commit w) x =
     let n = ap beaten (noticed-sent i (w .transaction) x) in
     if-keeps (Same x) (locking (x .server .kind i)) (λ e. commit-other i w (notice i (w .transaction) x) ∙ n) (λ e. n)

@@ -24,7 +24,7 @@ P1At s t u d i = P1 (t i .kind) (t i .num) (t i .opened) (t i .wait) (s .queue i
 -- a 6 of (r, t)
 abbrev pub busyOf : ℕ → ℕ → Up → Bool
 busyOf r t (ReadRequest a u) = false
-busyOf r t (WriteRequest a u) = false
+busyOf r t (WriteRequest p u set) = false
 busyOf r t (Commit w) = false
 busyOf r t (Abort u) = false
 busyOf r t (Purge p) = false

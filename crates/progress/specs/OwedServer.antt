@@ -229,7 +229,7 @@ module _ (i : ℕ) (l : List Up) (w : World) (b : i < 8) (h : Of OwedOf w) (none
         read-now = λ a T n e q r j b c.
             let y : Serving = notice i T x in
             further t u d r j (y .server .latest r) (y .server .queue r) (y .sent) i (Page NoLock _ _ _ _ _) (λ k. refl) (noticed (ReadRequest a T) T (λ r t. refl) (λ r t. refl) n q r j b c);
-        write-waits = λ a T n e. joined (WriteRequest a T) T _ (λ r t. refl) (λ r t. refl) n (λ j. refl) (λ j. refl);
+        write-waits = λ p T set n e. joined (WriteRequest p T set) T _ (λ r t. refl) (λ r t. refl) n (λ j. refl) (λ j. refl);
         commit-now = λ k n f e q r j b c. commit-owed t u d r j i k (notice i (k .transaction) x) (noticed (Commit k) (k .transaction) (λ r t. refl) (λ r t. refl) n q r j b c);
         commit-waits = λ k n e. joined (Commit k) (k .transaction) _ (λ r t. refl) (λ r t. refl) n (λ j. refl) (λ j. refl);
         aborts = λ T n e. noticed (Abort T) T (λ r t. refl) (λ r t. refl) n;

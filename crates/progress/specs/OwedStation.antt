@@ -96,8 +96,8 @@ module _ (r j t : ℕ) (q : Waiter) (U : List Up) (D : List Down) (b : r < 8) wh
           reads-again = λ a v c e f g. push-up [] h;
           reads-here = λ a c e f g k. push-up [] h;
           reads-ask = λ a c e f g k. push-up _ h;
-          writes-here = λ a v c e f. push-up [] h;
-          writes-ask = λ a v c e f. push-up _ h;
+          writes-here = λ p v c e f. push-up [] h;
+          writes-ask = λ p v c e f. push-up _ h;
           commits = λ c. push-up _ h;
           aborts = λ c. close-owed (s .kind) _ (rw (undo-kept s) (opens (push-up _ h)));
           purges = λ p c e f g. push-up _ h;
@@ -134,7 +134,7 @@ module _ (r j t : ℕ) (q : Waiter) (U : List Up) (D : List Down) (b : r < 8) wh
             refused = λ m e n c h. absurd (false≢true (sym n));
             old-page = λ a u v x y e n c h. past (Page NoLock a u v x y) [] refl h;
             page-read = λ a u v x y e f n c h. landed NoLock a v x y s (U ++ []) D (past (Page NoLock a u v x y) [] refl h);
-            page-write = λ l a u v x y z e f g n c h. landed l a v x y s (U ++ []) D (past (Page l a u v x y) [] refl h);
+            page-write = λ l a u v x y q z e f g i n c h. landed l a v x y s (U ++ []) D (past (Page l a u v x y) [] refl h);
             deescalates = λ p u e n c h.
                 let g = past (Deescalate p u) (WrittenSet p u (writtenOn p u s) ∷ []) refl h in
                 byB (live s u && s .wl p) (λ z. rw z g) (λ z. rw z g);

@@ -5,17 +5,17 @@ use mathlib.Core.List.{List, [], _∷_, _++_}
 use Prim.Native.Nat.{ℕ, _+_, _≤_, _<_}
 use native.Mathlib.Omega.{arith}
 use lib.Dec.{eqb}
-use Rattle.sets.specs.Base.{upd, upd2, snoc, nowhere, has}
+use Rattle.sets.specs.Base.{upd, upd2, snoc, nowhere, has, Val}
 use Rattle.sets.specs.Laws.{byB, byEq, eqb-same, eqb-yes, and-l, and-r}
 use Rattle.line.specs.Messages.{pageOf, lastNumber, locking, Work, Up, ReadRequest, WriteRequest, Commit, Abort, Purge, Busy, Done, WrittenSet, Lock, NoLock, ObjectLock, WholeLock, Down, Page, Deescalate, Callback, Committed, Aborted, Invalidate, Sent, To}
-use Rattle.line.specs.Station.{Station, Did, waiting, live, ended, dropPages, mark, recordRead, writeLocal, doCallback, closed, close, readLocal, readAsk, writeAsk, workOf, onDeescalate, loosen, onCommitted, onAborted, stationStep}
-use Rattle.line.specs.Server.{Server, Serving, send, valuesOn, Waiter, Want, WantRead, isWant, badNumber, unexpected, notice, finish, join, leave, sendPage, abort, write, archive, install, serveNow, joinRead, joinWrite, joinCommit, commitNow, unlist, markBusy, answered, loosen as loosened, accept, ask, serveRead, callsFrom, call, grantPage, grantObject, installWaiter, start, ByCommit, ByMessage}
+use Rattle.line.specs.Station.{Station, Did, waiting, live, ended, dropPages, mark, recordRead, writeLocal, doCallback, closed, close, readLocal, readAsk, writeAsk, workOf, onDeescalate, loosen, onCommitted, onAborted, stationStep, named, lowestOn, ofPage}
+use Rattle.line.specs.Server.{Server, Serving, send, valuesOn, Waiter, Want, WantRead, isWant, badNumber, unexpected, notice, finish, join, leave, sendPage, abort, write, archive, install, serveNow, joinRead, joinWrite, joinCommit, commitNow, unlist, markBusy, answered, loosen as loosened, accept, ask, serveRead, callsFrom, call, grantPage, grantObject, installWaiter, start, ByCommit, ByMessage, wrotePage}
 use Rattle.line.specs.Line.{World, Op, perform, carryUp, carryDown, sentTo, isRefused}
 use Rattle.line.specs.Runs.{Of, tell-keeps}
 use Rattle.line.specs.Truth.{count}
 use Rattle.truth.specs.Clauses.{stale, tokenUp, tokenDown}
 use Rattle.truth.specs.Inv.{Over}
-use Rattle.truth.specs.Frame.{append-nil, count-snoc, send-own, if-serving, noticed-queue, noticed-own, noticed-sent, Owns, performs, closes, Takes, takes, Accepts, accepts, installs}
+use Rattle.truth.specs.Frame.{append-nil, count-snoc, send-own, if-serving, noticed-queue, noticed-own, noticed-sent, Owns, performs, closes, Takes, takes, Accepts, accepts, installs, Active}
 use Rattle.truth.specs.Tokens.{both, and-no}
 use Rattle.progress.specs.Clauses.{P1, P1At, P1Of, Moving}
 use Rattle.progress.specs.Lines.{more, one-more, sent-more, sent-one}
@@ -57,6 +57,15 @@ module _ (v : Want) (U : List Up) (D : List Down) where
     asks : (m : Up) → token m ≡ true → 1 ≤ count token (snoc U m)
     asks m e = one-more token U m e
 
+    asks-either : (p : ℕ) (f : ℕ → Val) → Active s → 1 ≤ count token (snoc U (cond (locking (s .kind)) (WriteRequest p (s .num) (named f s)) (ReadRequest (lowestOn p (named f s)) (s .num)))) + cond (isWant v) 1 0 + count (tokenDown (stale (s .kind) (s .num) (s .opened))) D
+    asks-either p f c =
+        let m : Up = cond (locking (s .kind)) (WriteRequest p (s .num) (named f s)) (ReadRequest (lowestOn p (named f s)) (s .num)) in
+        omega (arith, asks m (each (locking (s .kind))))
+      where
+        each : (b : Bool) → token (cond b (WriteRequest p (s .num) (named f s)) (ReadRequest (lowestOn p (named f s)) (s .num))) ≡ true
+        each true = refl
+        each false = rw (hot (s .kind) (s .num) (s .opened) (c .opened)) refl
+
     owns-waits : Before D → Owns s (λ op d. WaitsDid d)
     unfolding readLocal recordRead readAsk writeLocal writeAsk dropPages
     owns-waits h =
@@ -67,11 +76,8 @@ module _ (v : Want) (U : List Up) (D : List Down) where
           reads-again = λ a x b c e f. beside [] h;
           reads-here = λ a b c e f g. beside [] h;
           reads-ask = λ a b c e f g q. omega (arith, asks (ReadRequest a (s .num)) (rw (hot (s .kind) (s .num) (s .opened) (c .opened)) refl));
-          writes-here = λ a x b c e. beside [] h;
-          writes-ask = λ a x b c e q.
-              byB (locking (s .kind))
-              (λ l. rw l (omega (arith, asks (WriteRequest a (s .num)) refl)))
-              (λ l. rw l (omega (arith, asks (ReadRequest a (s .num)) (rw (hot (s .kind) (s .num) (s .opened) (c .opened)) refl))));
+          writes-here = λ p x b c e. beside [] h;
+          writes-ask = λ p x b c e q. asks-either p (ofPage p x) c;
           commits = λ c q. omega (arith, asks (Commit (workOf s)) refl);
           aborts = λ c. closing _;
           purges = λ p b r n e. beside (Purge p ∷ []) h;
@@ -91,7 +97,7 @@ module _ (v : Want) (U : List Up) (D : List Down) where
           refused = λ m e n h. absurd (false≢true (sym n));
           old-page = λ a t x y z e n h. took (Page NoLock a t x y z) [] (rw (ended-stale s t e) refl) h;
           page-read = λ a t x y z e f n h q. absurd (false≢true q);
-          page-write = λ l a t x y z k e f g n h q. absurd (false≢true q);
+          page-write = λ l a t x y z p k e f g i n h q. absurd (false≢true q);
           deescalates = λ p t e n h.
               let g = took (Deescalate p t) (WrittenSet p t _ ∷ []) refl h in
               byB (live s t && s .wl p) (λ z. rw z g) (λ z. rw z g);
@@ -223,7 +229,7 @@ module _ (i : ℕ) (l : List Up) (w : World) (h : Of P1Of w) where
       record {
         read-waits = λ a T n e q. joined T _ refl;
         read-now = λ a T n e q. read-now a T q;
-        write-waits = λ a T n e q. joined T _ refl;
+        write-waits = λ p T set n e q. joined T _ refl;
         commit-now = λ k n f e q j b. commit-waits t u d j i k (notice i (k .transaction) x) (noticed-far (k .transaction) j b);
         commit-waits = λ k n e q. joined (k .transaction) _ refl;
         aborts = λ T n e q j b. sends t u d j x (finish i ByMessage (notice i T x)) [] (rw (noticed-queue i T x) refl) (noticed-sent i T x) (lost-head (Abort T) (λ f. refl) q j b);

@@ -81,7 +81,7 @@ module _ (j i : ℕ) (s : Server) where
       either j i s (locking (s .kind i))
       (λ e. record { kind = locks-still t; said = inl (still t) })
       (λ e. now-said j i a s (notice i t (start s)) (still t) (locks-still t) (rw (noticed-queue i t (start s)) (good-number s i t u .idle)))
-  accepted (WriteRequest a t) u = record { kind = locks-still t; said = inl (still t) }
+  accepted (WriteRequest p t set) u = record { kind = locks-still t; said = inl (still t) }
   accepted (Commit w) u =
       let t : ℕ = w .transaction in
       either j i s (locking (s .kind i))

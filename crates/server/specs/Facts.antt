@@ -170,6 +170,7 @@ module _ (m s : List ℕ) (v : valid s ≡ true) (bs : AllBytes s) (bm : AllByte
         station = f .station-is;
         kind = r .kind;
         address = λ k. small (f .request k .page-is) (f .request k .object-is);
+        asked = λ k. f .write-request k .page-is;
         commit = r .commit;
         last = last-kept;
         page = r .page;

@@ -35,7 +35,8 @@ pub record Acceptable (s m : List ℕ) : Type 0 where
   pub length-is : messageLength ≤ length m
   pub station : stationOf m < 8
   pub kind : ForServer m
-  pub address : kindOf m ≤ 2 → addressOf m < 256
+  pub address : kindOf m ≡ 1 → addressOf m < 256
+  pub asked : kindOf m ≡ 2 → pageOf m < 32
   pub commit : kindOf m ≡ 3 → Packed m
   pub last : kindOf m ≡ 3 → LastKept (stationOf m) m (noticeB (stationOf m) (transactionOf m) s)
   pub page : kindOf m ≡ 5 → pageOf m < 32

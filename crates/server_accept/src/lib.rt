@@ -65,12 +65,13 @@ fn on_read(s: &mut [u8], o: &mut [u8], q: &mut [u8], c: Counts, m: &[u8]) -> Cou
     server_actions::send_page(s, o, q, c, 16, i, a, 0)
 }
 
+// A write waits for all that it names.
 fn on_write(s: &mut [u8], m: &[u8])
-    requires { ⌜ (length (now s) ≡ serverLength) × (messageLength ≤ length (now m)) × (stationOf (now m) < 8) × (addressOf (now m) < 256) × (agesOf (now s) < counterLimit) × (arrivalsOf (now s) < counterLimit) ⌝ }
+    requires { ⌜ (length (now s) ≡ serverLength) × (messageLength ≤ length (now m)) × (stationOf (now m) < 8) × (pageOf (now m) < 32) × (agesOf (now s) < counterLimit) × (arrivalsOf (now s) < counterLimit) ⌝ }
     ensures { λ _. ⌜ now (s .exit) ≡ onWriteB (now (m .entry)) (Posting·from (now (s .entry))) .state ⌝ }
 {
     noticed(s, m);
-    server_changes::join_write(s, station(m), address(m));
+    server_changes::join_write(s, station(m), named(m), m[message::SETS]);
 }
 
 // A locking commit installs without waiting: it has its locks. No number comes after the last.

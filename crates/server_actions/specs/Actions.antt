@@ -13,7 +13,7 @@ use Rattle.station_state.specs.Layout.{hasBit}
 use Rattle.set_record.specs.Record.{recordFrom}
 use Rattle.server_state.specs.Layout.{pageRow, pageVersionRow, setRow, pageValuesFrom, pageVersionsFrom, readValuesFrom, writtenValuesFrom, workNumber, latestOf, lastOf, askedOf, wholeOf, readSetFrom, writtenSetFrom, kindOf, requestOf, lockingB}
 use Rattle.server_tests.specs.Tests.{openCallB, openAskB, shutB, concernedSet, hinderedB, unavailableB, writtenPagesB, informedB}
-use Rattle.server_changes.specs.Changes.{noticeB, keepsAgeB, finishB, leaveB, joinReadB, joinWriteB, joinCommitB, unpackB, listB, unlistB, markBusyB, answeredB, loosenB, askedB, calledB, lockPageB, lockObjectB, writeB}
+use Rattle.server_changes.specs.Changes.{noticeB, keepsAgeB, finishB, leaveB, joinReadB, joinWriteB, joinCommitB, unpackB, listB, unlistB, markBusyB, answeredB, loosenB, askedB, calledB, lockPageB, writeB}
 
 -- a step under way: the state, the messages sent in order, the records archived
 pub record Serving : Type 0 where
@@ -112,7 +112,7 @@ onReadB m x =
     cond (lockingB (x .state) i) (onState y (joinReadB i (addressOf m) (y .state))) (sendPageB 16 i (addressOf m) 0 y)
 
 unfoldable pub onWriteB : List ℕ → Serving → Serving
-onWriteB m x = let y = noticedB m x in onState y (joinWriteB (stationOf m) (addressOf m) (y .state))
+onWriteB m x = let y = noticedB m x in onState y (joinWriteB (stationOf m) (pageOf m) (setOf m 0) (y .state))
 
 unfoldable pub onCommitB : List ℕ → Serving → Serving
 onCommitB m x =

@@ -8,9 +8,9 @@ use Rattle.sets.specs.Base.{snoc}
 use Rattle.message.specs.Layout.{stationOf, pageOf, requesterOf, transactionOf, pagesOf, setOf}
 use Rattle.message.specs.Layout as Message
 use Rattle.station_state.specs.Layout.{hasBit}
-use Rattle.server_state.specs.Layout.{lastOf, latestOf, workNumber, askedOf, wholeOf, wantOf, requestOf, calledOf, pendOf, lockingB}
+use Rattle.server_state.specs.Layout.{lastOf, latestOf, workNumber, askedOf, wholeOf, writtenSet, wantOf, requestOf, calledOf, pendOf, lockingB}
 use Rattle.server_tests.specs.Tests.{openCallB, openAskB, faultB, blockedB, shutB, shutOutB, concernedSet, hinderedB, unavailableB, writtenPagesB, informedB}
-use Rattle.server_changes.specs.Changes.{keepsAgeB, noticeB, finishB, leaveB, joinReadB, joinWriteB, joinCommitB, unpackB, listB, unlistB, markBusyB, answeredB, loosenB, askedB, calledB, lockPageB, lockObjectB, writeB}
+use Rattle.server_changes.specs.Changes.{keepsAgeB, noticeB, finishB, leaveB, joinReadB, joinWriteB, joinCommitB, unpackB, listB, unlistB, markBusyB, answeredB, loosenB, askedB, calledB, lockPageB, lockTo, writeB}
 use Rattle.server_actions.specs.Actions.{Serving, serving, onState, send, pageB, deescalateB, callbackB, committedB, abortedB, invalidateB, recordB, sendPageB, abortB, informB, informTo, installB, commitNowB, addressOf, noticedB, onReadB, onWriteB, onCommitB, onAbortB, onPurgeB, onBusyB, onDoneB, onWrittenSetB, acceptB, writtenSets}
 use Rattle.server_actions.specs.Pass.{askB, askTo, serveReadB, callOneB, callTo, callB, callOnceB, grantPageB, grantObjectB, grantB, afterCallsB, proceedB, gatesB, visitB, passB}
 use Rattle.server_actions.specs.Posting.{Acts, acts-not, acts-state, acts-send, acts-archive, acts-cond, acts-with, acts-then, Turns, acts-turns}
@@ -82,7 +82,7 @@ acts-read m =
 
 pub acts-write : (m : List ℕ) → Acts (onWriteB m)
 unfolding onWriteB
-acts-write m = acts-then (acts-noticed m) (acts-state (joinWriteB (stationOf m) (addressOf m)))
+acts-write m = acts-then (acts-noticed m) (acts-state (joinWriteB (stationOf m) (pageOf m) (setOf m 0)))
 
 pub acts-commit : (m : List ℕ) → Acts (onCommitB m)
 unfolding onCommitB
@@ -177,8 +177,8 @@ acts-grantPage i =
 acts-grantObject : (i : ℕ) → Acts (grantObjectB i)
 unfolding grantObjectB
 acts-grantObject i =
-    acts-with (λ s x. sendPageB 17 i (requestOf s i) (unavailableB s i (requestOf s i)) (onState x (lockObjectB i (requestOf s i) (leaveB i (x .state)))))
-    (λ s. acts-then (acts-state (λ t. lockObjectB i (requestOf s i) (leaveB i t))) (acts-page 17 i (requestOf s i) (unavailableB s i (requestOf s i))))
+    acts-with (λ s x. sendPageB 17 i (requestOf s i) (unavailableB s i (requestOf s i)) (onState x (lockTo i (requestOf s i / 8) (writtenSet s i (requestOf s i / 8)) (leaveB i (x .state)) 8)))
+    (λ s. acts-then (acts-state (λ t. lockTo i (requestOf s i / 8) (writtenSet s i (requestOf s i / 8)) (leaveB i t) 8)) (acts-page 17 i (requestOf s i) (unavailableB s i (requestOf s i))))
 
 pub acts-grant : (i : ℕ) → Acts (grantB i)
 unfolding grantB

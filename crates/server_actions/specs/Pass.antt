@@ -5,10 +5,10 @@ use mathlib.Core.Bool.{Bool, not, _&&_, cond}
 use lib.ListN.{length}
 use lib.Dec.{eqb}
 use Rattle.station_state.specs.Layout.{hasBit}
-use Rattle.server_state.specs.Layout.{arrivalOf, latestOf, askedOf, wholeOf, wantOf, requestOf, calledOf, pendOf}
+use Rattle.server_state.specs.Layout.{arrivalOf, latestOf, askedOf, wholeOf, writtenSet, wantOf, requestOf, calledOf, pendOf}
 use Rattle.server_tests.specs.Tests.{unexpectedB, faultB, blockedB, shutB, shutOutB, concernedSet, hinderedB, unavailableB}
 use Rattle.server_order.specs.Order.{firstTo, victimB}
-use Rattle.server_changes.specs.Changes.{leaveB, askedB, calledB, lockPageB, lockObjectB}
+use Rattle.server_changes.specs.Changes.{leaveB, askedB, calledB, lockPageB, lockTo}
 use Rattle.server_actions.specs.Actions.{Serving, serving, onState, send, deescalateB, callbackB, sendPageB, abortB, installB, acceptB}
 
 -- "send 19, once for each 18, pages rising"
@@ -44,7 +44,7 @@ callB i x =
 unfoldable pub callOnceB : ℕ → Serving → Serving
 callOnceB i x = cond (eqb (calledOf (x .state) i) 0) (callB i x) x
 
--- "The whole page is locked (18) .. ; else the object (17)."
+-- "The whole page is locked (18) .. ; else the object (17)", document 02, wish 9: all objects of the request in one step
 unfoldable pub grantPageB : ℕ → Serving → Serving
 grantPageB i x =
     let s = x .state in
@@ -55,7 +55,7 @@ unfoldable pub grantObjectB : ℕ → Serving → Serving
 grantObjectB i x =
     let s = x .state in
     let a = requestOf s i in
-    sendPageB 17 i a (unavailableB s i a) (onState x (lockObjectB i a (leaveB i s)))
+    sendPageB 17 i a (unavailableB s i a) (onState x (lockTo i (a / 8) (writtenSet s i (a / 8)) (leaveB i s) 8))
 
 unfoldable pub grantB : ℕ → Serving → Serving
 grantB i x = cond (hinderedB (x .state) i (requestOf (x .state) i / 8)) (grantObjectB i x) (grantPageB i x)

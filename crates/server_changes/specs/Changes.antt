@@ -65,8 +65,9 @@ joinB i k a s =
 unfoldable pub joinReadB : ℕ → ℕ → List ℕ → List ℕ
 joinReadB i a s = addTo (joinB i 1 a s) (readSetFrom i) a
 
-unfoldable pub joinWriteB : ℕ → ℕ → List ℕ → List ℕ
-joinWriteB i a s = addTo (joinB i 2 a s) (writtenSetFrom i) a
+-- the objects x of page p; its sets were empty before
+unfoldable pub joinWriteB : ℕ → ℕ → ℕ → List ℕ → List ℕ
+joinWriteB i p x s = set (joinB i 2 (p * 8) s) (writtenSetFrom i + p) x
 
 -- a commit's record and its versions, from message m: entry e, of the sets from `at` with values from `from` and versions from `seen`
 unfoldable pub unpackOne : List ℕ → List ℕ → ℕ → ℕ → ℕ → ℕ → List ℕ
@@ -104,7 +105,7 @@ unfoldable pub answeredB : ℕ → ℕ → List ℕ → List ℕ
 answeredB i r s =
     set (set s (busyFrom + r) (bitAnd (busyOf s r) (255 - 2 ^ i))) (pendFrom + r) (bitAnd (pendOf s r) (255 - 2 ^ i))
 
--- "8 makes it locks on its set"
+-- locks on a set: 17 "takes them in one step", "8 makes it locks on its set"
 unfoldable pub lockOneB : ℕ → ℕ → ℕ → List ℕ → ℕ → List ℕ
 lockOneB i p x s o = cond (hasBit x o) (set s (lockFrom + (p * 8 + o)) (i + 1)) s
 
@@ -123,12 +124,9 @@ askedB p s = pageOn s askedFrom p
 unfoldable pub calledB : ℕ → ℕ → List ℕ → List ℕ
 calledB i x s = set (set s (calledFrom + i) 1) (pendFrom + i) x
 
--- 18 and 17
+-- 18
 unfoldable pub lockPageB : ℕ → ℕ → List ℕ → List ℕ
 lockPageB i p s = set (pageOff s askedFrom p) (wholeFrom + p) (i + 1)
-
-unfoldable pub lockObjectB : ℕ → ℕ → List ℕ → List ℕ
-lockObjectB i a s = set s (lockFrom + a) (i + 1)
 
 -- "write values", from i's entry; written objects take the new number n as version
 

@@ -7,7 +7,7 @@ ghost use Rattle.message.specs.Layout.{versionWidth};
 ghost use Rattle.message.specs.Commit.{versionsAt, shortestCommit, addressesAt, entriesOf};
 ghost use Rattle.layout.specs.Record.{entryLength};
 ghost use Rattle.server_state.specs.Layout.{ageWidth, serverLength, valueRow, versionRow, setRow, counterLimit, ageFrom, nextAgeFrom, agesOf, arrivalsOf, lastOf};
-ghost use Rattle.server_changes.specs.Changes.{newAgeB, ageB, noticeB, keepsAgeB, freePageB, freePagesTo, freeOneB, freeTo, finishB, leaveB, joinB, joinReadB, joinWriteB, unpackOne, unpackTo, unpackB, joinCommitB, listB, unlistB, markBusyB, answeredB, lockOneB, lockTo, loosenB, askedB, calledB, lockPageB, lockObjectB, valueOneB, valuesTo, writeB};
+ghost use Rattle.server_changes.specs.Changes.{newAgeB, ageB, noticeB, keepsAgeB, freePageB, freePagesTo, freeOneB, freeTo, finishB, leaveB, joinB, joinReadB, joinWriteB, unpackOne, unpackTo, unpackB, joinCommitB, listB, unlistB, markBusyB, answeredB, lockOneB, lockTo, loosenB, askedB, calledB, lockPageB, valueOneB, valuesTo, writeB};
 ghost use Rattle.server_changes.specs.Frees.{freeFrom};
 use server_state::AGE;
 use server_state::AGE_KEPT;
@@ -207,12 +207,13 @@ pub fn join_read(s: &mut [u8], i: usize, a: usize)
     station_state::add_to(s, READ_SET + i * SET_ROW, a);
 }
 
-pub fn join_write(s: &mut [u8], i: usize, a: usize)
-    requires { ⌜ (length (now s) ≡ serverLength) × (i < 8) × (a < 256) × (arrivalsOf (now s) < counterLimit) ⌝ }
-    ensures { λ _. ⌜ now (s .exit) ≡ joinWriteB i a (now (s .entry)) ⌝ }
+// The request is for the objects of x on page p, and names the page's first address.
+pub fn join_write(s: &mut [u8], i: usize, p: usize, x: u8)
+    requires { ⌜ (length (now s) ≡ serverLength) × (i < 8) × (p < 32) × (arrivalsOf (now s) < counterLimit) ⌝ }
+    ensures { λ _. ⌜ now (s .exit) ≡ joinWriteB i p x (now (s .entry)) ⌝ }
 {
-    join(s, i, 2, a as u8);
-    station_state::add_to(s, WRITTEN_SET + i * SET_ROW, a);
+    join(s, i, 2, (p * OBJECTS) as u8);
+    le::put_u8(s, WRITTEN_SET + i * SET_ROW + p, x);
 }
 
 // Entry e of a commit's record joins the sets from `at`, its value those from `from` and its version those from `seen`.
@@ -331,7 +332,7 @@ fn lock_one(s: &mut [u8], i: usize, p: usize, x: u8, o: usize)
 }
 
 // Station i locks the objects of x on page p.
-fn lock_set(s: &mut [u8], i: usize, p: usize, x: u8)
+pub fn lock_set(s: &mut [u8], i: usize, p: usize, x: u8)
     requires { ⌜ (length (now s) ≡ serverLength) × (i < 8) × (p < 32) ⌝ }
     ensures { λ _. ⌜ now (s .exit) ≡ lockTo i p x (now (s .entry)) 8 ⌝ }
 {
@@ -376,13 +377,6 @@ pub fn lock_page(s: &mut [u8], i: usize, p: usize)
 {
     station_state::page_off(s, ASKED, p);
     le::put_u8(s, WHOLE + p, holder(i));
-}
-
-pub fn lock_object(s: &mut [u8], i: usize, a: usize)
-    requires { ⌜ (length (now s) ≡ serverLength) × (i < 8) × (a < 256) ⌝ }
-    ensures { λ _. ⌜ now (s .exit) ≡ lockObjectB i a (now (s .entry)) ⌝ }
-{
-    le::put_u8(s, LOCK + a, holder(i));
 }
 
 // What i's entry writes at address a is written there, with version n.

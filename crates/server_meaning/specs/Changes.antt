@@ -1,6 +1,6 @@
 -- Each change of the server's bytes means the change of the model that has its name: ages, the pages listed, locks.
 use Prim.Native.Nat.{ℕ, zero, suc, _+_, _-_, _*_, _≤_, _<_, _/_, _%_, _^_}
-use mathlib.Core.Path.{_≡_, refl, sym, ap, ap₂, subst, _∙_, fun-ext}
+use mathlib.Core.Path.{_≡_, refl, sym, ap, subst, _∙_, fun-ext}
 use mathlib.Core.Bool.{Bool, true, false, not, cond, _&&_, and-comm}
 use mathlib.Core.List.{List}
 use native.Mathlib.Numerals.{add-one}
@@ -19,7 +19,7 @@ use Rattle.line.specs.Server.{aged, Server, setOl, setWl, setAsked, setListed, 
 use Rattle.station_state.specs.Layout.{pageSetWidth, numberWidth, hasBit}
 use Rattle.station_state.specs.Changes.{pageOn, pageOff}
 use Rattle.server_state.specs.Layout.{ageWidth, ageCell, nextAgeCell, latestCell, listedCell, askedCell, lockCell, wholeCell, unfinishedCell, table, ageFrom, nextAgeFrom, latestFrom, listedFrom, askedFrom, lockFrom, wholeFrom, unfinishedFrom, agesOf, latestOf, ageKeptOf}
-use Rattle.server_changes.specs.Changes.{newAgeB, ageB, noticeB, listB, unlistB, lockOneB, lockTo, loosenB, askedB, lockPageB, lockObjectB}
+use Rattle.server_changes.specs.Changes.{newAgeB, ageB, noticeB, listB, unlistB, lockOneB, lockTo, loosenB, askedB, lockPageB}
 use Rattle.server_meaning.specs.Meant.{meant, Is, start, done}
 use Rattle.server_meaning.specs.Tests.{bit-is, latest-at, ageKept-at}
 
@@ -93,13 +93,6 @@ module _ {s : List ℕ} {m : Server} (h : Is s m) where
       (on32 (start h) askedCell 0 0 p askedFrom refl (omega arith) (omega arith) refl q)
       (ap (setAsked (meant s)) (fun-ext (tb-set (view table 0 s askedCell 0 0) p)))
 
-  pub lockObject-is : (i a : ℕ) → i < 8 → a < 256 → Is (lockObjectB i a s) (setOl m (upd (m .ol) a (suc i)))
-  unfolding lockObjectB
-  lockObject-is i a l la =
-      done h (λ (n : Server). setOl n (upd (n .ol) a (suc i)))
-      (put8 (start h) lockCell 0 a (i + 1) (lockFrom + a) refl (omega arith) (omega arith) la (omega arith))
-      (ap (λ (x : ℕ). setOl (meant s) (upd ((meant s) .ol) a x)) (add-one i))
-
   -- page p is locked whole by x (0 for none), and no 19 of before counts
   whole-is : (p x : ℕ) → p < 32 → x < 256 → Is (set (pageOff s askedFrom p) (wholeFrom + p) x) (setWl (setAsked m (upd (m .asked) p false)) (upd (m .wl) p x))
   unfolding pageOff
@@ -115,7 +108,7 @@ module _ {s : List ℕ} {m : Server} (h : Is s m) where
       subst (λ (x : ℕ). Is (set (pageOff s askedFrom p) (wholeFrom + p) (i + 1)) (setWl (setAsked m (upd (m .asked) p false)) (upd (m .wl) p x))) (add-one i)
       (whole-is p (i + 1) q (omega arith))
 
--- "8 makes it locks on its set": the objects of x on page p, those below n
+-- locks on a set: the objects of x on page p, those below n
 abbrev lockedTo : (ℕ → ℕ) → ℕ → ℕ → ℕ → ℕ → ℕ → ℕ
 lockedTo f i p x n a = cond (eqb (a / 8) p && (ltb (a % 8) n && tb x (a % 8))) (suc i) (f a)
 
@@ -148,22 +141,31 @@ locked-more m f i p x n l = go (tb x n) refl
     go true h = ap (setOl m) (fun-ext (on h))
     go false h = ap (setOl m) (fun-ext (off h))
 
+lock-one : {s : List ℕ} {m : Server} → Is s m → (i a : ℕ) → i < 8 → a < 256 → Is (set s (lockFrom + a) (i + 1)) (setOl m (upd (m .ol) a (suc i)))
+lock-one {s} h i a l la =
+    done h (λ (n : Server). setOl n (upd (n .ol) a (suc i)))
+    (put8 (start h) lockCell 0 a (i + 1) (lockFrom + a) refl (omega arith) (omega arith) la (omega arith))
+    (ap (λ (x : ℕ). setOl (meant s) (upd ((meant s) .ol) a x)) (add-one i))
+
 lock-to : {s : List ℕ} {m : Server} → Is s m → (i p x : ℕ) → i < 8 → p < 32 → (n : ℕ) → n ≤ 8 → Is (lockTo i p x s n) (setOl m (lockedTo (m .ol) i p x n))
-unfolding lockTo lockOneB lockObjectB
+unfolding lockTo lockOneB
 lock-to {s} {m} h i p x l lp zero q = subst (Is s) (ap (setOl m) (locked-none (m .ol) i p x)) h
 lock-to {s} {m} h i p x l lp (suc n) q =
     let r = lock-to h i p x l lp n (omega arith) in
     let t = lockTo i p x s n in
     subst (Is (lockOneB i p x t n)) (locked-more m (m .ol) i p x n q)
-    (cond-rel Is (hasBit x n) (tb x n) (bit-is x n) (lockObject-is r i (p * 8 + n) l (omega arith)) r)
+    (cond-rel Is (hasBit x n) (tb x n) (bit-is x n) (lock-one r i (p * 8 + n) l (omega arith)) r)
+
+-- 17, and "8 makes it locks on its set"
+pub lock-is : {s : List ℕ} {m : Server} → Is s m → (i p x : ℕ) → i < 8 → p < 32
+    → Is (lockTo i p x s 8) (setOl m (λ a. cond (eqb (a / 8) p && tb x (a % 8)) (suc i) (m .ol a)))
+lock-is {s} {m} h i p x l q =
+    subst (Is (lockTo i p x s 8)) (ap (setOl m) (fun-ext (λ a. rw (lt-ltb (a % 8) 8 (omega arith))))) (lock-to h i p x l q 8 (omega arith))
 
 pub loosen-is : {s : List ℕ} {m : Server} → Is s m → (i p x : ℕ) → i < 8 → p < 32
     → Is (loosenB i p x s) (setOl (setWl (setAsked m (upd (m .asked) p false)) (upd (m .wl) p 0)) (λ a. cond (eqb (a / 8) p && tb x (a % 8)) (suc i) (m .ol a)))
 unfolding loosenB
-loosen-is {s} {m} h i p x l q =
-    let n : Server = setWl (setAsked m (upd (m .asked) p false)) (upd (m .wl) p 0) in
-    subst (Is (lockTo i p x (set (pageOff s askedFrom p) (wholeFrom + p) 0) 8)) (ap (setOl n) (fun-ext (λ a. rw (lt-ltb (a % 8) 8 (omega arith)))))
-    (lock-to (whole-is h p 0 q (omega arith)) i p x l q 8 (omega arith))
+loosen-is h i p x l q = lock-is (whole-is h p 0 q (omega arith)) i p x l q
 
 pub notice-is : {s : List ℕ} {m : Server} → Is s m → (i t : ℕ) → i < 8 → t < 2 ^ 32 → agesOf s + 1 < 2 ^ 64
     → let g = aged (m .ageKept i) (m .age i) (m .ages) in Is (noticeB i t s)

@@ -12,9 +12,8 @@ use lib.Bits.{bitAnd, and-le-l}
 use borrow.Author.Tests.{lt-ltb}
 use Rattle.lists.specs.Tests.{and-l, and-r}
 use Rattle.sets.specs.Base.{has, any}
-use Rattle.sets.specs.Laws.{byB, byEq, eqb-same, eqb-yes, eqb-no, any-no, any-yes, any-some, any-ext, ltb-yes}
+use Rattle.sets.specs.Laws.{byB, byEq, eqb-same, eqb-yes, any-no, any-yes, any-some, any-ext, ltb-yes}
 use Rattle.cells.specs.Num.{AllBytes}
-use Rattle.cells.specs.Upd.{eqb-diff}
 use Rattle.cells.specs.Bits.{tb, tb-zero, tb-or, tb-and, tb-test, tb-high}
 use Rattle.cells.specs.Cells.{view, view-col, get8, get32, get64, cell-lt}
 use Rattle.cells.specs.Sets.{test8}
@@ -456,23 +455,27 @@ module _ {s : List ℕ} {m : Server} (h : Is s m) where
   waitsToWrite-at i p o lp lo =
       any-to (waitsToWriteB s i p o) (λ j. not (eqb j i) && m .queue j .writes (p * 8 + o)) 8 (λ j l. rw (writes-at j p o l lp lo))
 
-  unavailableOn-at : (i a b : ℕ) → a < 256 → b / 8 ≡ a / 8
-      → unavailableAt s i a (b % 8) ≡ (not (eqb b a) && (other (m .ol b) i || any 8 (λ j. not (eqb j i) && m .queue j .writes b)))
+  unavailableOn-at : (i a b : ℕ) → i < 8 → a < 256 → b / 8 ≡ a / 8
+      → unavailableAt s i a (b % 8) ≡ (not (wants m i b) && (other (m .ol b) i || any 8 (λ j. not (eqb j i) && m .queue j .writes b)))
   unfolding unavailableAt
-  unavailableOn-at i a b l e =
+  unavailableOn-at i a b li l e =
       let here : a / 8 * 8 + b % 8 ≡ b = omega arith in
-      let same : eqb (b % 8) (a % 8) ≡ eqb b a =
-      byEq b a (λ q. rw (eqb-yes b a q, eqb-same a) (eqb-same (a % 8))) (λ q. rw q (eqb-diff (b % 8) (a % 8) (λ r. eqb-no b a q (omega arith)))) in
-      rw (same, other-at (lockOf s (a / 8 * 8 + b % 8)) i, waitsToWrite-at i (a / 8) (b % 8) (omega arith) (omega arith), here, lock-at b (omega arith))
+      rw (
+        wants-at i (a / 8) (b % 8) li (omega arith) (omega arith),
+        other-at (lockOf s (a / 8 * 8 + b % 8)) i,
+        waitsToWrite-at i (a / 8) (b % 8) (omega arith) (omega arith),
+        here,
+        lock-at b (omega arith),
+      )
 
-  pub unavailable-at : (i a : ℕ) → a < 256
+  pub unavailable-at : (i a : ℕ) → i < 8 → a < 256
       → _≡_ {A = ℕ → Bool} (λ b. eqb (b / 8) (a / 8) && tb (unavailableB s i a) (b % 8)) (unavailable m i a)
   unfolding unavailableB
-  unavailable-at i a l =
+  unavailable-at i a li l =
       fun-ext
       (λ b.
       byEq (b / 8) (a / 8)
-      (λ e. rw (e, mask-is (unavailableAt s i a) 8 (b % 8), lt-ltb (b % 8) 8 (omega arith), unavailableOn-at i a b l (eqb-yes (b / 8) (a / 8) e)))
+      (λ e. rw (e, mask-is (unavailableAt s i a) 8 (b % 8), lt-ltb (b % 8) 8 (omega arith), unavailableOn-at i a b li l (eqb-yes (b / 8) (a / 8) e)))
       (λ e. rw e))
 
 module _ {s : List ℕ} {m : Server} (h : Is s m) (k : Wanting s) where

@@ -1,9 +1,9 @@
 -- The waiting list: each change of an entry's bytes means the change of the model that has its name.
 use Prim.Native.Nat.{ℕ, zero, suc, _+_, _-_, _*_, _≤_, _<_, _/_, _%_, _^_}
-use mathlib.Core.Path.{_≡_, refl, ap, ap₂, subst, _∙_, fun-ext}
-use mathlib.Core.Bool.{Bool, true, false, cond}
+use mathlib.Core.Path.{_≡_, refl, sym, ap, ap₂, subst, _∙_, fun-ext}
+use mathlib.Core.Bool.{Bool, true, false, _&&_, cond}
 use mathlib.Core.List.{List}
-use native.Mathlib.Nat.{lt-of-le-of-lt}
+use native.Mathlib.Nat.{add-zero, lt-of-le-of-lt}
 use native.Mathlib.Omega.{arith}
 use lib.Dec.{eqb, ltb}
 use lib.ListN.{set}
@@ -12,7 +12,7 @@ use Rattle.sets.specs.Base.{upd, nowhere}
 use Rattle.sets.specs.Laws.{byB, byEq, eqb-same, eqb-yes, ltb-no}
 use Rattle.le.specs.Le.{setU64}
 use Rattle.cells.specs.Bits.{tb, tb-zero, tb-set, tb-clear-all}
-use Rattle.cells.specs.Pages.{addr-on}
+use Rattle.cells.specs.Pages.{addr-on, bits-byte}
 use Rattle.cells.specs.Cells.{Cells, reg, off, view, view-col, upd3, Holds, put8, put64, get8, cell-lt, rowTo, row-none, row-more}
 use Rattle.cells.specs.Sets.{on8, off8}
 use Rattle.line.specs.Messages.{Work}
@@ -124,12 +124,16 @@ reads-at C j a x true f =
     λ t. waiterWork (waiterReads (waiterC C j) (set-on (C readSetCell j) a x (f refl .1) t)) (no-work (C wantCell j 0) (rowWork D j) (rowWork C j) (f refl .0) t)
 reads-at C j a x false f = refl
 
-writes-at : (C : Cells) (j a x : ℕ) (b : Bool) → (b ≡ true → (eqb (C wantCell j 0) 3 ≡ false) × (x ≡ C writtenSetCell j (a / 8)))
-    → waiterC (updIf b C writtenSetCell (a / 8) (bitOr x (2 ^ (a % 8)))) j ≡ cond b (waiterWrites (waiterC C j) (upd (within (C writtenSetCell j)) a true)) (waiterC C j)
-writes-at C j a x true f =
-    let D = updIf true C writtenSetCell (a / 8) (bitOr x (2 ^ (a % 8))) in
-    λ t. waiterWork (waiterWrites (waiterC C j) (set-on (C writtenSetCell j) a x (f refl .1) t)) (no-work (C wantCell j 0) (rowWork D j) (rowWork C j) (f refl .0) t)
-writes-at C j a x false f = refl
+-- the objects x of page p are those of a set there, whatever it had
+abbrev onPage : ℕ → ℕ → (ℕ → Bool) → ℕ → Bool
+onPage p x f a = cond (eqb (a / 8) p) (tb x (a % 8)) (f a)
+
+writes-at : (C : Cells) (j p x : ℕ) (b : Bool) → (b ≡ true → eqb (C wantCell j 0) 3 ≡ false)
+    → waiterC (updIf b C writtenSetCell p x) j ≡ cond b (waiterWrites (waiterC C j) (onPage p x (within (C writtenSetCell j)))) (waiterC C j)
+writes-at C j p x true f =
+    let D = updIf true C writtenSetCell p x in
+    λ t. waiterWork (waiterWrites (waiterC C j) (bits-byte (C writtenSetCell j) p x t)) (no-work (C wantCell j 0) (rowWork D j) (rowWork C j) (f refl) t)
+writes-at C j p x false f = refl
 
 -- what changes in row i only
 at-row : (q : ℕ → Waiter) (f : ℕ → Waiter) (i : ℕ) (w : Waiter) → f i ≡ w → _≡_ {A = ℕ → Waiter} (λ j. cond (eqb j i) (f j) (q j)) (upd q i w)
@@ -193,7 +197,7 @@ module _ {s : List ℕ} {m : Server} (h : Is s m) where
       (fun-ext (λ j. joined-at C j k a n (eqb j i) (λ e. rw (eqb-yes j i e) q))
       ∙ at-row (waiterC C) (λ j. joining k a n (rowWork C j)) i (joining k a n (rowWork C i)) refl))
 
-  -- address a joins the reads, or the writes, of an entry w that is no commit
+  -- address a joins the reads of an entry w that is no commit
   add-read : (i a : ℕ) → i < 8 → a < 256 → (w : Waiter) → m .queue i ≡ w → isCommit (w .want) ≡ false
       → Is (addTo s (readSetFrom i) a) (setQueue m (upd (m .queue) i (waiterReads w (upd (w .reads) a true))))
   unfolding addTo
@@ -208,19 +212,19 @@ module _ {s : List ℕ} {m : Server} (h : Is s m) where
       ∙ at-row (waiterC C) (λ j. waiterReads (waiterC C j) (upd (within (C readSetCell j)) a true)) i (waiterReads w (upd (w .reads) a true))
       (ap (λ (y : Waiter). waiterReads y (upd (y .reads) a true)) q)))
 
-  add-write : (i a : ℕ) → i < 8 → a < 256 → (w : Waiter) → m .queue i ≡ w → isCommit (w .want) ≡ false
-      → Is (addTo s (writtenSetFrom i) a) (setQueue m (upd (m .queue) i (waiterWrites w (upd (w .writes) a true))))
-  unfolding addTo
-  add-write i a l la w e g =
+  -- the objects x of page p are what it writes there
+  put-writes : (i p x : ℕ) → i < 8 → p < 32 → x < 256 → (w : Waiter) → m .queue i ≡ w → isCommit (w .want) ≡ false
+      → Is (set s (writtenSetFrom i + p) x) (setQueue m (upd (m .queue) i (waiterWrites w (onPage p x (w .writes)))))
+  put-writes i p x l lp lx w e g =
       let C = view table 0 s in
       let q : waiterC C i ≡ w = ap (λ (n : Server). n .queue i) (h .is) ∙ e in
       let f : eqb (C wantCell i 0) 3 ≡ false = commit-want (C wantCell i 0) ∙ ap (λ (y : Waiter). isCommit (y .want)) q ∙ g in
-      done h (λ (n : Server). setQueue n (upd (n .queue) i (waiterWrites w (upd (w .writes) a true))))
-      (on8 (start h) writtenSetCell i (a / 8) (a % 8) (writtenSetFrom i + a / 8) (omega arith) l (omega arith) refl (omega arith))
+      done h (λ (n : Server). setQueue n (upd (n .queue) i (waiterWrites w (onPage p x (w .writes)))))
+      (put8 (start h) writtenSetCell i p x (writtenSetFrom i + p) refl (omega arith) l lp lx)
       (ap (setQueue (meant s))
-      (fun-ext (λ j. writes-at C j a (C writtenSetCell i (a / 8)) (eqb j i) (λ y. rw (eqb-yes j i y) (f, refl)))
-      ∙ at-row (waiterC C) (λ j. waiterWrites (waiterC C j) (upd (within (C writtenSetCell j)) a true)) i (waiterWrites w (upd (w .writes) a true))
-      (ap (λ (y : Waiter). waiterWrites y (upd (y .writes) a true)) q)))
+      (fun-ext (λ j. writes-at C j p x (eqb j i) (λ y. rw (eqb-yes j i y) f))
+      ∙ at-row (waiterC C) (λ j. waiterWrites (waiterC C j) (onPage p x (within (C writtenSetCell j)))) i (waiterWrites w (onPage p x (w .writes)))
+      (ap (λ (y : Waiter). waiterWrites y (onPage p x (y .writes))) q)))
 
   -- 6 and 7 to r's 20
 
@@ -274,11 +278,18 @@ module _ {s : List ℕ} {m : Server} (h : Is s m) (i a : ℕ) (l : i < 8) (la : 
       (ap (setQueue n) (upd-twice (m .queue) i w (waiterReads w (upd nowhere a true)) ∙ ap (λ (f : ℕ → Bool). upd (m .queue) i (waiterReads w f)) (set-one a)))
       (add-read (join-is 1 (omega arith)) i a l la w (rw (eqb-same i)) refl)
 
-  pub joinWrite-is : Is (joinWriteB i a s) (setQueue (setArrivals m (m .arrivals + 1)) (upd (m .queue) i (writeWaiter m a)))
-  unfolding joinWriteB
-  joinWrite-is =
-      let w : Waiter = joining 2 a (m .arrivals) noWork in
-      let n : Server = setArrivals m (m .arrivals + 1) in
-      subst (Is (joinWriteB i a s))
-      (ap (setQueue n) (upd-twice (m .queue) i w (waiterWrites w (upd nowhere a true)) ∙ ap (λ (f : ℕ → Bool). upd (m .queue) i (waiterWrites w f)) (set-one a)))
-      (add-write (join-is 2 (omega arith)) i a l la w (rw (eqb-same i)) refl)
+-- of a write the set x of page p
+page-set : (p x : ℕ) → _≡_ {A = ℕ → Bool} (onPage p x nowhere) (λ b. eqb (b / 8) p && tb x (b % 8))
+page-set p x = fun-ext (λ b. byEq (b / 8) p (λ e. rw e) (λ e. rw e))
+
+pub joinWrite-is : {s : List ℕ} {m : Server} → Is s m → (i p x : ℕ) → i < 8 → p < 32 → x < 256 → arrivalsOf s + 1 < 2 ^ 64
+    → Is (joinWriteB i p x s) (setQueue (setArrivals m (m .arrivals + 1)) (upd (m .queue) i (writeWaiter m p (λ b. tb x (b % 8)))))
+unfolding joinWriteB
+joinWrite-is {s} {m} h i p x l lp lx ln =
+    let w : Waiter = joining 2 (p * 8) (m .arrivals) noWork in
+    let n : Server = setArrivals m (m .arrivals + 1) in
+    subst (Is (joinWriteB i p x s))
+    (ap (setQueue n)
+    (upd-twice (m .queue) i w (waiterWrites w (onPage p x nowhere))
+    ∙ ap₂ (λ (a : ℕ) (f : ℕ → Bool). upd (m .queue) i (waiterWrites (joining 2 a (m .arrivals) noWork) f)) (sym (add-zero (p * 8))) (page-set p x)))
+    (put-writes (join-is h i (p * 8) l (omega arith) ln 2 (omega arith)) i p x l lp lx w (rw (eqb-same i)) refl)

@@ -1,5 +1,5 @@
 -- What number 1 tells of a state that passes.
-use Prim.Native.Nat.{ℕ, zero, suc, _+_, _*_, _-_, _≤_, _<_}
+use Prim.Native.Nat.{ℕ, zero, suc, _+_, _*_, _-_, _/_, _%_, _≤_, _<_}
 use mathlib.Core.Path.{_≡_, refl, sym, ap, _∙_}
 use mathlib.Core.List.{List}
 use mathlib.Core.Logic.{_≢_}
@@ -17,7 +17,7 @@ use Rattle.sets.specs.Laws.{byB}
 use Rattle.limits.specs.Limit.{limit}
 use Rattle.station_state.specs.Layout.{hasBit, countIn, noneIn}
 use Rattle.server_state.specs.Layout.{counterLimit, kindFrom, wantFrom, calledFrom, unfinishedFrom, serverLength, ageOf, arrivalOf, agesOf, arrivalsOf, workNumber, latestOf, askedOf, lockFrom, lockOf, wholeOf, readSetFrom, writtenSetFrom, kindOf, wantOf, requestOf, calledOf, pendOf, busyOf, unfinishedOf, ageKeptFrom, ageKeptOf}
-use Rattle.server_state.specs.Valid.{mostAt, most, rangesOk, countersOk, wordOf, onlyIn, blankOk, fewOk, commitOk, requestOk, waiterOk, entryOk, owesAt, callsOk, agedOk, stationOk, holderOk, holderAt, besideAt, pageOk, askedAt, apartAt, apartOk, valid, kindsOk, ageless}
+use Rattle.server_state.specs.Valid.{mostAt, most, rangesOk, countersOk, wordOf, onlyIn, pageOnly, blankOk, fewOk, commitOk, writeOk, requestOk, waiterOk, entryOk, owesAt, callsOk, agedOk, stationOk, holderOk, holderAt, besideAt, pageOk, askedAt, apartAt, apartOk, valid, kindsOk, ageless}
 
 -- TESTS
 
@@ -51,11 +51,18 @@ pub record Blank (s : List ℕ) (i : ℕ) : Type 0 where
   pub nothing-read : noneIn s (readSetFrom i) ≡ true
   pub nothing-written : noneIn s (writtenSetFrom i) ≡ true
 
--- a read, a write: one object, in the set at `own`
-pub record One (s : List ℕ) (i own others : ℕ) : Type 0 where
+-- a read: one object
+pub record One (s : List ℕ) (i : ℕ) : Type 0 where
   pub locks : kindOf s i ≡ 0
-  pub requested : onlyIn s own (requestOf s i) ≡ true
-  pub nothing-else : noneIn s others ≡ true
+  pub requested : onlyIn s (readSetFrom i) (requestOf s i) ≡ true
+  pub nothing-else : noneIn s (writtenSetFrom i) ≡ true
+
+-- a write: objects of one page
+pub record OnPage (s : List ℕ) (i : ℕ) : Type 0 where
+  pub locks : kindOf s i ≡ 0
+  pub stands : requestOf s i % 8 ≡ 0
+  pub page-only : pageOnly s (writtenSetFrom i) (requestOf s i / 8) ≡ true
+  pub nothing-else : noneIn s (readSetFrom i) ≡ true
 
 pub record Work (s : List ℕ) (i : ℕ) : Type 0 where
   pub validates : kindOf s i ≡ 1
@@ -68,8 +75,8 @@ pub record Work (s : List ℕ) (i : ℕ) : Type 0 where
 pub record Waiter (s : List ℕ) (i : ℕ) : Type 0 where
   pub unfinished : unfinishedOf s i ≢ 0
   pub arrival-given : arrivalOf s i < arrivalsOf s
-  pub read : wantOf s i ≡ 1 → One s i (readSetFrom i) (writtenSetFrom i)
-  pub write : wantOf s i ≡ 2 → One s i (writtenSetFrom i) (readSetFrom i)
+  pub read : wantOf s i ≡ 1 → One s i
+  pub write : wantOf s i ≡ 2 → OnPage s i
   pub commit : wantOf s i ≡ 3 → Work s i
 
 -- its 20s
@@ -132,20 +139,18 @@ module _ (s : List ℕ) (i : ℕ) where
   abbrev reads : Bool
   reads = onlyIn s (readSetFrom i) (requestOf s i) && noneIn s (writtenSetFrom i)
 
-  abbrev writes : Bool
-  writes = onlyIn s (writtenSetFrom i) (requestOf s i) && noneIn s (readSetFrom i)
-
-  read-of : requestOk s i ≡ true → wantOf s i ≡ 1 → One s i (readSetFrom i) (writtenSetFrom i)
+  read-of : requestOk s i ≡ true → wantOf s i ≡ 1 → One s i
   unfolding requestOk
   read-of h e =
-      let one : reads ≡ true = taken (eqb (wantOf s i) 1) reads writes (eq-eqb _ _ e) (and-r (eqb (kindOf s i) 0) _ h) in
+      let one : reads ≡ true = taken (eqb (wantOf s i) 1) reads (writeOk s i) (eq-eqb _ _ e) (and-r (eqb (kindOf s i) 0) _ h) in
       record { locks = eqb-true _ _ (and-l (eqb (kindOf s i) 0) _ h); requested = and-l (onlyIn s (readSetFrom i) (requestOf s i)) _ one; nothing-else = and-r (onlyIn s (readSetFrom i) (requestOf s i)) _ one }
 
-  write-of : requestOk s i ≡ true → wantOf s i ≡ 2 → One s i (writtenSetFrom i) (readSetFrom i)
-  unfolding requestOk
+  write-of : requestOk s i ≡ true → wantOf s i ≡ 2 → OnPage s i
+  unfolding requestOk writeOk
   write-of h e =
-      let one : writes ≡ true = passed (eqb (wantOf s i) 1) reads writes (ne-eqb (wantOf s i) 1 (λ z. omega (arith, z, e))) (and-r (eqb (kindOf s i) 0) _ h) in
-      record { locks = eqb-true _ _ (and-l (eqb (kindOf s i) 0) _ h); requested = and-l (onlyIn s (writtenSetFrom i) (requestOf s i)) _ one; nothing-else = and-r (onlyIn s (writtenSetFrom i) (requestOf s i)) _ one }
+      let u = all-3 (eqb (requestOf s i % 8) 0) (pageOnly s (writtenSetFrom i) (requestOf s i / 8)) (noneIn s (readSetFrom i))
+      (passed (eqb (wantOf s i) 1) reads (writeOk s i) (ne-eqb (wantOf s i) 1 (λ z. omega (arith, z, e))) (and-r (eqb (kindOf s i) 0) _ h)) in
+      record { locks = eqb-true _ _ (and-l (eqb (kindOf s i) 0) _ h); stands = eqb-true _ _ (u .0); page-only = u .1; nothing-else = u .2 }
 
   waiter-of : waiterOk s i ≡ true → Waiter s i
   unfolding waiterOk

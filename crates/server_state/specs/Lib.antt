@@ -6,3 +6,4 @@ pub mod Stores
 pub mod Facts
 pub mod Eights
 pub mod Sets
+pub mod Pages

@@ -40,6 +40,14 @@ unfoldable pub onlyIn : List ℕ → ℕ → ℕ → Bool
 onlyIn s at a =
     eqb (u64At s at) (wordOf a 0) && eqb (u64At s (at + 8)) (wordOf a 1) && eqb (u64At s (at + 16)) (wordOf a 2) && eqb (u64At s (at + 24)) (wordOf a 3)
 
+-- the set of page q has objects exactly where q is p
+unfoldable pub pageOnlyAt : List ℕ → ℕ → ℕ → ℕ → Bool
+pageOnlyAt s at p q = cond (eqb q p) (not (eqb (getD s (at + q) 0) 0)) (eqb (getD s (at + q) 0) 0)
+
+-- of the sets from `at`, that of page p alone has objects
+unfoldable pub pageOnly : List ℕ → ℕ → ℕ → Bool
+pageOnly s at p = allTo (pageOnlyAt s at p) 32
+
 -- THE WAITING LIST
 
 -- a station that waits for nothing has an empty entry
@@ -54,13 +62,14 @@ fewOk s i = leb (countIn s (readSetFrom i)) limit && leb (countIn s (writtenSetF
 unfoldable pub commitOk : List ℕ → ℕ → Bool
 commitOk s i = eqb (kindOf s i) 1 && eqb (requestOf s i) 0 && eqb (workNumber s i) (latestOf s i) && fewOk s i
 
--- a locking station's read or write, of the object requested
+-- a write, document 02, wish 9: of objects of one page, whose first address is the request
+unfoldable pub writeOk : List ℕ → ℕ → Bool
+writeOk s i = eqb (requestOf s i % 8) 0 && pageOnly s (writtenSetFrom i) (requestOf s i / 8) && noneIn s (readSetFrom i)
+
+-- a locking station's read, of the object requested, or write
 unfoldable pub requestOk : List ℕ → ℕ → Bool
 requestOk s i =
-    eqb (kindOf s i) 0
-    && cond (eqb (wantOf s i) 1)
-    (onlyIn s (readSetFrom i) (requestOf s i) && noneIn s (writtenSetFrom i))
-    (onlyIn s (writtenSetFrom i) (requestOf s i) && noneIn s (readSetFrom i))
+    eqb (kindOf s i) 0 && cond (eqb (wantOf s i) 1) (onlyIn s (readSetFrom i) (requestOf s i) && noneIn s (writtenSetFrom i)) (writeOk s i)
 
 -- who waits has an unfinished transaction and an arrival that was given
 unfoldable pub waiterOk : List ℕ → ℕ → Bool

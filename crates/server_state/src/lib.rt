@@ -4,7 +4,7 @@ ghost use Prim.Native.Nat.{_+_, _≤_, _<_};
 ghost use lib.ListN.{length, replicate};
 ghost use Rattle.lists.specs.Tests.{allTo};
 ghost use Rattle.server_state.specs.Layout.{serverLength, latestOf, arrivalOf, lastOf, askedOf, otherB};
-ghost use Rattle.server_state.specs.Valid.{mostAt, most as Valid·most, rangesOk, countersOk, wordOf, onlyIn, blankOk, fewOk, commitOk, requestOk, waiterOk, entryOk, owesAt, callsOk, agedOk, stationOk, holderOk, holderAt, besideAt, pageOk, askedAt, apartAt, apartOk, valid as Valid·valid, kindsOk, kindsTo, freshened, freshOf, ageless};
+ghost use Rattle.server_state.specs.Valid.{mostAt, most as Valid·most, rangesOk, countersOk, wordOf, onlyIn, pageOnlyAt, pageOnly, blankOk, fewOk, commitOk, writeOk, requestOk, waiterOk, entryOk, owesAt, callsOk, agedOk, stationOk, holderOk, holderAt, besideAt, pageOk, askedAt, apartAt, apartOk, valid as Valid·valid, kindsOk, kindsTo, freshened, freshOf, ageless};
 ghost use Rattle.server_state.specs.Eights.{groupFree, groupOk};
 ghost use Rattle.server_state.specs.Ages.{agedOf};
 use station_state::NUMBER_WIDTH;
@@ -199,6 +199,30 @@ fn only_in(s: &[u8], at: usize, a: u8) -> bool
     le::get_u64(s, at + 24) == word(a, 3)
 }
 
+fn page_only_at(s: &[u8], at: usize, p: usize, q: usize) -> bool
+    requires { ⌜ (at + 32 ≤ length (now s)) × (p < 32) × (q < 32) ⌝ }
+    ensures { λ r. ⌜ r ≡ pageOnlyAt (now (s .entry)) at p q ⌝ }
+{
+    if q == p {
+        return s[at + q] != 0;
+    }
+    s[at + q] == 0
+}
+
+// Whether of the object sets from `at` that of page p alone has objects.
+fn page_only(s: &[u8], at: usize, p: usize) -> bool
+    requires { ⌜ (at + 32 ≤ length (now s)) × (p < 32) ⌝ }
+    ensures { λ r. ⌜ r ≡ pageOnly (now (s .entry)) at p ⌝ }
+{
+    let mut ok = true;
+    let mut q = 0;
+    while q < 32 {
+        ok &= page_only_at(s, at, p, q);
+        q += 1;
+    }
+    ok
+}
+
 // Whether the entry of station i is empty.
 fn blank_ok(s: &[u8], i: usize) -> bool
     requires { ⌜ (length (now s) ≡ serverLength) × (i < 8) ⌝ }
@@ -230,7 +254,18 @@ fn commit_ok(s: &[u8], i: usize) -> bool
         & few_ok(s, i)
 }
 
-// Whether it may wait with a read or a write: of the object requested.
+// Whether it may wait with a write: of objects of one page, whose first address is the request.
+fn write_ok(s: &[u8], i: usize) -> bool
+    requires { ⌜ (length (now s) ≡ serverLength) × (i < 8) ⌝ }
+    ensures { λ r. ⌜ r ≡ writeOk (now (s .entry)) i ⌝ }
+{
+    let a = le::index(le::wide(s[REQUEST + i]));
+    (a % OBJECTS == 0)
+        & page_only(s, WRITTEN_SET + i * SET_ROW, a / OBJECTS)
+        & station_state::none_in(s, READ_SET + i * SET_ROW)
+}
+
+// Whether it may wait with a read, of the object requested, or with a write.
 fn request_ok(s: &[u8], i: usize) -> bool
     requires { ⌜ (length (now s) ≡ serverLength) × (i < 8) ⌝ }
     ensures { λ r. ⌜ r ≡ requestOk (now (s .entry)) i ⌝ }
@@ -238,12 +273,12 @@ fn request_ok(s: &[u8], i: usize) -> bool
     if s[KIND + i] != 0 {
         return false;
     }
-    let a = s[REQUEST + i];
     if s[WANT + i] == 1 {
+        let a = s[REQUEST + i];
         return only_in(s, READ_SET + i * SET_ROW, a)
             & station_state::none_in(s, WRITTEN_SET + i * SET_ROW);
     }
-    only_in(s, WRITTEN_SET + i * SET_ROW, a) & station_state::none_in(s, READ_SET + i * SET_ROW)
+    write_ok(s, i)
 }
 
 fn waiter_ok(s: &[u8], i: usize) -> bool

@@ -144,13 +144,14 @@ hindersB s i p j = not (eqb j i) && ((lockingB s j && hasBit (listedOf s j) p) |
 unfoldable pub hinderedB : List ℕ → ℕ → ℕ → Bool
 hinderedB s i p = anyTo (hindersB s i p) 8
 
--- "Unavailable in 16 to 18 are objects that others have locked or wait to write, without the one requested.": object o of a's page
+-- "Unavailable in 16 to 18 are objects that others have locked or wait to write, without the one requested", of a set without all of
+-- it: object o of a's page
 unfoldable pub waitsToWriteB : List ℕ → ℕ → ℕ → ℕ → ℕ → Bool
 waitsToWriteB s i p o j = not (eqb j i) && hasBit (writtenSet s j p) o
 
 unfoldable pub unavailableAt : List ℕ → ℕ → ℕ → ℕ → Bool
 unavailableAt s i a o =
-    not (eqb o (a % 8)) && (otherB (lockOf s (a / 8 * 8 + o)) i || anyTo (waitsToWriteB s i (a / 8) o) 8)
+    not (hasBit (wantedOn s i (a / 8)) o) && (otherB (lockOf s (a / 8 * 8 + o)) i || anyTo (waitsToWriteB s i (a / 8) o) 8)
 
 unfoldable pub unavailableB : List ℕ → ℕ → ℕ → ℕ
 unavailableB s i a = maskTo (unavailableAt s i a) 8

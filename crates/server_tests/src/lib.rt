@@ -444,10 +444,10 @@ fn unavailable_at(s: &[u8], i: usize, a: usize, w: u8, o: usize) -> bool
     ensures { λ r. ⌜ r ≡ unavailableAt (now (s .entry)) i a o ⌝ }
 {
     let other = server_state::other(s[LOCK + (a / OBJECTS * OBJECTS + o)], i);
-    (o != a % 8) & (other | station_state::has_bit8(w, o))
+    !station_state::has_bit8(wanted(s, i, a / OBJECTS), o) & (other | station_state::has_bit8(w, o))
 }
 
-// The unavailable set that goes to i with the page of a.
+// The unavailable set that goes to i with the page of a: without what it waits for.
 pub fn unavailable(s: &[u8], i: usize, a: usize) -> u8
     requires { ⌜ (length (now s) ≡ serverLength) × (i < 8) × (a < 256) ⌝ }
     ensures { λ r. ⌜ r ≡ unavailableB (now (s .entry)) i a ⌝ }

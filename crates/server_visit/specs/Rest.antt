@@ -12,10 +12,10 @@ use Rattle.cells.specs.Bits.{tb}
 use Rattle.cells.specs.Loops.{mask-lt}
 use Rattle.cells.specs.Pages.{any-byte}
 use Rattle.station_state.specs.Layout.{hasBit}
-use Rattle.server_state.specs.Layout.{serverLength, calledFrom, pendFrom, askedOf, wholeOf, pendOf, calledOf, wantOf, requestOf}
+use Rattle.server_state.specs.Layout.{serverLength, calledFrom, pendFrom, askedOf, wholeOf, writtenSet, pendOf, calledOf, wantOf, requestOf}
 use Rattle.server_tests.specs.Tests.{faultB, blockedB, shutB, shutOutB, concernedB, concernedSet, hinderedB, unavailableB, writtenPagesB}
 use Rattle.server_tests.specs.Blockers.{bit-is}
-use Rattle.server_changes.specs.Changes.{leaveB, askedB, calledB, lockPageB, lockObjectB}
+use Rattle.server_changes.specs.Changes.{leaveB, askedB, calledB, lockPageB, lockTo}
 use Rattle.server_actions.specs.Actions.{Serving, onState, send, deescalateB, writtenSets, sendPageB, abortB, installB}
 use Rattle.server_actions.specs.Pass.{askB, askTo, serveReadB, callOneB, callTo, callB, callOnceB, grantPageB, grantObjectB, grantB, afterCallsB, proceedB, gatesB, visitB}
 use Rattle.server_actions.specs.Posting.{from, Acts, acts-turns}
@@ -56,7 +56,7 @@ unfolding grantB grantPageB grantObjectB
 grant-sends i x =
     let s = x .state in
     let a = requestOf s i in
-    byB (hinderedB s i (a / 8)) (λ e. rw e (page-sends 17 i a (unavailableB s i a) (onState x (lockObjectB i a (leaveB i s)))))
+    byB (hinderedB s i (a / 8)) (λ e. rw e (page-sends 17 i a (unavailableB s i a) (onState x (lockTo i (a / 8) (writtenSet s i (a / 8)) (leaveB i s) 8))))
     (λ e. rw e (page-sends 18 i a (unavailableB s i a) (onState x (lockPageB i (a / 8) (leaveB i s)))))
 
 installed-sends : (i : ℕ) (x : Serving) → Sends x (installedB i x)

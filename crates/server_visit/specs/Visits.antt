@@ -15,10 +15,10 @@ use Rattle.cells.specs.Num.{AllBytes, num-lt, num-frame, put-other}
 use Rattle.message.specs.Layout.{messageLength}
 use Rattle.station_state.specs.Layout.{hasBit}
 use Rattle.station_state.specs.Changes.{pageOn}
-use Rattle.server_state.specs.Layout.{lastFrom, askedFrom, wholeFrom, calledFrom, pendFrom, latestOf, lastOf, askedOf, wholeOf, wantOf, requestOf, calledOf, otherB, wantedOn}
+use Rattle.server_state.specs.Layout.{lastFrom, askedFrom, wholeFrom, calledFrom, pendFrom, latestOf, lastOf, askedOf, wholeOf, writtenSet, wantOf, requestOf, calledOf, otherB, wantedOn}
 use Rattle.server_tests.specs.Tests.{faultB, blockedB, shutB, concernedSet, unavailableB}
 use Rattle.server_tests.specs.Blockers.{blockersB, blocked-is}
-use Rattle.server_changes.specs.Changes.{leaveB, askedB, calledB, lockPageB, lockObjectB}
+use Rattle.server_changes.specs.Changes.{leaveB, askedB, calledB, lockPageB, lockTo}
 use Rattle.server_actions.specs.declared.Counts.{Counts}
 use Rattle.server_actions.specs.Actions.{Serving, plain, deescalateB, callbackB, sendPageB, abortB}
 use Rattle.server_actions.specs.Pass.{askB, serveReadB, callOneB, callTo, callB, callOnceB, grantPageB, grantObjectB, afterCallsB, proceedB, gatesB, visitB}
@@ -87,9 +87,9 @@ module _ (i : ℕ) (s : List ℕ) {a u : ℕ} {s₁ : List ℕ} (ea : a ≡ requ
   unfolding grantPageB
   page-is e = rw (e, es, eu, ea)
 
-  pub object-is : {s₂ : List ℕ} → s₂ ≡ lockObjectB i a s₁ → sendPageB 17 i a u (from s₂) ≡ grantObjectB i (from s)
+  pub object-is : {x : ℕ} {s₂ : List ℕ} → x ≡ writtenSet s i (a / 8) → s₂ ≡ lockTo i (a / 8) x s₁ 8 → sendPageB 17 i a u (from s₂) ≡ grantObjectB i (from s)
   unfolding grantObjectB
-  object-is e = rw (e, es, eu, ea)
+  object-is ex e = rw (e, ex, es, eu, ea)
 
 -- POSTED, WITH ROOM
 

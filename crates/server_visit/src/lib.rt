@@ -18,6 +18,9 @@ use server_state::CALLED;
 use server_state::REQUEST;
 use server_state::WANT;
 use server_state::WHOLE;
+use server_state::WRITTEN_SET;
+use station_state::OBJECTS;
+use station_state::SET_ROW;
 
 // The address that i's entry requests.
 fn request(s: &[u8], i: usize) -> usize
@@ -139,7 +142,7 @@ fn grant_page(s: &mut [u8], o: &mut [u8], q: &mut [u8], c: Counts, i: usize) -> 
     let a = request(s, i);
     let u = server_tests::unavailable(s, i, a);
     server_changes::leave(s, i);
-    server_changes::lock_page(s, i, a / 8);
+    server_changes::lock_page(s, i, a / OBJECTS);
     server_actions::send_page(s, o, q, c, 18, i, a, u)
 }
 
@@ -149,17 +152,18 @@ fn grant_object(s: &mut [u8], o: &mut [u8], q: &mut [u8], c: Counts, i: usize) -
 {
     let a = request(s, i);
     let u = server_tests::unavailable(s, i, a);
+    let x = s[WRITTEN_SET + i * SET_ROW + a / OBJECTS];
     server_changes::leave(s, i);
-    server_changes::lock_object(s, i, a);
+    server_changes::lock_set(s, i, a / OBJECTS, x);
     server_actions::send_page(s, o, q, c, 17, i, a, u)
 }
 
-// The whole page is locked if nobody is in the way there, else the object.
+// The whole page is locked if nobody is in the way there, else the objects of the request.
 fn grant(s: &mut [u8], o: &mut [u8], q: &mut [u8], c: Counts, i: usize) -> Counts
     requires { ⌜ (length (now s) ≡ serverLength) × (i < 8) × Room (now o) (now q) c (grantB i (from (now s))) ⌝ }
     ensures { λ r. ⌜ posted (now (s .exit)) (now (o .exit)) (now (q .exit)) r ≡ post (now (o .entry)) (now (q .entry)) c (grantB i (from (now (s .entry)))) ⌝ }
 {
-    if server_sets::hindered(s, i, request(s, i) / 8) {
+    if server_sets::hindered(s, i, request(s, i) / OBJECTS) {
         return grant_object(s, o, q, c, i);
     }
     grant_page(s, o, q, c, i)

@@ -49,7 +49,7 @@ for-stations at m e = let a = down-accepted at m e in (a .kind-from, omega (arit
 pub named-of : (at : ℕ) (m : List ℕ) → downNumber at m ≡ 0 → Named m
 named-of at m e =
     let a = down-accepted at m e in
-    (page-of at m a, (λ q. (a .callback q) .requester-is), (λ l. (a .page (omega arith)) .object-is), for-stations at m e)
+    (page-of at m a, (λ q. (a .callback q) .requester-is), for-stations at m e)
 
 pub long-enough : (at : ℕ) (m : List ℕ) → downNumber at m ≡ 0 → messageLength ≤ length m
 long-enough at m e = omega (arith, (down-accepted at m e) .length-is)

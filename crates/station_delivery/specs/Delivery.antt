@@ -6,8 +6,8 @@ use mathlib.Core.List.{List, [], _∷_}
 use mathlib.Core.Bool.{Bool, true, false, not, _&&_, _||_, cond}
 use lib.Dec.{eqb, ltb}
 use Rattle.message.specs.Layout.{setsFrom, kindOf, pageOf, requesterOf, objectOf, causeOf, transactionOf, versionOf, upMessage}
-use Rattle.station_state.specs.Layout.{wholeFrom, copyOf, waitingValue, number, whole, writtenSet, station, wait, address, locksFrom, hasBit}
-use Rattle.station_state.specs.Changes.{addTo, pageOn, recordReadB, writeLocalB, idleB, loosenB, keepB}
+use Rattle.station_state.specs.Layout.{wholeFrom, copyOf, number, whole, writtenSet, station, wait, address, waitingSet, hasBit}
+use Rattle.station_state.specs.Changes.{pageOn, recordReadB, writeAllB, waitingValues, idleB, lockWaitingB, loosenB, keepB}
 use Rattle.station_pages.specs.Pages.{inUseB, markB, arriveB, versionsB}
 use Rattle.station_callbacks.specs.Callbacks.{sends, setsAt, doCallbackB, closeB, undoB}
 use Rattle.station_answer.specs.declared.Answer.{Answer}
@@ -19,9 +19,9 @@ use Rattle.station_answer.specs.Ask.{lockingB, openB}
 abbrev pub ForStations : List ℕ → Type 0
 ForStations m = (16 ≤ kindOf m) × (kindOf m < 24)
 
--- .. and number 4: 20 names a requester; 16 to 19 name a page, 16 to 18 an object (21 to 23 have zeros there)
+-- .. and number 4: 20 names a requester; 16 to 19 name a page (21 to 23 have zeros there)
 abbrev pub Named : List ℕ → Type 0
-Named m = (kindOf m ≢ 20 → pageOf m < 32) × (kindOf m ≡ 20 → requesterOf m < 8) × (kindOf m < 19 → objectOf m < 8) × ForStations m
+Named m = (kindOf m ≢ 20 → pageOf m < 32) × (kindOf m ≡ 20 → requesterOf m < 8) × ForStations m
 
 -- the address that a page message names
 abbrev pub addressOf : List ℕ → ℕ
@@ -35,12 +35,15 @@ liveB s t = openB s && eqb t (number s)
 unfoldable pub endedB : List ℕ → ℕ → Bool
 endedB s t = not (lockingB s) && not (liveB s t) && not (ltb (number s) t)
 
--- a read, or a write, of that address is out; a commit is
+-- a read of that address is out; a write on that page; a write of that address among others
 unfoldable pub forReadOf : List ℕ → ℕ → Bool
 forReadOf s a = eqb (wait s) 1 && eqb a (address s)
 
+unfoldable pub forWriteOn : List ℕ → ℕ → Bool
+forWriteOn s p = eqb (wait s) 2 && eqb p (address s / 8)
+
 unfoldable pub forWriteOf : List ℕ → ℕ → Bool
-forWriteOf s a = eqb (wait s) 2 && eqb a (address s)
+forWriteOf s a = forWriteOn s (a / 8) && hasBit (waitingSet s) (a % 8)
 
 -- number 6: "a down message that fits neither station, kind nor open wait (19, 20, 23 and a 16 for an ended validating transaction need no wait)"
 
@@ -50,9 +53,9 @@ fitsPageB m s =
     endedB s (transactionOf m)
     || (liveB s (transactionOf m) && (forReadOf s (addressOf m) || (not (lockingB s) && forWriteOf s (addressOf m))))
 
--- 17 and 18
+-- 17 and 18: they name no object
 unfoldable pub fitsLockB : List ℕ → List ℕ → Bool
-fitsLockB m s = lockingB s && liveB s (transactionOf m) && forWriteOf s (addressOf m)
+fitsLockB m s = lockingB s && liveB s (transactionOf m) && forWriteOn s (pageOf m)
 
 -- 21
 unfoldable pub fitsCommittedB : List ℕ → List ℕ → Bool
@@ -68,23 +71,24 @@ fitsB m s =
     cond (eqb k 16) (fitsPageB m s) (cond (eqb k 17) (fitsLockB m s) (cond (eqb k 18) (fitsLockB m s) (cond (eqb k 19) (lockingB s)
     (cond (eqb k 20) (lockingB s) (cond (eqb k 21) (fitsCommittedB m s) (cond (eqb k 22) (fitsAbortedB m s) (not (lockingB s))))))))
 
--- "17 the same with a lock on the object; 18 with a lock on the whole page"
+-- "17 the same with a lock on the object; 18 with a lock on the whole page": the request "takes them in one step"
 unfoldable pub takeLockB : List ℕ → List ℕ → List ℕ
 takeLockB m s =
-    cond (eqb (kindOf m) 17) (addTo s locksFrom (addressOf m)) (cond (eqb (kindOf m) 18) (pageOn s wholeFrom (pageOf m)) s)
+    cond (eqb (kindOf m) 17) (lockWaitingB (pageOf m) s) (cond (eqb (kindOf m) 18) (pageOn s wholeFrom (pageOf m)) s)
 
 -- the lock is taken, the page arrives, nothing is out any more
 unfoldable pub arrivedB : List ℕ → List ℕ → List ℕ
 arrivedB m s = idleB (arriveB m (pageOf m) (takeLockB m s))
 
--- "the delivery that brings the page gives the owner's answer": w, a and v are what was out, s the state with the page
-unfoldable pub answerWaitB : ℕ → ℕ → ℕ → List ℕ → Did
-answerWaitB w a v s =
-    cond (eqb w 1) (does (Value (copyOf s a)) (recordReadB a s) []) (cond (eqb w 2) (does Written (writeLocalB a v s) []) (does Nothing s []))
+-- "the delivery that brings the page gives the owner's answer": w, a, x and f are what was out, s the state with the page; "all are
+-- written when the grant arrives"
+unfoldable pub answerWaitB : ℕ → ℕ → ℕ → List ℕ → List ℕ → Did
+answerWaitB w a x f s =
+    cond (eqb w 1) (does (Value (copyOf s a)) (recordReadB a s) []) (cond (eqb w 2) (does Written (writeAllB (a / 8) x f s) []) (does Nothing s []))
 
 unfoldable pub onPageB : List ℕ → List ℕ → Did
 onPageB m s =
-    cond (endedB s (transactionOf m)) (does Nothing s []) (answerWaitB (wait s) (address s) (waitingValue s) (arrivedB m s))
+    cond (endedB s (transactionOf m)) (does Nothing s []) (answerWaitB (wait s) (address s) (waitingSet s) (waitingValues s) (arrivedB m s))
 
 -- "On 19: send 8 with the objects written on that page, empty if that transaction is over; if it is open, the whole lock becomes
 -- locks on those objects."

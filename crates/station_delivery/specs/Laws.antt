@@ -1,5 +1,5 @@
 -- What stands in the lent bytes after the calls that take a message, in their order, is what the definition hands out.
-use Prim.Native.Nat.{ℕ, _+_, _≤_, _<_}
+use Prim.Native.Nat.{ℕ, _+_, _/_, _≤_, _<_}
 use mathlib.Core.Path.{_≡_, refl, _∙_}
 use mathlib.Core.Logic.{_≢_}
 use mathlib.Core.Bool.{Bool, true, false, not, _&&_}
@@ -9,8 +9,8 @@ use lib.Seq.{sets}
 use lib.Dec.{eqb}
 use borrow.Author.Tests.{eq-eqb, ne-eqb}
 use Rattle.message.specs.Layout.{setsFrom, pageOf, requesterOf, causeOf, transactionOf, versionOf, upMessage}
-use Rattle.station_state.specs.Layout.{copyOf, waitingValue, station, wait, address}
-use Rattle.station_state.specs.Changes.{recordReadB, writeLocalB, keepB}
+use Rattle.station_state.specs.Layout.{copyOf, station, wait, address, waitingSet}
+use Rattle.station_state.specs.Changes.{recordReadB, writeAllB, waitingValues, keepB}
 use Rattle.station_pages.specs.Pages.{inUseB, markB, versionsB}
 use Rattle.station_callbacks.specs.Callbacks.{sends, setsAt, doCallbackB, closeB, undoB, flat, posted, callbackPosted, closePosted}
 use Rattle.station_callbacks.specs.Posting.{call-post, close-post}
@@ -44,17 +44,17 @@ unfolding flat
 close-sent i s o a s₁ p k e f =
     hand-all o a (closeB i (sends s [])) (e ∙ close-post i o (sends s []) refl) f
 
-module _ (w a v : ℕ) (s o : List ℕ) {y : Said} where
-  pub answer-read : {x : ℕ} {s₁ : List ℕ} → w ≡ 1 → x ≡ copyOf s a → s₁ ≡ recordReadB a s → y ≡ said (Value x) 0 0
-      → delivered s₁ o y ≡ handed o (answerWaitB w a v s)
+module _ (w a x : ℕ) (f s o : List ℕ) {y : Said} where
+  pub answer-read : {v : ℕ} {s₁ : List ℕ} → w ≡ 1 → v ≡ copyOf s a → s₁ ≡ recordReadB a s → y ≡ said (Value v) 0 0
+      → delivered s₁ o y ≡ handed o (answerWaitB w a x f s)
   unfolding answerWaitB
-  answer-read e ex es ey = rw (eq-eqb w 1 e, ← ex, ← es) (hand-none o _ _ refl ey)
+  answer-read e ev es ey = rw (eq-eqb w 1 e, ← ev, ← es) (hand-none o _ _ refl ey)
 
-  pub answer-written : {s₁ : List ℕ} → w ≢ 1 → w ≡ 2 → s₁ ≡ writeLocalB a v s → y ≡ said Written 0 0 → delivered s₁ o y ≡ handed o (answerWaitB w a v s)
+  pub answer-written : {s₁ : List ℕ} → w ≢ 1 → w ≡ 2 → s₁ ≡ writeAllB (a / 8) x f s → y ≡ said Written 0 0 → delivered s₁ o y ≡ handed o (answerWaitB w a x f s)
   unfolding answerWaitB
   answer-written n e es ey = rw (ne-eqb w 1 n, eq-eqb w 2 e, ← es) (hand-none o _ _ refl ey)
 
-  pub answer-none : w ≢ 1 → w ≢ 2 → y ≡ said Nothing 0 0 → delivered s o y ≡ handed o (answerWaitB w a v s)
+  pub answer-none : w ≢ 1 → w ≢ 2 → y ≡ said Nothing 0 0 → delivered s o y ≡ handed o (answerWaitB w a x f s)
   unfolding answerWaitB
   answer-none n e ey = rw (ne-eqb w 1 n, ne-eqb w 2 e) (hand-none o s _ refl ey)
 
@@ -63,10 +63,10 @@ module _ (m s o : List ℕ) {t : ℕ} {b : Bool} where
   unfolding onPageB
   page-late et eb h ey = rw (← et, ← eb, h) (hand-none o s _ refl ey)
 
-  pub page-taken : {v : ℕ} {s₁ : List ℕ} {d : Delivered} → t ≡ transactionOf m → b ≡ endedB s t → b ≡ false → v ≡ waitingValue s
-      → s₁ ≡ arrivedB m s → d ≡ handed o (answerWaitB (wait s) (address s) v s₁) → d ≡ handed o (onPageB m s)
+  pub page-taken : {f s₁ : List ℕ} {d : Delivered} → t ≡ transactionOf m → b ≡ endedB s t → b ≡ false → f ≡ waitingValues s
+      → s₁ ≡ arrivedB m s → d ≡ handed o (answerWaitB (wait s) (address s) (waitingSet s) f s₁) → d ≡ handed o (onPageB m s)
   unfolding onPageB
-  page-taken et eb h ev es e = rw (← et, ← eb, h, ← ev, ← es) e
+  page-taken et eb h ef es e = rw (← et, ← eb, h, ← ef, ← es) e
 
   pub callback-busy : {s₁ p : List ℕ} {y : Said} → t ≡ transactionOf m → b ≡ inUseB (setsAt m setsFrom) s → b ≡ true
       → p ≡ sets o 0 (upMessage 6 (station s) (requesterOf m) 0 t 0 0) → s₁ ≡ keepB (requesterOf m) t (setsAt m setsFrom) s → y ≡ said Nothing 1 0

@@ -4,22 +4,21 @@ ghost use mathlib.Core.List.{List};
 ghost use Prim.Native.Nat.{_+_, _*_, _≤_, _<_};
 ghost use lib.ListN.{length};
 ghost use Rattle.station_answer.specs.Did.{delivered, handed};
-ghost use Rattle.station_delivery.specs.Delivery.{ForStations, Named, liveB, endedB, forReadOf, forWriteOf, fitsPageB, fitsLockB, fitsCommittedB, fitsAbortedB, fitsB, takeLockB, arrivedB, answerWaitB, onPageB, writtenOnB, loosenedB, onDeescalateB, onCallbackB, onCommittedB, onAbortedB, onInvalidateB, onDownB};
+ghost use Rattle.station_delivery.specs.Delivery.{ForStations, Named, liveB, endedB, forReadOf, forWriteOn, forWriteOf, fitsPageB, fitsLockB, fitsCommittedB, fitsAbortedB, fitsB, takeLockB, arrivedB, answerWaitB, onPageB, writtenOnB, loosenedB, onDeescalateB, onCallbackB, onCommittedB, onAbortedB, onInvalidateB, onDownB};
 ghost use Rattle.station_state.specs.Layout.{stateLength, station as Layout·station};
-ghost use Rattle.message.specs.Layout.{messageLength, pageOf, objectOf};
+ghost use Rattle.message.specs.Layout.{messageLength, pageOf};
 ghost use Rattle.message.specs.Commit.{stationRoom};
 use station_answer::Answer;
 use station_answer::Said;
 use station_state::ADDRESS;
 use station_state::COPY;
 use station_state::KIND;
-use station_state::LOCKS;
 use station_state::OBJECTS;
 use station_state::OPEN;
 use station_state::STATION;
 use station_state::VALUE_WIDTH;
 use station_state::WAIT;
-use station_state::WAITING_VALUE;
+use station_state::WAITING_SET;
 use station_state::WHOLE;
 use station_state::WRITTEN_SET;
 
@@ -46,11 +45,20 @@ fn for_read_of(s: &[u8], a: usize) -> bool
     (s[WAIT] == 1) & (a == s[ADDRESS] as usize)
 }
 
+// Whether a write on page p is out.
+fn for_write_on(s: &[u8], p: usize) -> bool
+    requires { ⌜ length (now s) ≡ stateLength ⌝ }
+    ensures { λ r. ⌜ r ≡ forWriteOn (now (s .entry)) p ⌝ }
+{
+    (s[WAIT] == 2) & (p == (s[ADDRESS] / 8) as usize)
+}
+
+// Whether a write that is out will write a.
 fn for_write_of(s: &[u8], a: usize) -> bool
     requires { ⌜ length (now s) ≡ stateLength ⌝ }
     ensures { λ r. ⌜ r ≡ forWriteOf (now (s .entry)) a ⌝ }
 {
-    (s[WAIT] == 2) & (a == s[ADDRESS] as usize)
+    for_write_on(s, a / 8) & station_state::has_bit8(s[WAITING_SET], a % 8)
 }
 
 // Whether a 16 fits what is out, or comes for an ended transaction.
@@ -68,8 +76,9 @@ fn fits_lock(m: &[u8], s: &[u8]) -> bool
     requires { ⌜ (length (now s) ≡ stateLength) × (messageLength ≤ length (now m)) ⌝ }
     ensures { λ r. ⌜ r ≡ fitsLockB (now (m .entry)) (now (s .entry)) ⌝ }
 {
-    let a = m[message::PAGE] as usize * OBJECTS + m[message::OBJECT] as usize;
-    (s[KIND] == 0) & live(s, le::get_u32(m, message::TRANSACTION)) & for_write_of(s, a)
+    (s[KIND] == 0)
+        & live(s, le::get_u32(m, message::TRANSACTION))
+        & for_write_on(s, m[message::PAGE] as usize)
 }
 
 fn fits_committed(m: &[u8], s: &[u8]) -> bool
@@ -106,12 +115,12 @@ pub fn fits(m: &[u8], s: &[u8]) -> bool
 
 // Takes the lock that a page brings.
 fn take_lock(s: &mut [u8], m: &[u8])
-    requires { ⌜ (length (now s) ≡ stateLength) × (messageLength ≤ length (now m)) × (pageOf (now m) < 32) × (objectOf (now m) < 8) ⌝ }
+    requires { ⌜ (length (now s) ≡ stateLength) × (messageLength ≤ length (now m)) × (pageOf (now m) < 32) ⌝ }
     ensures { λ _. ⌜ now (s .exit) ≡ takeLockB (now (m .entry)) (now (s .entry)) ⌝ }
 {
     let p = m[message::PAGE] as usize;
     if m[message::KIND] == 17 {
-        station_state::add_to(s, LOCKS, p * OBJECTS + m[message::OBJECT] as usize);
+        station_state::lock_waiting(s, p);
         return;
     }
     if m[message::KIND] == 18 {
@@ -122,7 +131,7 @@ fn take_lock(s: &mut [u8], m: &[u8])
 
 // The page of a message arrives, with its lock; nothing is out any more.
 fn arrived(s: &mut [u8], m: &[u8])
-    requires { ⌜ (length (now s) ≡ stateLength) × (messageLength ≤ length (now m)) × (pageOf (now m) < 32) × (objectOf (now m) < 8) ⌝ }
+    requires { ⌜ (length (now s) ≡ stateLength) × (messageLength ≤ length (now m)) × (pageOf (now m) < 32) ⌝ }
     ensures { λ _. ⌜ now (s .exit) ≡ arrivedB (now (m .entry)) (now (s .entry)) ⌝ }
 {
     take_lock(s, m);
@@ -131,17 +140,17 @@ fn arrived(s: &mut [u8], m: &[u8])
 }
 
 // The owner's answer to what was out, on the state with the page.
-fn answer_wait(s: &mut [u8], o: &mut [u8], w: u8, a: usize, v: u64) -> Said
+fn answer_wait(s: &mut [u8], o: &mut [u8], w: u8, a: usize, x: u8, values: &[u64; 8]) -> Said
     requires { ⌜ (length (now s) ≡ stateLength) × (a < 256) ⌝ }
-    ensures { λ r. ⌜ delivered (now (s .exit)) (now (o .exit)) r ≡ handed (now (o .entry)) (answerWaitB w a v (now (s .entry))) ⌝ }
+    ensures { λ r. ⌜ delivered (now (s .exit)) (now (o .exit)) r ≡ handed (now (o .entry)) (answerWaitB w a x (now (values .entry)) (now (s .entry))) ⌝ }
 {
     if w == 1 {
-        let x = le::get_u64(s, COPY + a * VALUE_WIDTH);
+        let v = le::get_u64(s, COPY + a * VALUE_WIDTH);
         station_state::record_read(s, a);
-        return station_answer::say(Answer::Value(x), 0);
+        return station_answer::say(Answer::Value(v), 0);
     }
     if w == 2 {
-        station_state::write_local(s, a, v);
+        station_state::write_all(s, a / 8, x, values);
         return station_answer::say(Answer::Written, 0);
     }
     station_answer::say(Answer::Nothing, 0)
@@ -149,7 +158,7 @@ fn answer_wait(s: &mut [u8], o: &mut [u8], w: u8, a: usize, v: u64) -> Said
 
 // On 16, 17 and 18.
 fn on_page(s: &mut [u8], m: &[u8], o: &mut [u8]) -> Said
-    requires { ⌜ (length (now s) ≡ stateLength) × (messageLength ≤ length (now m)) × (pageOf (now m) < 32) × (objectOf (now m) < 8) ⌝ }
+    requires { ⌜ (length (now s) ≡ stateLength) × (messageLength ≤ length (now m)) × (pageOf (now m) < 32) ⌝ }
     ensures { λ r. ⌜ delivered (now (s .exit)) (now (o .exit)) r ≡ handed (now (o .entry)) (onPageB (now (m .entry)) (now (s .entry))) ⌝ }
 {
     if ended(s, le::get_u32(m, message::TRANSACTION)) {
@@ -157,9 +166,10 @@ fn on_page(s: &mut [u8], m: &[u8], o: &mut [u8]) -> Said
     }
     let w = s[WAIT];
     let a = s[ADDRESS] as usize;
-    let v = le::get_u64(s, WAITING_VALUE);
+    let x = s[WAITING_SET];
+    let values = station_state::waiting_values(s);
     arrived(s, m);
-    answer_wait(s, o, w, a, v)
+    answer_wait(s, o, w, a, x, &values)
 }
 
 // The objects that the open transaction wrote on the page that 19 names.

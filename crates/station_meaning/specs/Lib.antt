@@ -2,5 +2,6 @@
 pub mod Meant
 pub mod Named
 pub mod Tests
+pub mod Counts
 pub mod Changes
 pub mod Pages

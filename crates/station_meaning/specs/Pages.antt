@@ -102,7 +102,7 @@ page-drop {i} {s} h p l =
     done h (emptied (λ q. eqb q p))
     (put8 (unversion-is (blank-is (start h) p l) p l) unavailableCell 0 p 0 (unavailableFrom + p) refl (omega arith) (omega arith) l (omega arith))
     (ap (setUnav (emptied (λ q. eqb q p) (meant s))) (fun-ext (λ a. byEq (a / 8) p (λ e. rw e (tb-zero (a % 8))) (λ e. rw e))))
-    (refl, refl, refl)
+    (refl, refl, refl, refl)
 
 -- once more: the pages of both sets
 empty-twice : (f g : ℕ → Bool) (m : Station) → emptied f (emptied g m) ≡ emptied (λ q. f q || g q) m
@@ -167,7 +167,7 @@ drop-cached {i} {s} {m} h d l =
     done h (λ m. setCached m (λ p. not (tb d p) && m .cached p))
     (and32 (start h) cachedCell 0 0 (4294967295 - d) cachedFrom refl (omega arith) (omega arith) refl)
     (ap (setCached (meant s)) (fun-ext (λ p. tb-mask 32 (view table 0 s cachedCell 0 0) d p (cell-lt (start h) cachedCell 0 0) l)))
-    (refl, refl, refl)
+    (refl, refl, refl, refl)
 
 pub drop-is : {i : ℕ} {s : List ℕ} {m : Station} → Is i s m → (d : ℕ) → d < 2 ^ 32 → Is i (dropPagesB d s) (dropPages (tb d) m)
 unfolding dropPagesB dropPages
@@ -187,7 +187,7 @@ mark-page {i} {s} {m} h p y l ly =
     (or8 (start h) unavailableCell 0 p y (unavailableFrom + p) (omega arith) (omega arith) l refl ly)
     (ap (setUnav (meant s))
     (fun-ext (λ a. byEq (a / 8) p (λ e. rw (e, eqb-yes (a / 8) p e) (tb-or (a % 8) (view table 0 s unavailableCell 0 p) y)) (λ e. rw e))))
-    (refl, refl, refl)
+    (refl, refl, refl, refl)
 
 -- of the pages below n
 abbrev markedTo : List ℕ → Station → ℕ → ℕ → Bool
@@ -325,7 +325,7 @@ arrive-is {i} {s} {m} h x p b l =
     (ap₂ (λ u c. setCached (setUnav (op (meant s)) u) c)
     (fun-ext (λ a. byEq (a / 8) p (λ e. rw e) (λ e. rw e)))
     (fun-ext (tb-set (view table 0 s cachedCell 0 0) p)))
-    (refl, refl, refl)
+    (refl, refl, refl, refl)
 
 -- what is written gets its version
 
@@ -333,7 +333,7 @@ version-object : {i : ℕ} {s : List ℕ} {m : Station} → Is i s m → (a n : 
 version-object h a n l q =
     done h (λ m. setCver m (upd (m .cver) a n))
     (put32 (start h) versionCell 0 a n (versionFrom + a * numberWidth) refl (omega arith) (omega arith) l q) refl
-    (refl, refl, refl)
+    (refl, refl, refl, refl)
 
 -- the first k objects of page p
 abbrev onTo : Station → ℕ → ℕ → ℕ → ℕ → ℕ

@@ -1,26 +1,27 @@
 -- What a station's bytes are read for means the model's field or test.
 use Prim.Native.Nat.{ℕ, zero, suc, _+_, _*_, _≤_, _<_, _/_, _%_, _^_}
 use mathlib.Core.Path.{_≡_, refl, sym, ap, _∙_, fun-ext}
-use mathlib.Core.Bool.{Bool, true, false, not, _&&_, _||_, cond}
+use mathlib.Core.Bool.{Bool, true, false, not, _&&_, _||_, cond, and-assoc}
 use mathlib.Core.List.{List}
 use native.Mathlib.Omega.{arith}
 use lib.Dec.{eqb, ltb}
 use lib.ListN.{getD, take, drop}
 use lib.Bits.{bitOr}
 use lib.Seq.{getD-take, getD-drop}
-use Rattle.sets.specs.Base.{none, has, any}
-use Rattle.sets.specs.Laws.{byB, any-ext, ltb-yes, ltb-no}
+use Rattle.sets.specs.Base.{Val, none, has, any}
+use Rattle.sets.specs.Laws.{byB, eqb-same, any-ext, ltb-yes, ltb-no}
 use Rattle.cells.specs.Num.{AllBytes}
-use Rattle.cells.specs.Bits.{tb, tb-zero, tb-or, tb-high}
+use Rattle.cells.specs.Bits.{tb, tb-zero, tb-or, tb-test, tb-high}
 use Rattle.cells.specs.Cells.{view, view-col, get8, get32, get64, cell-lt}
 use Rattle.cells.specs.Sets.{test8, test32}
 use Rattle.cells.specs.Loops.{anyTo, any-to, any-same, mask-is, mask-lt}
-use Rattle.cells.specs.Pages.{page-any, page-join, page-meet, any-all}
-use Rattle.line.specs.Station.{Station, waiting, forRead, forWrite, forCommit, requested, usedAt, usedPage, wrotePage, drops, inUse}
-use Rattle.station_state.specs.Layout.{setRow, waitingValueFrom, numberFrom, cachedFrom, wholeFrom, stationFrom, kindFrom, openFrom, waitFrom, addressFrom, copyFrom, readValueFrom, writtenValueFrom, keptFrom, versionFrom, seenFrom, valueWidth, numberWidth, copyCell, readValueCell, writtenValueCell, waitingValueCell, keptCell, versionCell, seenCell, numberCell, cachedCell, wholeCell, unavailableCell, readSetCell, writtenSetCell, locksCell, namedCell, stationCell, kindCell, openCell, waitCell, addressCell, table, copyOf, readValue, writtenValue, waitingValue, keptOf, versionOf, seenOf, number, cached, whole, readSet, writtenSet, unavailableFrom, readSetFrom, writtenSetFrom, locksFrom, namedFrom, station, kind, opened, wait, address, hasBit, member, requestedB}
-use Rattle.station_state.specs.Changes.{usedB}
+use Rattle.cells.specs.Pages.{any-byte, page-any, page-join, page-meet, any-all}
+use Rattle.line.specs.Station.{Station, ofPage, someOn, waiting, forRead, forWrite, writesTo, forCommit, requested, usedAt, usedPage, wrotePage, drops, inUse}
+use Rattle.station_state.specs.Layout.{setRow, waitingValueFrom, numberFrom, cachedFrom, wholeFrom, stationFrom, kindFrom, openFrom, waitFrom, addressFrom, waitingSetFrom, copyFrom, readValueFrom, writtenValueFrom, keptFrom, versionFrom, seenFrom, valueWidth, numberWidth, copyCell, readValueCell, writtenValueCell, waitingValueCell, keptCell, versionCell, seenCell, numberCell, cachedCell, wholeCell, unavailableCell, readSetCell, writtenSetCell, locksCell, namedCell, stationCell, kindCell, openCell, waitCell, addressCell, waitingSetCell, table, copyOf, readValue, writtenValue, waitingValue, keptOf, versionOf, seenOf, number, cached, whole, readSet, writtenSet, unavailableFrom, readSetFrom, writtenSetFrom, locksFrom, namedFrom, station, kind, opened, wait, address, waitingSet, hasBit, member, requestedB}
+use Rattle.station_state.specs.Changes.{usedB, waitingValues}
+use Rattle.station_state.specs.Stores.{values-at}
 use Rattle.station_pages.specs.Pages.{usedPageB, wrotePageB, usedPagesB, writtenPagesB, usesB, inUseB, dropsB, droppedB}
-use Rattle.station_meaning.specs.Meant.{within, valueIf, waitOf, keptIf, meant, Is, start}
+use Rattle.station_meaning.specs.Meant.{within, valueIf, given, waitOf, keptIf, meant, Is, start}
 use Rattle.station_meaning.specs.Named.{named, named-at, named-is}
 
 -- whether there is a value
@@ -28,42 +29,72 @@ pub has-if : (b : Bool) (v : ℕ) → has (valueIf b v) ≡ b
 has-if true v = refl
 has-if false v = refl
 
+-- a bit as the code tests it
+pub bit-of : (x k : ℕ) → hasBit x k ≡ tb x k
+unfolding hasBit
+bit-of x k = tb-test k x
+
+-- what is given on a page, and which objects those are
+pub given-has : (p x : ℕ) (v : ℕ → ℕ) (a : ℕ) → has (ofPage p (given x v) a) ≡ (eqb (a / 8) p && tb x (a % 8))
+given-has p x v a = byB (eqb (a / 8) p) (λ e. rw e (has-if (tb x (a % 8)) (v (a % 8)))) (λ e. rw e)
+
+pub given-at : (p x : ℕ) (v : ℕ → ℕ) (o : ℕ) → o < 8 → has (ofPage p (given x v) (p * 8 + o)) ≡ tb x o
+given-at p x v o l =
+    let d : (p * 8 + o) / 8 ≡ p = omega arith in
+    let r : (p * 8 + o) % 8 ≡ o = omega arith in
+    given-has p x v (p * 8 + o) ∙ rw (d, r, eqb-same p)
+
+pub some-given : (p x : ℕ) (v : ℕ → ℕ) → x < 256 → someOn p (λ a. has (ofPage p (given x v) a)) ≡ not (eqb x 0)
+some-given p x v l = any-same (λ o. has (ofPage p (given x v) (p * 8 + o))) (tb x) 8 (λ o q. given-at p x v o q) ∙ sym (any-byte x l)
+
+-- only the values of the objects count
+pub given-same : (x : ℕ) (v w : ℕ → ℕ) → ((o : ℕ) → o < 8 → tb x o ≡ true → v o ≡ w o) → given x v ≡ given x w
+given-same x v w h = fun-ext (λ a. byB (tb x (a % 8)) (λ e. rw (e, h (a % 8) (omega arith) e)) (λ e. rw e))
+
 -- the tests on the byte that says what is out, for the four numbers that a valid state has there
 
-waiting-of : (k a v : ℕ) → k ≤ 3 → not (eqb k copyCell) ≡ waiting (waitOf k a v)
-waiting-of zero a v l = refl
-waiting-of (suc zero) a v l = refl
-waiting-of (suc (suc zero)) a v l = refl
-waiting-of (suc (suc (suc zero))) a v l = refl
-waiting-of (suc (suc (suc (suc k)))) a v l = absurd (omega arith)
+module _ (a : ℕ) (f : ℕ → Val) where
+  waiting-of : (k : ℕ) → k ≤ 3 → not (eqb k 0) ≡ waiting (waitOf k a f)
+  waiting-of zero l = refl
+  waiting-of (suc zero) l = refl
+  waiting-of (suc (suc zero)) l = refl
+  waiting-of (suc (suc (suc zero))) l = refl
+  waiting-of (suc (suc (suc (suc k)))) l = absurd (omega arith)
 
-forCommit-of : (k a v : ℕ) → k ≤ 3 → eqb k 3 ≡ forCommit (waitOf k a v)
-forCommit-of zero a v l = refl
-forCommit-of (suc zero) a v l = refl
-forCommit-of (suc (suc zero)) a v l = refl
-forCommit-of (suc (suc (suc zero))) a v l = refl
-forCommit-of (suc (suc (suc (suc k)))) a v l = absurd (omega arith)
+  forCommit-of : (k : ℕ) → k ≤ 3 → eqb k 3 ≡ forCommit (waitOf k a f)
+  forCommit-of zero l = refl
+  forCommit-of (suc zero) l = refl
+  forCommit-of (suc (suc zero)) l = refl
+  forCommit-of (suc (suc (suc zero))) l = refl
+  forCommit-of (suc (suc (suc (suc k)))) l = absurd (omega arith)
 
-forRead-of : (k a v b : ℕ) → k ≤ 3 → (eqb k 1 && eqb b a) ≡ forRead (waitOf k a v) b
-forRead-of zero a v b l = refl
-forRead-of (suc zero) a v b l = refl
-forRead-of (suc (suc zero)) a v b l = refl
-forRead-of (suc (suc (suc zero))) a v b l = refl
-forRead-of (suc (suc (suc (suc k)))) a v b l = absurd (omega arith)
+  forRead-of : (k b : ℕ) → k ≤ 3 → (eqb k 1 && eqb b a) ≡ forRead (waitOf k a f) b
+  forRead-of zero b l = refl
+  forRead-of (suc zero) b l = refl
+  forRead-of (suc (suc zero)) b l = refl
+  forRead-of (suc (suc (suc zero))) b l = refl
+  forRead-of (suc (suc (suc (suc k)))) b l = absurd (omega arith)
 
-forWrite-of : (k a v b : ℕ) → k ≤ 3 → (eqb k 2 && eqb b a) ≡ forWrite (waitOf k a v) b
-forWrite-of zero a v b l = refl
-forWrite-of (suc zero) a v b l = refl
-forWrite-of (suc (suc zero)) a v b l = refl
-forWrite-of (suc (suc (suc zero))) a v b l = refl
-forWrite-of (suc (suc (suc (suc k)))) a v b l = absurd (omega arith)
+  writesTo-of : (k p : ℕ) → k ≤ 3 → (eqb k 2 && eqb p (a / 8)) ≡ writesTo (waitOf k a f) p
+  writesTo-of zero p l = refl
+  writesTo-of (suc zero) p l = refl
+  writesTo-of (suc (suc zero)) p l = refl
+  writesTo-of (suc (suc (suc zero))) p l = refl
+  writesTo-of (suc (suc (suc (suc k)))) p l = absurd (omega arith)
 
-requested-of : (k a v p : ℕ) → k ≤ 3 → ((eqb k 1 || eqb k 2) && eqb p (a / 8)) ≡ requested (waitOf k a v) p
-requested-of zero a v p l = refl
-requested-of (suc zero) a v p l = refl
-requested-of (suc (suc zero)) a v p l = refl
-requested-of (suc (suc (suc zero))) a v p l = refl
-requested-of (suc (suc (suc (suc k)))) a v p l = absurd (omega arith)
+  forWrite-of : (k b : ℕ) → k ≤ 3 → (eqb k 2 && has (ofPage (a / 8) f b)) ≡ forWrite (waitOf k a f) b
+  forWrite-of zero b l = refl
+  forWrite-of (suc zero) b l = refl
+  forWrite-of (suc (suc zero)) b l = refl
+  forWrite-of (suc (suc (suc zero))) b l = refl
+  forWrite-of (suc (suc (suc (suc k)))) b l = absurd (omega arith)
+
+  requested-of : (k p : ℕ) → k ≤ 3 → ((eqb k 1 || eqb k 2) && eqb p (a / 8)) ≡ requested (waitOf k a f) p
+  requested-of zero p l = refl
+  requested-of (suc zero) p l = refl
+  requested-of (suc (suc zero)) p l = refl
+  requested-of (suc (suc (suc zero))) p l = refl
+  requested-of (suc (suc (suc (suc k)))) p l = absurd (omega arith)
 
 -- a test of all addresses, page by page
 all-pages : (f g : ℕ → Bool) → ((p : ℕ) → p < 32 → g p ≡ any 8 (λ o. f (p * 8 + o))) → anyTo g 32 ≡ any 256 f
@@ -139,14 +170,19 @@ module _ {i : ℕ} {s : List ℕ} {m : Station} (h : Is i s m) where
   pub open-at : not (eqb (opened s) 0) ≡ m .opened
   open-at = rw (get8 (start h) openCell 0 0 openFrom refl refl (omega arith) (omega arith)) (ap (λ (n : Station). n .opened) (h .is))
 
-  wait-cell : wait s ≡ view table 0 s waitCell 0 0
+  pub wait-cell : wait s ≡ view table 0 s waitCell 0 0
   wait-cell = get8 (start h) waitCell 0 0 waitFrom refl refl (omega arith) (omega arith)
 
-  address-cell : address s ≡ view table 0 s addressCell 0 0
+  pub address-cell : address s ≡ view table 0 s addressCell 0 0
   address-cell = get8 (start h) addressCell 0 0 addressFrom refl refl (omega arith) (omega arith)
 
-  waitingValue-cell : waitingValue s ≡ view table 0 s waitingValueCell 0 0
-  waitingValue-cell = get64 (start h) waitingValueCell 0 0 waitingValueFrom refl refl (omega arith) (omega arith)
+  pub waitingSet-cell : waitingSet s ≡ view table 0 s waitingSetCell 0 0
+  waitingSet-cell = get8 (start h) waitingSetCell 0 0 waitingSetFrom refl refl (omega arith) (omega arith)
+
+  waitingValue-cell : (o : ℕ) → o < 8 → getD (waitingValues s) o 0 ≡ view table 0 s waitingValueCell 0 o
+  unfolding waitingValues
+  waitingValue-cell o l =
+      values-at (λ o. waitingValue s o) 8 o (omega arith) l ∙ get64 (start h) waitingValueCell 0 o (waitingValueFrom + o * valueWidth) refl (omega arith) (omega arith) l
 
   pub open-le : opened s ≤ 1
   open-le = rw (get8 (start h) openCell 0 0 openFrom refl refl (omega arith) (omega arith)) (h .open-flag)
@@ -154,30 +190,46 @@ module _ {i : ℕ} {s : List ℕ} {m : Station} (h : Is i s m) where
   pub wait-le : wait s ≤ 3
   wait-le = rw wait-cell (h .wait-flag)
 
+  pub stands-at : wait s ≡ 2 → address s % 8 ≡ 0
+  stands-at = rw (wait-cell, address-cell) (h .stands)
+
   pub address-lt : address s < 256
   address-lt = rw address-cell (cell-lt (start h) addressCell 0 0)
 
-  pub waitingValue-lt : waitingValue s < 2 ^ 64
-  waitingValue-lt = rw waitingValue-cell (cell-lt (start h) waitingValueCell 0 0)
+  pub waitingSet-lt : waitingSet s < 256
+  waitingSet-lt = h .bytes waitingSetFrom
 
-  pub wait-is : m .wait ≡ waitOf (wait s) (address s) (waitingValue s)
-  wait-is = sym (rw (wait-cell, address-cell, waitingValue-cell) (ap (λ (n : Station). n .wait) (h .is)))
+  pub waitingValue-lt : (o : ℕ) → o < 8 → getD (waitingValues s) o 0 < 2 ^ 64
+  waitingValue-lt o l = rw (waitingValue-cell o l) (cell-lt (start h) waitingValueCell 0 o)
+
+  pub wait-is : m .wait ≡ waitOf (wait s) (address s) (given (waitingSet s) (λ o. getD (waitingValues s) o 0))
+  wait-is =
+      sym
+      (rw (wait-cell, address-cell, waitingSet-cell)
+      (ap (waitOf (view table 0 s waitCell 0 0) (view table 0 s addressCell 0 0))
+      (given-same (view table 0 s waitingSetCell 0 0) (λ o. getD (waitingValues s) o 0) (view table 0 s waitingValueCell 0) (λ o l e. waitingValue-cell o l))
+      ∙ ap (λ (n : Station). n .wait) (h .is)))
 
   pub waiting-at : not (eqb (wait s) 0) ≡ waiting (m .wait)
-  waiting-at = rw wait-is (waiting-of (wait s) (address s) (waitingValue s) wait-le)
+  waiting-at = rw wait-is (waiting-of (address s) _ (wait s) wait-le)
 
   pub forCommit-at : eqb (wait s) 3 ≡ forCommit (m .wait)
-  forCommit-at = rw wait-is (forCommit-of (wait s) (address s) (waitingValue s) wait-le)
+  forCommit-at = rw wait-is (forCommit-of (address s) _ (wait s) wait-le)
 
   pub forRead-at : (a : ℕ) → (eqb (wait s) 1 && eqb a (address s)) ≡ forRead (m .wait) a
-  forRead-at a = rw wait-is (forRead-of (wait s) (address s) (waitingValue s) a wait-le)
+  forRead-at a = rw wait-is (forRead-of (address s) _ (wait s) a wait-le)
 
-  pub forWrite-at : (a : ℕ) → (eqb (wait s) 2 && eqb a (address s)) ≡ forWrite (m .wait) a
-  forWrite-at a = rw wait-is (forWrite-of (wait s) (address s) (waitingValue s) a wait-le)
+  pub writesTo-at : (p : ℕ) → (eqb (wait s) 2 && eqb p (address s / 8)) ≡ writesTo (m .wait) p
+  writesTo-at p = rw wait-is (writesTo-of (address s) _ (wait s) p wait-le)
+
+  pub forWrite-at : (a : ℕ) → (eqb (wait s) 2 && eqb (a / 8) (address s / 8) && hasBit (waitingSet s) (a % 8)) ≡ forWrite (m .wait) a
+  forWrite-at a =
+      rw (and-assoc, wait-is, bit-of (waitingSet s) (a % 8), ← given-has (address s / 8) (waitingSet s) (λ o. getD (waitingValues s) o 0) a)
+      (forWrite-of (address s) _ (wait s) a wait-le)
 
   pub requested-at : (p : ℕ) → requestedB s p ≡ requested (m .wait) p
   unfolding requestedB
-  requested-at p = rw wait-is (requested-of (wait s) (address s) (waitingValue s) p wait-le)
+  requested-at p = rw wait-is (requested-of (address s) _ (wait s) p wait-le)
 
   -- sets
 

@@ -1,22 +1,23 @@
 -- What the checks tell that were passed, and how a call's refusals and results stand in the lent bytes.
-use Prim.Native.Nat.{ℕ, _+_, _≤_, _<_}
+use Prim.Native.Nat.{ℕ, zero, suc, _+_, _/_, _%_, _^_, _≤_, _<_}
 use mathlib.Core.Path.{_≡_, refl, sym, ap, _∙_}
 use mathlib.Core.Bool.{Bool, true, false, not, _&&_, _||_, cond}
 use mathlib.Core.Logic.{_≢_}
 use mathlib.Core.List.{List, [], _∷_, append-nil}
 use native.Mathlib.Omega.{arith}
+use native.Mathlib.Nat.{pow-suc}
 use lib.ListN.{length}
+use lib.Count.{ones, under, trailingZeros}
 use lib.Seq.{sets}
 use lib.Dec.{eqb, ltb, leb}
 use borrow.Author.Tests.{eqb-true, eqb-false, leb-true, eq-eqb, ne-eqb, not-true}
 use Rattle.sets.specs.Base.{turned}
-use Rattle.sets.specs.Laws.{byB, eqb-no, ltb-yes, not-no}
+use Rattle.sets.specs.Laws.{byB, ltb-yes, ltb-no, or-no, not-no}
 use Rattle.lists.specs.Tests.{and-l, and-r}
-use Rattle.station_state.specs.Layout.{stateLength, number, station, opened, wait, cached, hasBit, requestedB}
+use Rattle.station_state.specs.Layout.{stateLength, number, station, opened, wait}
 use Rattle.station_state.specs.Valid.{valid, restsOk}
 use Rattle.station_state.specs.Facts.{Ranged, valid-ranged}
 use Rattle.station_state.specs.Changes.{forCommitB, beginB}
-use Rattle.station_pages.specs.Pages.{usedPageB}
 use Rattle.message.specs.Stores.{length-up}
 use Rattle.station_commit.specs.Commit.{Filled, filled, commitBytes, commitFilled}
 use Rattle.station_commit.specs.Filled.{commit-length}
@@ -24,10 +25,10 @@ use Rattle.station_callbacks.specs.Callbacks.{sends, flat, Posted, posted, post
 use Rattle.station_callbacks.specs.Posting.{Whole, close-post}
 use Rattle.station_answer.specs.declared.Answer.the-variants.{Refused, Begun, Waits, Aborted}
 use Rattle.station_answer.specs.declared.Said.{Said}
-use Rattle.station_answer.specs.Did.{Did, does, doesAll, refuses, said, outcome, delivered, handed, Delivered}
+use Rattle.station_answer.specs.Did.{Did, does, doesAll, said, outcome, delivered, handed, Delivered}
 use Rattle.station_answer.specs.Handed.{hand-all}
 use Rattle.station_answer.specs.Ask.{lockingB, openB}
-use Rattle.station_owner.specs.Owner.{ready, called, unlessB, checkBeginB, openThenB, checkOpenB, checkAddressB, checkPurgeB, commitCalled, abortsB, atRest, noBegin, ownBeginB}
+use Rattle.station_owner.specs.Owner.{ready, called, unlessB, checkBeginB, openThenB, checkOpenB, checkReadB, badSetB, checkWriteB, checkPurgeB, commitCalled, abortsB, atRest, noBegin, ownBeginB}
 use Rattle.message.specs.Commit.{stationRoom, commitRoom}
 
 -- state and output passed
@@ -65,34 +66,55 @@ open-passed s n e =
     let b = passed (not (openB s)) 8 n (λ q. absurd (omega arith)) (a .1) in
     eqb-false _ _ (not-true (eqb (opened s) 0) (not-no (openB s) (b .0)))
 
--- 15, behind the others
-pub check-first : (a : ℕ) (long : Bool) (s : List ℕ) {n : ℕ} → n ≡ checkAddressB a false s → n ≢ 0 → n ≡ checkAddressB a long s
-unfolding checkAddressB openThenB
-check-first a long s {n} e z =
-    byB (ltb a 256)
-    (λ l.
+-- they come ahead of other numbers, which count where there is none of them
+pub open-first : (s : List ℕ) {n : ℕ} → n ≡ openThenB s 0 → n ≢ 0 → (k : ℕ) → openThenB s k ≡ n
+unfolding openThenB
+open-first s {n} e z k =
     byB (eqb (wait s) 0)
-    (λ w. byB (openB s) (λ o. absurd (z (rw (l, w, o) at e))) (λ o. rw (l, w, o) (rw (l, w, o) at e)))
-    (λ w. rw (l, w) (rw (l, w) at e)))
-    (λ l. rw l (rw l at e))
+    (λ w. byB (openB s) (λ o. absurd (z (rw (w, o) at e))) (λ o. rw (w, o) (sym (rw (w, o) at e))))
+    (λ w. rw w (sym (rw w at e)))
 
-pub check-last : (a : ℕ) (long : Bool) (s : List ℕ) {n : ℕ} → n ≡ checkAddressB a false s → n ≡ 0 → checkAddressB a long s ≡ turned long 15 0
-unfolding checkAddressB openThenB
-check-last a long s {n} e z =
-    let none : checkAddressB a false s ≡ 0 = sym e ∙ z in
-    let l = passed (not (ltb a 256)) 4 _ (λ q. absurd (omega arith)) none in
-    let w = passed (not (eqb (wait s) 0)) 7 _ (λ q. absurd (omega arith)) (l .1) in
+pub open-last : (s : List ℕ) {n : ℕ} → n ≡ openThenB s 0 → n ≡ 0 → (k : ℕ) → openThenB s k ≡ k
+unfolding openThenB
+open-last s {n} e z k =
+    let none : openThenB s 0 ≡ 0 = sym e ∙ z in
+    let w = passed (not (eqb (wait s) 0)) 7 _ (λ q. absurd (omega arith)) none in
     let o = passed (not (openB s)) 8 0 (λ q. absurd (omega arith)) (w .1) in
-    rw (l .0, w .0, o .0)
+    rw (w .0, o .0)
 
 -- the commit of an open transaction has room where number 1 was passed
 pub commit-room : (s o c : List ℕ) → Ready s o c → opened s ≢ 0 → length (commitBytes s) ≤ length c
 commit-room s o c r n =
     omega (arith, commit-length s, r .commit-fits, r .ranged .reads-few n .most, r .ranged .writes-few n .most)
 
-pub address-passed : (a : ℕ) (long : Bool) (s : List ℕ) → checkAddressB a long s ≡ 0 → a < 256
-unfolding checkAddressB
-address-passed a long s e = ltb-yes _ _ (not-no (ltb a 256) ((passed (not (ltb a 256)) 4 _ (λ q. absurd (omega arith)) e) .0))
+pub read-passed : (a : ℕ) (s : List ℕ) → checkReadB a s ≡ 0 → a < 256
+unfolding checkReadB
+read-passed a s e = ltb-yes _ _ (not-no (ltb a 256) ((passed (not (ltb a 256)) 4 _ (λ q. absurd (omega arith)) e) .0))
+
+pub set-passed : (p x : ℕ) (s : List ℕ) → badSetB p x s ≡ false → (p < 32) × (x < 256)
+unfolding badSetB
+set-passed p x s e =
+    let several = not (lockingB s) && ltb 1 (ones x) in
+    let high = or-no (ltb 31 p || eqb x 0 || ltb 255 x) several e in
+    let wide = or-no (ltb 31 p || eqb x 0) (ltb 255 x) (high .0) in
+    let page = or-no (ltb 31 p) (eqb x 0) (wide .0) in
+    (omega (arith, ltb-no 31 p (page .0)), omega (arith, ltb-no 255 x (wide .1)))
+
+pub write-passed : (p x : ℕ) (s : List ℕ) → checkWriteB p x s ≡ 0 → (p < 32) × (x < 256)
+unfolding checkWriteB
+write-passed p x s e = set-passed p x s ((passed (badSetB p x s) 4 _ (λ q. absurd (omega arith)) e) .0)
+
+-- the lowest object of a set that has one
+lowest-by : (k n d : ℕ) → n % 2 ≡ d → n < 2 ^ suc k → n ≢ 0 → (n / 2 < 2 ^ k → n / 2 ≢ 0 → trailingZeros k (n / 2) < k) → under d (trailingZeros k (n / 2)) < suc k
+lowest-by k n zero e l z rest =
+    let half : n / 2 < 2 ^ k = omega (arith, pow-suc 2 k, l) in
+    omega (arith, rest half (λ q. z (omega arith)))
+lowest-by k n (suc d) e l z rest = omega arith
+
+pub lowest-lt : (k n : ℕ) → n < 2 ^ k → n ≢ 0 → trailingZeros k n < k
+unfolding trailingZeros
+lowest-lt zero n l z = absurd (z (omega arith))
+lowest-lt (suc k) n l z = lowest-by k n (n % 2) refl l z (λ h y. lowest-lt k (n / 2) h y)
 
 pub purge-passed : (p : ℕ) (s : List ℕ) → checkPurgeB p s ≡ 0 → p < 32
 unfolding checkPurgeB

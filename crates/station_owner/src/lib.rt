@@ -1,12 +1,13 @@
 // The operations of a station's owner, on a lent state and lent output.
 ghost use mathlib.Core.Path.{_≡_};
-ghost use mathlib.Core.Bool.{false};
+ghost use mathlib.Core.Logic.{_≢_};
 ghost use Prim.Native.Nat.{_+_, _*_, _≤_, _<_};
 ghost use lib.ListN.{length};
 ghost use lib.Seq.{sets};
+ghost use lib.Count.{trailingZeros};
 ghost use Rattle.station_answer.specs.Did.{said, outcome, delivered, handed};
 ghost use Rattle.station_callbacks.specs.Callbacks.{sends, posted, post};
-ghost use Rattle.station_owner.specs.Owner.{ready as Owner·ready, atRest, called, commitCalled, noBegin, checkOpenB, longReadB, longWriteB, checkAddressB, checkPurgeB, requestB, shownB, readHereB, mayWriteB, asksB, abortsB, ownBeginB, readAsB, ownReadB, writeAsB, ownWriteB, ownAbortB, ownPurgeB};
+ghost use Rattle.station_owner.specs.Owner.{ready as Owner·ready, called, commitCalled, checkOpenB, longReadB, checkReadB, badSetB, checkWriteB, checkPurgeB, readRequestB, shownB, readHereB, atHandB, namedB, askB, abortsB, ownBeginB, readAsB, ownReadB, writeAsB, ownWriteSetB, onlyAt, ownWriteB, ownAbortB, ownPurgeB, atRest, noBegin};
 ghost use Rattle.station_state.specs.Layout.{stateLength};
 ghost use Rattle.message.specs.Commit.{stationRoom};
 use station_answer::Answer;
@@ -71,17 +72,6 @@ fn check_open(s: &[u8]) -> u32
     0
 }
 
-// What a read and a write are both refused for: 4, 7 and 8.
-fn check_address(a: u32, s: &[u8]) -> u32
-    requires { ⌜ length (now s) ≡ stateLength ⌝ }
-    ensures { λ r. ⌜ r ≡ checkAddressB a false (now (s .entry)) ⌝ }
-{
-    if a >= 256 {
-        return 4;
-    }
-    check_open(s)
-}
-
 // Whether a would be one recorded read too many.
 fn long_read(a: usize, s: &[u8]) -> bool
     requires { ⌜ (length (now s) ≡ stateLength) × (a < 256) ⌝ }
@@ -93,22 +83,14 @@ fn long_read(a: usize, s: &[u8]) -> bool
     limits::LIMIT <= station_state::count_in(s, READ_SET)
 }
 
-// Whether a would be one written object too many.
-fn long_write(a: usize, s: &[u8]) -> bool
-    requires { ⌜ (length (now s) ≡ stateLength) × (a < 256) ⌝ }
-    ensures { λ r. ⌜ r ≡ longWriteB a (now (s .entry)) ⌝ }
-{
-    if station_state::member(s, WRITTEN_SET, a) {
-        return false;
-    }
-    limits::LIMIT <= station_state::count_in(s, WRITTEN_SET)
-}
-
 fn check_read(a: u32, s: &[u8]) -> u32
     requires { ⌜ length (now s) ≡ stateLength ⌝ }
-    ensures { λ r. ⌜ r ≡ checkAddressB a (longReadB a (now (s .entry))) (now (s .entry)) ⌝ }
+    ensures { λ r. ⌜ r ≡ checkReadB a (now (s .entry)) ⌝ }
 {
-    let n = check_address(a, s);
+    if a >= 256 {
+        return 4;
+    }
+    let n = check_open(s);
     if n != 0 {
         return n;
     }
@@ -118,15 +100,26 @@ fn check_read(a: u32, s: &[u8]) -> u32
     0
 }
 
-fn check_write(a: u32, s: &[u8]) -> u32
+// Whether x is no set of objects of page p, or one that this owner may not write.
+fn bad_set(p: u32, x: u32, s: &[u8]) -> bool
     requires { ⌜ length (now s) ≡ stateLength ⌝ }
-    ensures { λ r. ⌜ r ≡ checkAddressB a (longWriteB a (now (s .entry))) (now (s .entry)) ⌝ }
+    ensures { λ r. ⌜ r ≡ badSetB p x (now (s .entry)) ⌝ }
 {
-    let n = check_address(a, s);
+    (p > 31) | (x == 0) | (x > 255) | ((s[KIND] != 0) & (u32::count_ones(x) > 1))
+}
+
+fn check_write(p: u32, x: u32, s: &[u8]) -> u32
+    requires { ⌜ length (now s) ≡ stateLength ⌝ }
+    ensures { λ r. ⌜ r ≡ checkWriteB p x (now (s .entry)) ⌝ }
+{
+    if bad_set(p, x, s) {
+        return 4;
+    }
+    let n = check_open(s);
     if n != 0 {
         return n;
     }
-    if long_write(a as usize, s) {
+    if station_state::written_with(s, p as usize, x as u8) > limits::LIMIT {
         return 15;
     }
     0
@@ -173,15 +166,15 @@ fn shown(a: usize, s: &[u8]) -> bool
         & !station_state::member(s, UNAVAILABLE, a)
 }
 
-// Asks for an address by a message of kind k.
-fn request(k: u8, a: usize, s: &[u8], o: &mut [u8])
+// Asks for an address.
+fn request(a: usize, s: &[u8], o: &mut [u8])
     requires { ⌜ (length (now s) ≡ stateLength) × (stationRoom ≤ length (now o)) × (a < 256) ⌝ }
-    ensures { λ _. ⌜ now (o .exit) ≡ sets (now (o .entry)) 0 (requestB k a (now (s .entry))) ⌝ }
+    ensures { λ _. ⌜ now (o .exit) ≡ sets (now (o .entry)) 0 (readRequestB a (now (s .entry))) ⌝ }
 {
     message::put_up(
         o,
         0,
-        k,
+        1,
         s[STATION],
         (a / 8) as u8,
         (a % 8) as u8,
@@ -201,7 +194,7 @@ fn read_here(a: usize, s: &mut [u8], o: &mut [u8]) -> Said
         station_state::record_read(s, a);
         return station_answer::say(Answer::Value(x), 0);
     }
-    request(1, a, s, o);
+    request(a, s, o);
     station_state::for_read(s, a as u8);
     station_answer::say(Answer::Waits, 1)
 }
@@ -240,53 +233,120 @@ pub fn read(address: u32, s: &mut [u8], o: &mut [u8], c: &mut [u8]) -> Said
     read_as(address as usize, s, o)
 }
 
-fn may_write(a: usize, s: &[u8]) -> bool
-    requires { ⌜ (length (now s) ≡ stateLength) × (a < 256) ⌝ }
-    ensures { λ r. ⌜ r ≡ mayWriteB a (now (s .entry)) ⌝ }
+// The objects of page p that may be written at once.
+fn at_hand(p: usize, s: &[u8]) -> u8
+    requires { ⌜ (length (now s) ≡ stateLength) × (p < 32) ⌝ }
+    ensures { λ r. ⌜ r ≡ atHandB p (now (s .entry)) ⌝ }
 {
     if s[KIND] == 0 {
-        return station_state::member(s, LOCKS, a)
-            | station_state::has_bit32(station_state::whole(s), a / 8);
+        if station_state::has_bit32(station_state::whole(s), p) {
+            return 255;
+        }
+        return s[LOCKS + p];
     }
-    shown(a, s)
+    if station_state::has_bit32(station_state::cached(s), p) {
+        return !s[UNAVAILABLE + p];
+    }
+    0
 }
 
-// The kind of message that asks for a write: 2 by a locking station, 1 by a validating one.
-fn asks(s: &[u8]) -> u8
-    requires { ⌜ length (now s) ≡ stateLength ⌝ }
-    ensures { λ r. ⌜ r ≡ asksB (now (s .entry)) ⌝ }
+// Those of x that must be asked for.
+fn named(p: usize, x: u8, s: &[u8]) -> u8
+    requires { ⌜ (length (now s) ≡ stateLength) × (p < 32) ⌝ }
+    ensures { λ r. ⌜ r ≡ namedB p x (now (s .entry)) ⌝ }
+{
+    x & !at_hand(p, s)
+}
+
+// The lowest object of a set.
+fn lowest(x: u8) -> usize
+    requires { ⌜ x ≢ 0 ⌝ }
+    ensures { λ r. ⌜ (r ≡ trailingZeros 8 x) × (r < 8) ⌝ }
+{
+    u8::trailing_zeros(x) as usize
+}
+
+// Asks for the objects x of page p: a locking station by 2, a validating one by 1.
+fn ask(p: usize, x: u8, s: &[u8], o: &mut [u8])
+    requires { ⌜ (length (now s) ≡ stateLength) × (stationRoom ≤ length (now o)) × (p < 32) × (x ≢ 0) ⌝ }
+    ensures { λ _. ⌜ now (o .exit) ≡ sets (now (o .entry)) 0 (askB p x (now (s .entry))) ⌝ }
 {
     if s[KIND] == 0 {
-        return 2;
+        message::put_up(
+            o,
+            0,
+            2,
+            s[STATION],
+            p as u8,
+            0,
+            station_state::number(s),
+            0,
+            x,
+        );
+        return;
     }
-    1
+    request(p * station_state::OBJECTS + lowest(x), s, o);
 }
 
-fn write_as(a: usize, v: u64, s: &mut [u8], o: &mut [u8]) -> Said
-    requires { ⌜ (length (now s) ≡ stateLength) × (stationRoom ≤ length (now o)) × (a < 256) ⌝ }
-    ensures { λ r. ⌜ delivered (now (s .exit)) (now (o .exit)) r ≡ handed (now (o .entry)) (writeAsB a v (now (s .entry))) ⌝ }
+fn write_as(p: usize, x: u8, values: &[u64; 8], s: &mut [u8], o: &mut [u8]) -> Said
+    requires { ⌜ (length (now s) ≡ stateLength) × (stationRoom ≤ length (now o)) × (p < 32) ⌝ }
+    ensures { λ r. ⌜ delivered (now (s .exit)) (now (o .exit)) r ≡ handed (now (o .entry)) (writeAsB p x (now (values .entry)) (now (s .entry))) ⌝ }
 {
-    if may_write(a, s) {
-        station_state::write_local(s, a, v);
+    let n = named(p, x, s);
+    if n == 0 {
+        station_state::write_all(s, p, x, values);
         return station_answer::say(Answer::Written, 0);
     }
-    request(asks(s), a, s, o);
-    station_state::for_write(s, a as u8, v);
+    ask(p, n, s, o);
+    station_state::for_write(s, p, x, values);
     station_answer::say(Answer::Waits, 1)
 }
 
-// Writes a value to an address.
-pub fn write(address: u32, value: u64, s: &mut [u8], o: &mut [u8], c: &mut [u8]) -> Said
-    ensures { λ r. ⌜ outcome (now (s .exit)) (now (o .exit)) (now (c .exit)) r ≡ called (now (s .entry)) (now (o .entry)) (now (c .entry)) (ownWriteB address value (now (s .entry))) ⌝ }
+// Writes to each object of a set of one page its value, or to none of them.
+pub fn write_set(
+    page: u32,
+    set: u32,
+    values: &[u64; 8],
+    s: &mut [u8],
+    o: &mut [u8],
+    c: &mut [u8],
+) -> Said
+    ensures { λ r. ⌜ outcome (now (s .exit)) (now (o .exit)) (now (c .exit)) r ≡ called (now (s .entry)) (now (o .entry)) (now (c .entry)) (ownWriteSetB page set (now (values .entry)) (now (s .entry))) ⌝ }
 {
     if !ready(s, o, c) {
         return refuse(1);
     }
-    let n = check_write(address, s);
+    let n = check_write(page, set, s);
     if n != 0 {
         return refuse(n);
     }
-    write_as(address as usize, value, s, o)
+    write_as(page as usize, set as u8, values, s, o)
+}
+
+// Values by object, of which one counts.
+fn only(k: usize, value: u64) -> [u64; 8]
+    requires { ⌜ k < 8 ⌝ }
+    ensures { λ r. ⌜ r ≡ onlyAt k value ⌝ }
+{
+    let mut values = [0u64; 8];
+    values[k] = value;
+    values
+}
+
+// Writes a value to an address: the set of one.
+pub fn write(address: u32, value: u64, s: &mut [u8], o: &mut [u8], c: &mut [u8]) -> Said
+    ensures { λ r. ⌜ outcome (now (s .exit)) (now (o .exit)) (now (c .exit)) r ≡ called (now (s .entry)) (now (o .entry)) (now (c .entry)) (ownWriteB address value (now (s .entry))) ⌝ }
+{
+    let k = (address % 8) as usize;
+    let values = only(k, value);
+    write_set(
+        address / 8,
+        le::wide(station_state::bit8(k)),
+        &values,
+        s,
+        o,
+        c,
+    )
 }
 
 // Commits the open transaction: the commit's bytes go to `c`.

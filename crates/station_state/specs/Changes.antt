@@ -2,10 +2,10 @@
 use Prim.Native.Nat.{ℕ, zero, suc, _+_, _-_, _*_, _/_, _%_, _^_}
 use mathlib.Core.List.{List}
 use mathlib.Core.Bool.{Bool, _||_, cond}
-use lib.ListN.{getD, set}
+use lib.ListN.{getD, set, replicate}
 use lib.Bits.{bitAnd, bitOr}
 use Rattle.le.specs.Le.{u32At, setU32, setU64}
-use Rattle.station_state.specs.Layout.{setRow, waitingValueFrom, numberFrom, wholeFrom, openFrom, waitFrom, addressFrom, copyFrom, readValueFrom, writtenValueFrom, keptFrom, valueWidth, numberWidth, seenFrom, copyOf, versionOf, member, number, locks, writtenSet, readSetFrom, writtenSetFrom, locksFrom, namedFrom}
+use Rattle.station_state.specs.Layout.{setRow, waitingValueFrom, numberFrom, wholeFrom, openFrom, waitFrom, addressFrom, waitingSetFrom, copyFrom, readValueFrom, writtenValueFrom, keptFrom, valueWidth, numberWidth, seenFrom, copyOf, waitingValue, versionOf, member, hasBit, number, locks, writtenSet, waitingSet, readSetFrom, writtenSetFrom, locksFrom, namedFrom}
 
 -- address a joins the object sets from `at`
 unfoldable pub addTo : List ℕ → ℕ → ℕ → List ℕ
@@ -45,6 +45,17 @@ firstUseB a s = cond (usedB s a) s (setU32 s (seenFrom + a * numberWidth) (versi
 unfoldable pub writeLocalB : ℕ → ℕ → List ℕ → List ℕ
 writeLocalB a v s = setU64 (setU64 (addTo (firstUseB a s) writtenSetFrom a) (writtenValueFrom + a * valueWidth) v) (copyFrom + a * valueWidth) v
 
+-- "all are written": the objects of x on page p, rising, with the values of f by object
+unfoldable pub writeObjectB : ℕ → ℕ → ℕ → ℕ → List ℕ → List ℕ
+writeObjectB p x o v s = cond (hasBit x o) (writeLocalB (p * 8 + o) v s) s
+
+unfoldable pub writtenTo : ℕ → ℕ → List ℕ → List ℕ → ℕ → List ℕ
+writtenTo p x f s zero = s
+writtenTo p x f s (suc o) = writeObjectB p x o (getD f o 0) (writtenTo p x f s o)
+
+unfoldable pub writeAllB : ℕ → ℕ → List ℕ → List ℕ → List ℕ
+writeAllB p x f s = writtenTo p x f s 8
+
 -- what is out: nothing, a read, a write, a commit
 unfoldable pub idleB : List ℕ → List ℕ
 idleB s = set s waitFrom 0
@@ -52,11 +63,35 @@ idleB s = set s waitFrom 0
 unfoldable pub forReadB : ℕ → List ℕ → List ℕ
 forReadB a s = set (set s waitFrom 1) addressFrom a
 
-unfoldable pub forWriteB : ℕ → ℕ → List ℕ → List ℕ
-forWriteB a v s = setU64 (set (set s waitFrom 2) addressFrom a) waitingValueFrom v
+-- the values of the objects of x are kept; the others' bytes stay
+unfoldable pub waitObjectB : ℕ → ℕ → ℕ → List ℕ → List ℕ
+waitObjectB x o v s = cond (hasBit x o) (setU64 s (waitingValueFrom + o * valueWidth) v) s
+
+unfoldable pub waitingTo : ℕ → List ℕ → List ℕ → ℕ → List ℕ
+waitingTo x f s zero = s
+waitingTo x f s (suc o) = waitObjectB x o (getD f o 0) (waitingTo x f s o)
+
+unfoldable pub waitAllB : ℕ → List ℕ → List ℕ → List ℕ
+waitAllB x f s = waitingTo x f s 8
+
+unfoldable pub forWriteB : ℕ → ℕ → List ℕ → List ℕ → List ℕ
+forWriteB p x f s = waitAllB x f (set (set (set s waitFrom 2) addressFrom (p * 8)) waitingSetFrom x)
+
+-- eight values by object
+unfoldable pub valuesTo : (ℕ → ℕ) → ℕ → List ℕ
+valuesTo v zero = replicate 8 0
+valuesTo v (suc o) = set (valuesTo v o) o (v o)
+
+-- what is kept is there when the grant arrives
+unfoldable pub waitingValues : List ℕ → List ℕ
+waitingValues s = valuesTo (λ o. waitingValue s o) 8
 
 unfoldable pub forCommitB : List ℕ → List ℕ
 forCommitB s = set s waitFrom 3
+
+-- the objects of the waiting set join the locks on page p
+unfoldable pub lockWaitingB : ℕ → List ℕ → List ℕ
+lockWaitingB p s = set s (locksFrom + p) (bitOr (locks s p) (waitingSet s))
 
 -- "the whole lock becomes locks on those objects"
 unfoldable pub loosenB : ℕ → List ℕ → List ℕ

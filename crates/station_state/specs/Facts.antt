@@ -1,6 +1,6 @@
 -- What number 1 tells of a state that passes.
-use Prim.Native.Nat.{ℕ, _+_, _≤_, _<_}
-use mathlib.Core.Path.{_≡_, refl, sym, ap, _∙_}
+use Prim.Native.Nat.{ℕ, _+_, _/_, _%_, _≤_, _<_}
+use mathlib.Core.Path.{_≡_, refl, sym, _∙_, ap}
 use mathlib.Core.List.{List}
 use mathlib.Core.Logic.{_≢_}
 use mathlib.Core.Bool.{Bool, true, false, not, _&&_, _||_, cond, false≢true}
@@ -12,9 +12,9 @@ use native.Mathlib.Omega.{arith}
 use Rattle.limits.specs.Limit.{limit}
 use Rattle.sets.specs.Laws.{byB}
 use Rattle.lists.specs.Tests.{and-l, and-r, and-both}
-use Rattle.station_state.specs.Layout.{keptFrom, readSetFrom, writtenSetFrom, locksFrom, stateLength, keptOf, number, whole, station, kind, opened, wait, address, member, countIn, noneIn, stationFrom}
+use Rattle.station_state.specs.Layout.{keptFrom, readSetFrom, writtenSetFrom, locksFrom, stateLength, keptOf, number, whole, station, kind, opened, wait, address, waitingSet, member, countIn, writtenWith, noneIn, stationFrom}
 use Rattle.station_state.specs.Sets.{none-numbers, joined}
-use Rattle.station_state.specs.Valid.{fieldsOk, ownKept, closedOk, firstOk, fewIn, limitedOk, worksOk, locklessOk, holdsOk, valid, restsOk}
+use Rattle.station_state.specs.Valid.{fieldsOk, ownKept, closedOk, firstOk, setOk, outOk, fewIn, fewWritten, limitedOk, worksOk, locklessOk, holdsOk, valid, restsOk}
 use Rattle.le.specs.Le.{u32At, u64At}
 
 -- no transaction is open
@@ -34,6 +34,11 @@ pub record Few (s : List ℕ) (at : ℕ) (out : Bool) : Type 0 where
   pub most : countIn s at ≤ limit
   pub room : out ≡ true → member s at (address s) ≡ false → countIn s at + 1 ≤ limit
 
+-- what is written within the limit, with all that a write that is out will write
+pub record FewWritten (s : List ℕ) : Type 0 where
+  pub most : countIn s writtenSetFrom ≤ limit
+  pub room : wait s ≡ 2 → writtenWith s (address s / 8) (waitingSet s) ≤ limit
+
 pub record Ranged (s : List ℕ) : Type 0 where
   pub size : length s ≡ stateLength
   pub station-fits : station s ≤ 7
@@ -44,8 +49,9 @@ pub record Ranged (s : List ℕ) : Type 0 where
   pub not-own : keptOf s (station s) ≡ 0
   pub closed : opened s ≡ 0 → Closed s
   pub first : opened s ≢ 0 → wait s ≡ 1 → (member s readSetFrom (address s) ≡ false) × (member s writtenSetFrom (address s) ≡ false)
+  pub asks : opened s ≢ 0 → wait s ≡ 2 → (address s % 8 ≡ 0) × (waitingSet s ≢ 0)
   pub reads-few : opened s ≢ 0 → Few s readSetFrom (eqb (wait s) 1)
-  pub writes-few : opened s ≢ 0 → Few s writtenSetFrom (eqb (wait s) 2)
+  pub writes-few : opened s ≢ 0 → FewWritten s
   pub lockless : (eqb (kind s) 0 && not (eqb (opened s) 0)) ≡ false → Lockless s
 
 all-3 : (a b c : Bool) → a && b && c ≡ true → (a ≡ true) × (b ≡ true) × (c ≡ true)
@@ -89,6 +95,30 @@ few-of s at out h =
       room = λ o m. absurd (false≢true (sym (rw (o, m) at e)));
     })
 
+written-of : (s : List ℕ) → fewWritten s ≡ true → FewWritten s
+unfolding fewWritten writtenWith
+written-of s h =
+    byB (eqb (wait s) 2)
+    (λ e.
+    let l = leb-true (writtenWith s (address s / 8) (waitingSet s)) limit (rw e at h) in
+    record { most = omega (arith, l); room = λ o. l })
+    (λ e.
+    record {
+      most = leb-true (countIn s writtenSetFrom) limit (rw e at h);
+      room = λ o. absurd (false≢true (sym e ∙ eq-eqb (wait s) 2 o));
+    })
+
+out-first : (s : List ℕ) → outOk s ≡ true → wait s ≡ 1 → firstOk s ≡ true
+unfolding outOk
+out-first s h e = taken (eqb (wait s) 1) (firstOk s) (cond (eqb (wait s) 2) (setOk s) true) (eq-eqb _ _ e) h
+
+out-set : (s : List ℕ) → outOk s ≡ true → wait s ≡ 2 → (address s % 8 ≡ 0) × (waitingSet s ≢ 0)
+unfolding outOk setOk
+out-set s h e =
+    let one : setOk s ≡ true = rw e at h in
+    let a = eqb (address s % 8) 0 in
+    (eqb-true _ _ (and-l a _ one), eqb-false _ _ (not-true (eqb (waitingSet s) 0) (and-r a _ one)))
+
 pub valid-ranged : (s : List ℕ) → valid s ≡ true → Ranged s
 unfolding valid fieldsOk ownKept worksOk firstOk limitedOk holdsOk
 valid-ranged s h =
@@ -103,9 +133,10 @@ valid-ranged s h =
     let hf : front ≡ true = and-l front (fields && others && works && holds) h in
     let u = all-4 fields others works holds (and-r front (fields && others && works && holds) h) in
     let f = all-4 (leb (kind s) 1) (leb (opened s) 1) (leb (wait s) 3) counted (u .0) in
-    let later = (not (eqb (wait s) 1) || firstOk s) && limitedOk s in
+    let later = outOk s && limitedOk s in
     let works-are : opened s ≢ 0 → later ≡ true = λ n. passed (eqb (opened s) 0) (closedOk s) later (ne-eqb _ _ n) (u .2) in
-    let few : opened s ≢ 0 → limitedOk s ≡ true = λ n. and-r (not (eqb (wait s) 1) || firstOk s) (limitedOk s) (works-are n) in
+    let out : opened s ≢ 0 → outOk s ≡ true = λ n. and-l (outOk s) (limitedOk s) (works-are n) in
+    let few : opened s ≢ 0 → limitedOk s ≡ true = λ n. and-r (outOk s) (limitedOk s) (works-are n) in
     let reads = fewIn s readSetFrom (eqb (wait s) 1) in
     record {
       size = eqb-true _ _ (and-l sized (leb (station s) 7) hf);
@@ -117,11 +148,12 @@ valid-ranged s h =
       not-own = eqb-true _ _ (not-false (eqb (keptOf s (station s)) 0) (not-true (not (eqb (keptOf s (station s)) 0)) (u .1)));
       closed = λ e. closed-of s (taken (eqb (opened s) 0) (closedOk s) later (eq-eqb _ _ e) (u .2));
       first = λ n e.
-          let one : firstOk s ≡ true = or-else (not (eqb (wait s) 1)) (firstOk s) (rw (eq-eqb (wait s) 1 e)) (and-l (not (eqb (wait s) 1) || firstOk s) (limitedOk s) (works-are n)) in
+          let one : firstOk s ≡ true = out-first s (out n) e in
           let a = not (member s readSetFrom (address s)) in
           (not-true (member s readSetFrom (address s)) (and-l a _ one), not-true (member s writtenSetFrom (address s)) (and-r a _ one));
-      reads-few = λ n. few-of s readSetFrom (eqb (wait s) 1) (and-l reads _ (few n));
-      writes-few = λ n. few-of s writtenSetFrom (eqb (wait s) 2) (and-r reads _ (few n));
+      asks = λ n e. out-set s (out n) e;
+      reads-few = λ n. few-of s readSetFrom (eqb (wait s) 1) (and-l reads (fewWritten s) (few n));
+      writes-few = λ n. written-of s (and-r reads (fewWritten s) (few n));
       lockless = λ e. lockless-of s (passed own-in true (locklessOk s) e (u .3));
     }
 

@@ -1,9 +1,10 @@
 -- Where each field of a station's state stands: docs/STATE.md, "A station's state". Said here alone; the code has the same in src/lib.rt.
-use Prim.Native.Nat.{ℕ, _+_, _*_, _/_, _%_, _^_}
+use Prim.Native.Nat.{ℕ, _+_, _-_, _*_, _/_, _%_, _^_}
 use mathlib.Core.List.{List, [], _∷_}
 use mathlib.Core.Bool.{Bool, not, _&&_, _||_}
 use lib.ListN.{getD}
 use lib.Bits.{bitAnd}
+use lib.Count.{ones}
 use lib.Dec.{eqb}
 use Rattle.sets.specs.Size.{size}
 use Rattle.le.specs.Le.{u32At, u64At}
@@ -37,7 +38,7 @@ abbrev pub waitingValueFrom : ℕ
 waitingValueFrom = writtenValueFrom + 256 * valueWidth
 
 abbrev pub keptFrom : ℕ
-keptFrom = waitingValueFrom + valueWidth
+keptFrom = waitingValueFrom + 8 * valueWidth
 
 abbrev pub versionFrom : ℕ
 versionFrom = keptFrom + 8 * numberWidth
@@ -85,8 +86,11 @@ waitFrom = openFrom + 1
 abbrev pub addressFrom : ℕ
 addressFrom = waitFrom + 1
 
+abbrev pub waitingSetFrom : ℕ
+waitingSetFrom = addressFrom + 1
+
 abbrev pub stateLength : ℕ
-stateLength = addressFrom + 1
+stateLength = waitingSetFrom + 1
 
 -- THE SAME AS A TABLE OF REGIONS for crate cells: width, rows, columns
 abbrev pub table : List Region
@@ -94,7 +98,7 @@ table =
     region valueWidth 1 256  -- copy
     ∷ region valueWidth 1 256  -- read value
     ∷ region valueWidth 1 256  -- written value
-    ∷ region valueWidth 1 1  -- waiting value
+    ∷ region valueWidth 1 8  -- waiting value, by object
     ∷ region numberWidth 8 1  -- kept, by requester
     ∷ region numberWidth 1 256  -- version
     ∷ region numberWidth 1 256  -- seen version
@@ -111,6 +115,7 @@ table =
     ∷ region 1 1 1  -- open
     ∷ region 1 1 1  -- wait
     ∷ region 1 1 1  -- address
+    ∷ region 1 1 1  -- waiting set
     ∷ []
 
 -- each region's position in it
@@ -174,6 +179,9 @@ waitCell = openCell + 1
 abbrev pub addressCell : ℕ
 addressCell = waitCell + 1
 
+abbrev pub waitingSetCell : ℕ
+waitingSetCell = addressCell + 1
+
 -- FIELDS, by address
 abbrev pub copyOf : List ℕ → ℕ → ℕ
 copyOf s a = u64At s (copyFrom + a * valueWidth)
@@ -184,8 +192,9 @@ readValue s a = u64At s (readValueFrom + a * valueWidth)
 abbrev pub writtenValue : List ℕ → ℕ → ℕ
 writtenValue s a = u64At s (writtenValueFrom + a * valueWidth)
 
-abbrev pub waitingValue : List ℕ → ℕ
-waitingValue s = u64At s waitingValueFrom
+-- by object: what a write that is out will write, where the object is in the waiting set
+abbrev pub waitingValue : List ℕ → ℕ → ℕ
+waitingValue s o = u64At s (waitingValueFrom + o * valueWidth)
 
 -- by requester: the kept callback's transaction, 0 for none
 abbrev pub keptOf : List ℕ → ℕ → ℕ
@@ -234,8 +243,13 @@ opened s = getD s openFrom 0
 abbrev pub wait : List ℕ → ℕ
 wait s = getD s waitFrom 0
 
+-- of a read that is out; of a write that is out, that of its page's object 0
 abbrev pub address : List ℕ → ℕ
 address s = getD s addressFrom 0
+
+-- the objects that the write that is out will write
+abbrev pub waitingSet : List ℕ → ℕ
+waitingSet s = getD s waitingSetFrom 0
 
 -- bit k of a set
 unfoldable pub hasBit : ℕ → ℕ → Bool
@@ -248,6 +262,10 @@ member s at a = hasBit (getD s (at + a / 8) 0) (a % 8)
 -- how many addresses the object sets from `at` have
 unfoldable pub countIn : List ℕ → ℕ → ℕ
 countIn s at = size 256 (member s at)
+
+-- how many addresses are written, with the objects x of page p
+unfoldable pub writtenWith : List ℕ → ℕ → ℕ → ℕ
+writtenWith s p x = countIn s writtenSetFrom + ones (bitAnd x (255 - writtenSet s p))
 
 -- the object sets from `at` have nothing: a row's bytes, eight at a time
 unfoldable pub noneIn : List ℕ → ℕ → Bool

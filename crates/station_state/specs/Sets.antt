@@ -1,16 +1,17 @@
 -- Object sets as words: eight pages at a time, bit b of word k being address k * 64 + b. What the words are is what the sets have.
-use Prim.Native.Nat.{ℕ, zero, suc, _+_, _*_, _/_, _%_, _^_, _≤_, _<_}
+use Prim.Native.Nat.{ℕ, zero, suc, _+_, _-_, _*_, _/_, _%_, _^_, _≤_, _<_}
 use mathlib.Core.Path.{_≡_, refl, sym, ap, _∙_}
 use mathlib.Core.Bool.{Bool, true, false, not, _&&_}
 use mathlib.Core.List.{List}
 use native.Mathlib.Omega.{arith}
+use lib.Bits.{bitAnd, and-le-r}
 use lib.Count.{ones, ones-le}
 use lib.Bits.{bitOr}
 use lib.Dec.{eqb}
 use lib.ListN.{getD}
 use borrow.Author.Tests.{eqb-true, eq-eqb}
 use Rattle.lists.specs.Tests.{and-l, and-r}
-use Rattle.sets.specs.Size.{size, size-join, size-same}
+use Rattle.sets.specs.Size.{size, size-join, size-same, size-most}
 use Rattle.le.specs.Le.{u32At, u64At}
 use Rattle.le.specs.Width.{numAt}
 use Rattle.le.specs.Laws.{u64At-is}
@@ -132,6 +133,13 @@ module _ (s : List ℕ) (h : AllBytes s) (at : ℕ) where
 
   pub count-added : {x y z w : ℕ} → x ≡ u64At s at → y ≡ u64At s (at + 8) → z ≡ u64At s (at + 16) → w ≡ u64At s (at + 24) → ones x + ones y + ones z + ones w ≡ countIn s at
   count-added d e f g = rw (d, e, f, g) (sym count-words)
+
+-- a page's objects beside those counted
+pub with-fit : (s : List ℕ) (at x y : ℕ) {n : ℕ} → n ≡ countIn s at → n + ones (bitAnd x (255 - y)) < 2 ^ 32
+unfolding countIn
+with-fit s at x y e =
+    let few = ones-le 8 (bitAnd x (255 - y)) (omega (arith, and-le-r x (255 - y))) in
+    omega (arith, size-most 256 (member s at), few)
 
 -- four words as one test
 pub words-of : (s : List ℕ) (at : ℕ) → noneIn s at ≡ true → (k : ℕ) → k < 4 → u64At s (at + k * 8) ≡ 0

@@ -1,12 +1,15 @@
 -- Runs of calls that make a state: each law has the call's equation for every state on the way.
-use Prim.Native.Nat.{ℕ, _+_, _*_}
+use Prim.Native.Nat.{ℕ, zero, suc, _+_, _*_, _≤_, _<_}
 use mathlib.Core.Path.{_≡_, ap, _∙_}
 use mathlib.Core.List.{List}
-use lib.ListN.{length, set, replicate}
+use native.Mathlib.Omega.{arith}
+use lib.ListN.{length, set, getD, replicate, length-set, length-replicate}
+use lib.Seq.{getD-set-same, getD-set-other}
+use Rattle.sets.specs.Laws.{byEq, eqb-yes, eqb-no}
 use Rattle.le.specs.Le.{setU32, setU64}
 use Rattle.station_state.specs.Layout.{setRow, valueWidth, numberWidth, copyFrom, readValueFrom, writtenValueFrom, seenFrom, copyOf, versionOf, wholeFrom, stationFrom, kindFrom, openFrom, stateLength, readSetFrom, writtenSetFrom, locksFrom}
 use Rattle.station_state.specs.Valid.{freshState}
-use Rattle.station_state.specs.Changes.{addTo, clearTo, recordReadB, firstUseB, writeLocalB, idleB, closedB}
+use Rattle.station_state.specs.Changes.{addTo, clearTo, recordReadB, firstUseB, writeLocalB, valuesTo, idleB, closedB}
 
 -- two stores over zeros
 pub fresh-stores : (st k : ℕ) (s : List ℕ) {z t u : List ℕ} → length s ≡ stateLength → z ≡ replicate (length s) 0 → t ≡ set z stationFrom st → u ≡ set t kindFrom k → u ≡ freshState st k
@@ -27,3 +30,17 @@ pub write-stores : (a v : ℕ) (s : List ℕ) {s₁ s₂ s₃ s₄ : List ℕ} �
     → s₄ ≡ setU64 s₃ (copyFrom + a * valueWidth) v → s₄ ≡ writeLocalB a v s
 unfolding writeLocalB
 write-stores a v s e₁ e₂ e₃ e₄ = rw (e₄, e₃, e₂, e₁)
+
+-- eight values by object: each that was put is there
+length-values : (v : ℕ → ℕ) (n : ℕ) → length (valuesTo v n) ≡ 8
+unfolding valuesTo
+length-values v zero = length-replicate {A = ℕ} 8 0
+length-values v (suc n) = length-set (valuesTo v n) n (v n) ∙ length-values v n
+
+pub values-at : (v : ℕ → ℕ) (n o : ℕ) → n ≤ 8 → o < n → getD (valuesTo v n) o 0 ≡ v o
+unfolding valuesTo
+values-at v zero o h l = absurd (omega arith)
+values-at v (suc n) o h l =
+    byEq o n
+    (λ e. rw (eqb-yes o n e) (getD-set-same (valuesTo v n) n (v n) 0 (omega (arith, length-values v n))))
+    (λ e. getD-set-other (valuesTo v n) n o (v n) 0 (eqb-no o n e) ∙ values-at v n o (omega arith) (omega (arith, eqb-no o n e)))

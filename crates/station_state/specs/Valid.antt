@@ -1,12 +1,12 @@
 -- Number 1 of a station's state, and a fresh state. The range of a field that does not count is 0 (docs/STATE.md), so that what is taken
 -- stays so: `valid-stays` of crate call_meaning.
-use Prim.Native.Nat.{ℕ, _+_, _*_}
+use Prim.Native.Nat.{ℕ, _+_, _*_, _/_, _%_}
 use mathlib.Core.List.{List}
 use mathlib.Core.Bool.{Bool, true, not, _&&_, _||_, cond}
 use lib.ListN.{length, set, replicate}
 use lib.Dec.{eqb, ltb, leb}
 use Rattle.limits.specs.Limit.{limit}
-use Rattle.station_state.specs.Layout.{keptFrom, readSetFrom, writtenSetFrom, locksFrom, stationFrom, kindFrom, stateLength, keptOf, number, whole, station, kind, opened, wait, address, member, countIn, noneIn}
+use Rattle.station_state.specs.Layout.{keptFrom, readSetFrom, writtenSetFrom, locksFrom, stationFrom, kindFrom, stateLength, keptOf, number, whole, station, kind, opened, wait, address, waitingSet, member, countIn, writtenWith, noneIn}
 
 -- "a field out of range": transactions are numbered from 1
 unfoldable pub fieldsOk : List ℕ → Bool
@@ -24,16 +24,27 @@ closedOk s = eqb (wait s) 0 && noneIn s readSetFrom && noneIn s writtenSetFrom
 unfoldable pub firstOk : List ℕ → Bool
 firstOk s = not (member s readSetFrom (address s)) && not (member s writtenSetFrom (address s))
 
+-- a write that is out has a page, and objects there
+unfoldable pub setOk : List ℕ → Bool
+setOk s = eqb (address s % 8) 0 && not (eqb (waitingSet s) 0)
+
+unfoldable pub outOk : List ℕ → Bool
+outOk s = cond (eqb (wait s) 1) (firstOk s) (cond (eqb (wait s) 2) (setOk s) true)
+
 -- document 02, wish 1: the sets from `at` are within the limit; if the object waited for is out and not among them, there is room for it
 unfoldable pub fewIn : List ℕ → ℕ → Bool → Bool
 fewIn s at out = cond (out && not (member s at (address s))) (ltb (countIn s at) limit) (leb (countIn s at) limit)
 
+-- .. so too what is written, with all that a write that is out will write
+unfoldable pub fewWritten : List ℕ → Bool
+fewWritten s = cond (eqb (wait s) 2) (leb (writtenWith s (address s / 8) (waitingSet s)) limit) (leb (countIn s writtenSetFrom) limit)
+
 -- "48 distinct reads and 48 distinct writes", a waiting read or write counted as recorded
 unfoldable pub limitedOk : List ℕ → Bool
-limitedOk s = fewIn s readSetFrom (eqb (wait s) 1) && fewIn s writtenSetFrom (eqb (wait s) 2)
+limitedOk s = fewIn s readSetFrom (eqb (wait s) 1) && fewWritten s
 
 unfoldable pub worksOk : List ℕ → Bool
-worksOk s = cond (eqb (opened s) 0) (closedOk s) ((not (eqb (wait s) 1) || firstOk s) && limitedOk s)
+worksOk s = cond (eqb (opened s) 0) (closedOk s) (outOk s && limitedOk s)
 
 -- no lock, and no callback kept (eight transactions of four bytes)
 unfoldable pub locklessOk : List ℕ → Bool

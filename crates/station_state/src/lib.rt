@@ -4,10 +4,10 @@ ghost use mathlib.Core.Path.{_≡_};
 ghost use mathlib.Core.Logic.{_≢_};
 ghost use Prim.Native.Nat.{_+_, _^_, _≤_, _<_};
 ghost use lib.ListN.{length, replicate};
-ghost use Rattle.station_state.specs.Layout.{pageSetWidth, setRow, stateLength, number as Layout·number, cached as Layout·cached, whole as Layout·whole, station as Layout·station, opened, hasBit, member as Layout·member, countIn, noneIn, requestedB};
-ghost use Rattle.station_state.specs.Valid.{fieldsOk, ownKept, firstOk, fewIn, limitedOk, worksOk, locklessOk, holdsOk, valid as Valid·valid, restsOk, freshened, freshOf};
+ghost use Rattle.station_state.specs.Layout.{pageSetWidth, setRow, stateLength, station as Layout·station, opened, hasBit, member as Layout·member, countIn, writtenWith, noneIn, requestedB, number as Layout·number, cached as Layout·cached, whole as Layout·whole};
+ghost use Rattle.station_state.specs.Valid.{fieldsOk, ownKept, firstOk, setOk, outOk, fewIn, fewWritten, limitedOk, worksOk, locklessOk, holdsOk, valid as Valid·valid, freshened, freshOf, restsOk};
+ghost use Rattle.station_state.specs.Changes.{addTo, pageOn, pageOff, clearTo, copyTo, beginB, recordReadB, usedB, firstUseB, writeLocalB, writeObjectB, writeAllB, idleB, forReadB, waitObjectB, waitAllB, forWriteB, waitingValues, forCommitB, lockWaitingB, loosenB, keepB, unkeepB, closedB};
 ghost use Rattle.station_state.specs.Sets.{joined as Sets·joined};
-ghost use Rattle.station_state.specs.Changes.{addTo, pageOn, pageOff, clearTo, copyTo, beginB, recordReadB, usedB, firstUseB, writeLocalB, idleB, forReadB, forWriteB, forCommitB, loosenB, keepB, unkeepB, closedB};
 
 // Widths: of a value, of a transaction's number or a version, of a page set. An object set has one byte.
 pub const VALUE_WIDTH: usize = 8;
@@ -29,9 +29,9 @@ pub const READ_VALUES: usize = COPY + 256 * VALUE_WIDTH;
 
 pub const WRITTEN_VALUES: usize = READ_VALUES + 256 * VALUE_WIDTH;
 
-pub const WAITING_VALUE: usize = WRITTEN_VALUES + 256 * VALUE_WIDTH;
+pub const WAITING_VALUES: usize = WRITTEN_VALUES + 256 * VALUE_WIDTH;
 
-pub const KEPT: usize = WAITING_VALUE + VALUE_WIDTH;
+pub const KEPT: usize = WAITING_VALUES + OBJECTS * VALUE_WIDTH;
 
 pub const VERSIONS: usize = KEPT + 8 * NUMBER_WIDTH;
 
@@ -63,7 +63,9 @@ pub const WAIT: usize = OPEN + 1;
 
 pub const ADDRESS: usize = WAIT + 1;
 
-pub const LENGTH: usize = ADDRESS + 1;
+pub const WAITING_SET: usize = ADDRESS + 1;
+
+pub const LENGTH: usize = WAITING_SET + 1;
 
 // The four bytes from the station on, as a number, are below this where the kind is in range, nothing open and nothing out.
 const RESTING: u32 = 512;
@@ -155,6 +157,15 @@ pub fn count_in(s: &[u8], at: usize) -> u32
         + u64::count_ones(le::get_u64(s, at + 24))
 }
 
+// How many addresses are written, with the objects x of page p.
+pub fn written_with(s: &[u8], p: usize, x: u8) -> u32
+    requires { ⌜ (length (now s) ≡ stateLength) × (p < 32) ⌝ }
+    ensures { λ r. ⌜ r ≡ writtenWith (now (s .entry)) p x ⌝ }
+{
+    let y = s[WRITTEN_SET + p];
+    count_in(s, WRITTEN_SET) + u8::count_ones(x & !y)
+}
+
 // Whether a read or a write of an object of page p is out.
 pub fn requested(s: &[u8], p: usize) -> bool
     requires { ⌜ length (now s) ≡ stateLength ⌝ }
@@ -189,6 +200,28 @@ fn first_ok(s: &[u8]) -> bool
     !member(s, READ_SET, a) & !member(s, WRITTEN_SET, a)
 }
 
+// Whether the write that is out has a page, and objects there.
+fn set_ok(s: &[u8]) -> bool
+    requires { ⌜ length (now s) ≡ stateLength ⌝ }
+    ensures { λ r. ⌜ r ≡ setOk (now (s .entry)) ⌝ }
+{
+    (s[ADDRESS] % 8 == 0) & (s[WAITING_SET] != 0)
+}
+
+// Whether what is out can be.
+fn out_ok(s: &[u8]) -> bool
+    requires { ⌜ length (now s) ≡ stateLength ⌝ }
+    ensures { λ r. ⌜ r ≡ outOk (now (s .entry)) ⌝ }
+{
+    if s[WAIT] == 1 {
+        return first_ok(s);
+    }
+    if s[WAIT] == 2 {
+        return set_ok(s);
+    }
+    true
+}
+
 // Whether the sets from `at` are within the limit, with the object waited for, if that is out.
 fn few_in(s: &[u8], at: usize, out: bool) -> bool
     requires { ⌜ (length (now s) ≡ stateLength) × (at + setRow ≤ length (now s)) ⌝ }
@@ -201,12 +234,24 @@ fn few_in(s: &[u8], at: usize, out: bool) -> bool
     count_in(s, at) <= limits::LIMIT
 }
 
+// Whether what is written is within the limit, with what the write that is out will write.
+fn few_written(s: &[u8]) -> bool
+    requires { ⌜ length (now s) ≡ stateLength ⌝ }
+    ensures { λ r. ⌜ r ≡ fewWritten (now (s .entry)) ⌝ }
+{
+    if s[WAIT] == 2 {
+        let p = (s[ADDRESS] / 8) as usize;
+        return written_with(s, p, s[WAITING_SET]) <= limits::LIMIT;
+    }
+    count_in(s, WRITTEN_SET) <= limits::LIMIT
+}
+
 // Whether the transaction is within the limit.
 fn limited_ok(s: &[u8]) -> bool
     requires { ⌜ length (now s) ≡ stateLength ⌝ }
     ensures { λ r. ⌜ r ≡ limitedOk (now (s .entry)) ⌝ }
 {
-    few_in(s, READ_SET, s[WAIT] == 1) & few_in(s, WRITTEN_SET, s[WAIT] == 2)
+    few_in(s, READ_SET, s[WAIT] == 1) & few_written(s)
 }
 
 // Of an open transaction.
@@ -214,10 +259,7 @@ fn works_ok(s: &[u8]) -> bool
     requires { ⌜ (length (now s) ≡ stateLength) × (opened (now s) ≢ 0) ⌝ }
     ensures { λ r. ⌜ r ≡ worksOk (now (s .entry)) ⌝ }
 {
-    if s[WAIT] != 1 {
-        return limited_ok(s);
-    }
-    first_ok(s) & limited_ok(s)
+    out_ok(s) & limited_ok(s)
 }
 
 // Whether there is no lock, and no callback kept.
@@ -411,6 +453,29 @@ pub fn write_local(s: &mut [u8], a: usize, v: u64)
     le::put_u64(s, COPY + a * VALUE_WIDTH, v);
 }
 
+// Of the objects of x on page p, o is written.
+fn write_object(s: &mut [u8], p: usize, x: u8, o: usize, v: u64)
+    requires { ⌜ (length (now s) ≡ stateLength) × (p < 32) × (o < 8) ⌝ }
+    ensures { λ _. ⌜ now (s .exit) ≡ writeObjectB p x o v (now (s .entry)) ⌝ }
+{
+    if has_bit8(x, o) {
+        write_local(s, p * OBJECTS + o, v);
+        return;
+    }
+}
+
+// The objects of x on page p are written, rising: `values` are by object.
+pub fn write_all(s: &mut [u8], p: usize, x: u8, values: &[u64; 8])
+    requires { ⌜ (length (now s) ≡ stateLength) × (p < 32) ⌝ }
+    ensures { λ _. ⌜ now (s .exit) ≡ writeAllB p x (now (values .entry)) (now (s .entry)) ⌝ }
+{
+    let mut o = 0;
+    while o < OBJECTS {
+        write_object(s, p, x, o, values[o]);
+        o += 1;
+    }
+}
+
 // Nothing is out.
 pub fn idle(s: &mut [u8])
     requires { ⌜ length (now s) ≡ stateLength ⌝ }
@@ -428,14 +493,52 @@ pub fn for_read(s: &mut [u8], a: u8)
     le::put_u8(s, ADDRESS, a);
 }
 
-// A write of v to a is out.
-pub fn for_write(s: &mut [u8], a: u8, v: u64)
+// Of the objects of x, the value of o is kept.
+fn wait_object(s: &mut [u8], x: u8, o: usize, v: u64)
+    requires { ⌜ (length (now s) ≡ stateLength) × (o < 8) ⌝ }
+    ensures { λ _. ⌜ now (s .exit) ≡ waitObjectB x o v (now (s .entry)) ⌝ }
+{
+    if has_bit8(x, o) {
+        le::put_u64(s, WAITING_VALUES + o * VALUE_WIDTH, v);
+        return;
+    }
+}
+
+// The values of the objects of x are kept.
+fn wait_all(s: &mut [u8], x: u8, values: &[u64; 8])
     requires { ⌜ length (now s) ≡ stateLength ⌝ }
-    ensures { λ _. ⌜ now (s .exit) ≡ forWriteB a v (now (s .entry)) ⌝ }
+    ensures { λ _. ⌜ now (s .exit) ≡ waitAllB x (now (values .entry)) (now (s .entry)) ⌝ }
+{
+    let mut o = 0;
+    while o < OBJECTS {
+        wait_object(s, x, o, values[o]);
+        o += 1;
+    }
+}
+
+// A write of `values` to the objects of x on page p is out.
+pub fn for_write(s: &mut [u8], p: usize, x: u8, values: &[u64; 8])
+    requires { ⌜ (length (now s) ≡ stateLength) × (p < 32) ⌝ }
+    ensures { λ _. ⌜ now (s .exit) ≡ forWriteB p x (now (values .entry)) (now (s .entry)) ⌝ }
 {
     le::put_u8(s, WAIT, 2);
-    le::put_u8(s, ADDRESS, a);
-    le::put_u64(s, WAITING_VALUE, v);
+    le::put_u8(s, ADDRESS, (p * OBJECTS) as u8);
+    le::put_u8(s, WAITING_SET, x);
+    wait_all(s, x, values);
+}
+
+// The values that were kept, by object.
+pub fn waiting_values(s: &[u8]) -> [u64; 8]
+    requires { ⌜ length (now s) ≡ stateLength ⌝ }
+    ensures { λ r. ⌜ r ≡ waitingValues (now (s .entry)) ⌝ }
+{
+    let mut v = [0u64; 8];
+    let mut o = 0;
+    while o < OBJECTS {
+        v[o] = le::get_u64(s, WAITING_VALUES + o * VALUE_WIDTH);
+        o += 1;
+    }
+    v
 }
 
 // A commit is out.
@@ -444,6 +547,15 @@ pub fn for_commit(s: &mut [u8])
     ensures { λ _. ⌜ now (s .exit) ≡ forCommitB (now (s .entry)) ⌝ }
 {
     le::put_u8(s, WAIT, 3);
+}
+
+// The objects that were asked for on page p are locked.
+pub fn lock_waiting(s: &mut [u8], p: usize)
+    requires { ⌜ (length (now s) ≡ stateLength) × (p < 32) ⌝ }
+    ensures { λ _. ⌜ now (s .exit) ≡ lockWaitingB p (now (s .entry)) ⌝ }
+{
+    let x = s[LOCKS + p] | s[WAITING_SET];
+    le::put_u8(s, LOCKS + p, x);
 }
 
 // The whole lock on page p becomes locks on the objects written there.

@@ -8,15 +8,15 @@ use native.Mathlib.Omega.{arith}
 use lib.Dec.{eqb}
 use lib.Pow.{pow-lt}
 use Rattle.sets.specs.Base.{upd}
-use Rattle.sets.specs.Laws.{byEq, eqb-same, eqb-yes, eqb-no}
+use Rattle.sets.specs.Laws.{byEq, eqb-same, eqb-yes, eqb-no, and-l}
 use Rattle.lists.specs.Bytes.{Bytes}
 use Rattle.cells.specs.Num.{AllBytes, all-bytes, bytes-all}
 use Rattle.cells.specs.Upd.{cond-rel, branch-rel}
 use Rattle.cells.specs.Bits.{tb, tb-zero, tb-pow}
 use Rattle.line.specs.Messages.{address, locking, lastNumber, Work, ReadRequest, WriteRequest, Commit, Abort, Purge, Busy, Done, WrittenSet, NoLock, Committed}
-use Rattle.line.specs.Server.{ByCommit, ByMessage, Server, Waiter, WantRead, WantWrite, WantCommit, noWaiter, waiterPend, waiterBusy, setOl, setWl, setAsked, setQueue, onServer, openCall, openAsk, unexpected, notice, finish, join, leave, sendPage, readWaiter, writeWaiter, commitWaiter, serveNow, joinRead, joinWrite, joinCommit, write, archive, informFrom, install, commitNow, unlist, markBusy, answered, loosen, accept, start}
+use Rattle.line.specs.Server.{ByCommit, ByMessage, Server, Waiter, WantRead, WantWrite, WantCommit, noWaiter, waiterWrites, waiterPend, waiterBusy, setOl, setWl, setAsked, setArrivals, setQueue, onServer, openCall, openAsk, unexpected, notice, finish, join, leave, sendPage, readWaiter, writeWaiter, commitWaiter, serveNow, joinRead, joinWrite, joinCommit, write, archive, informFrom, install, commitNow, unlist, markBusy, answered, loosen, accept, start}
 use Rattle.line.specs.Server as Model
-use Rattle.message.specs.Layout.{stationOf, pageOf, requesterOf, objectOf, transactionOf, pagesOf, setOf}
+use Rattle.message.specs.Layout.{setsFrom, stationOf, pageOf, requesterOf, objectOf, transactionOf, pagesOf, setOf}
 use Rattle.message.specs.Layout as Message
 use Rattle.message.specs.Number.{upNumber}
 use Rattle.message.specs.Accepted.{fields-fit}
@@ -35,7 +35,7 @@ use Rattle.server_meaning.specs.Waiting.{isCommit, upd-twice, leave-is, markBus
 use Rattle.server_meaning.specs.Frees.{finish-is}
 use Rattle.server_meaning.specs.Commit.{bringing, unpack-row, unpack-is, joinCommit-is}
 use Rattle.step_meaning.specs.Relation.{Sound, Serves}
-use Rattle.step_meaning.specs.Keeps.{wanting-notice, wanting-finish, wanting-leave, wanting-unlist, wanting-busy, wanting-answered, wanting-loosen, wanting-unpack, wanting-joinRead, wanting-joinWrite, wanting-joinCommit, sound-same, sound-entry, sound-leave, sound-latest, sound-finish, sound-loosen, no-commit}
+use Rattle.step_meaning.specs.Keeps.{wanting-notice, wanting-finish, wanting-leave, wanting-unlist, wanting-busy, wanting-answered, wanting-loosen, wanting-unpack, wanting-joinRead, wanting-joinWrite, wanting-joinCommit, sound-same, sound-entry, sound-leave, sound-latest, sound-finish, sound-loosen, no-commit, no-write}
 use Rattle.step_meaning.specs.Actions.{sendPage-means, abort-means, install-means}
 
 -- the number, or a larger one
@@ -81,6 +81,9 @@ unexpected-at h k kinds x ok b =
 read-no-commit : WantRead ≡ WantCommit → ⊥
 read-no-commit e = false≢true (ap isCommit e)
 
+read-no-write : WantRead ≡ WantWrite → ⊥
+read-no-write e = let z : _≡_ {A = ℕ} 0 1 = cc in absurd (omega arith)
+
 write-no-commit : WantWrite ≡ WantCommit → ⊥
 write-no-commit e = false≢true (ap isCommit e)
 
@@ -114,24 +117,33 @@ module _ {b : Serving} {z : Model.Serving} (h : Serves b z) where
       record {
         state = joinRead-is (h .state) i a l la ln;
         wanting = wanting-joinRead (b .state) (h .wanting) i a l la;
-        sound = sound-same _ refl refl refl refl (sound-entry (h .sound) i w (λ _. n) (λ e. absurd (read-no-commit e)));
+        sound = sound-same _ refl refl refl refl (sound-entry (h .sound) i w (λ _. n) (λ e. absurd (read-no-commit e)) (λ e. absurd (read-no-write e)));
         sent = h .sent;
         recs = h .recs;
       }
 
-  joinWrite-means : (i a : ℕ) → i < 8 → a < 256 → arrivalsOf (b .state) + 1 < 2 ^ 64 → z .server .latest i ≢ 0
-      → Serves (onState b (joinWriteB i a (b .state))) (joinWrite i a z)
+  joinWrite-means : (i p set : ℕ) → i < 8 → p < 32 → set < 256 → arrivalsOf (b .state) + 1 < 2 ^ 64 → z .server .latest i ≢ 0
+      → Serves (onState b (joinWriteB i p set (b .state))) (joinWrite i p (objectsOn p set) z)
   unfolding joinWrite join
-  joinWrite-means i a l la ln n =
+  joinWrite-means i p set l lp lx ln n =
       let m = z .server in
-      let w = writeWaiter m a in
+      let w = writeWaiter m p (objectsOn p set) in
+      let first : address p 0 / 8 ≡ p = omega arith in
       record {
-        state = joinWrite-is (h .state) i a l la ln;
-        wanting = wanting-joinWrite (b .state) (h .wanting) i a l la;
-        sound = sound-same _ refl refl refl refl (sound-entry (h .sound) i w (λ _. n) (λ e. absurd (write-no-commit e)));
+        state =
+            subst (λ (f : ℕ → Bool). Is (joinWriteB i p set (b .state)) (setQueue (setArrivals m (m .arrivals + 1)) (upd (m .queue) i (waiterWrites w f)))) (fun-ext twice)
+            (joinWrite-is (h .state) i p set l lp lx ln);
+        wanting = wanting-joinWrite (b .state) (h .wanting) i p set l lp;
+        sound =
+            sound-same _ refl refl refl refl
+            (sound-entry (h .sound) i w (λ _. n) (λ e. absurd (write-no-commit e))
+            (λ _. record { stands = rw first refl; page-only = λ c e. eqb-yes (c / 8) p (and-l (eqb (c / 8) p) _ e) ∙ sym first }));
         sent = h .sent;
         recs = h .recs;
       }
+    where
+      twice : (c : ℕ) → (eqb (c / 8) p && tb set (c % 8)) ≡ (eqb (c / 8) p && (eqb (c / 8) p && tb set (c % 8)))
+      twice c = byEq (c / 8) p (λ e. rw e) (λ e. rw e)
 
   joinCommit-means : (i kind : ℕ) (x : List ℕ) → Bytes x → CommitFields kind x → i < 8 → arrivalsOf (b .state) + 1 < 2 ^ 64 → z .server .latest i ≢ 0
       → Serves (onState b (joinCommitB i x (b .state))) (joinCommit i (workAt x) z)
@@ -142,7 +154,7 @@ module _ {b : Serving} {z : Model.Serving} (h : Serves b z) where
       record {
         state = joinCommit-is kind x hx c (h .state) i l ln;
         wanting = wanting-joinCommit (b .state) (h .wanting) i x l (all-bytes x hx);
-        sound = sound-same _ refl refl refl refl (sound-entry (h .sound) i w (λ _. n) (λ _. rw (work-number x) (c .transaction-not-0)));
+        sound = sound-same _ refl refl refl refl (sound-entry (h .sound) i w (λ _. n) (λ _. rw (work-number x) (c .transaction-not-0)) (λ e. absurd (write-no-commit (sym e))));
         sent = h .sent;
         recs = h .recs;
       }
@@ -152,7 +164,7 @@ module _ {b : Serving} {z : Model.Serving} (h : Serves b z) where
   unfolding serveNow
   serveNow-means i a l la n =
       subst (λ (f : ℕ → Bool). Serves (sendPageB 16 i a 0 b) (sendPage NoLock i a f z)) (fun-ext (λ c. rw (tb-zero (c % 8)) (and-false (eqb (c / 8) (a / 8)))))
-      (sendPage-means h NoLock i a 0 l la (omega arith) n)
+      (sendPage-means h NoLock i a 0 l la (omega arith) tt n)
 
   -- "every transaction's end frees its locks"
   finish-means : (i : ℕ) → i < 8 → Serves (onState b (finishB i 0 (b .state))) (finish i ByMessage z)
@@ -187,7 +199,7 @@ module _ {b : Serving} {z : Model.Serving} (h : Serves b z) where
       record {
         state = markBusy-is (h .state) i r l lr;
         wanting = wanting-busy (b .state) (h .wanting) i r;
-        sound = sound-entry (h .sound) r (waiterBusy (m .queue r) (upd (m .queue r .busy) i true)) (h .sound .numbered r lr) (h .sound .worked r lr);
+        sound = sound-entry (h .sound) r (waiterBusy (m .queue r) (upd (m .queue r .busy) i true)) (h .sound .numbered r lr) (h .sound .worked r lr) (h .sound .paged r lr);
         sent = h .sent;
         recs = h .recs;
       }
@@ -201,7 +213,7 @@ module _ {b : Serving} {z : Model.Serving} (h : Serves b z) where
         wanting = wanting-answered (b .state) (h .wanting) i r;
         sound =
             sound-entry (h .sound) r (waiterPend (waiterBusy (m .queue r) (upd (m .queue r .busy) i false)) (upd (m .queue r .pend) i false)) (h .sound .numbered r lr)
-            (h .sound .worked r lr);
+            (h .sound .worked r lr) (h .sound .paged r lr);
         sent = h .sent;
         recs = h .recs;
       }
@@ -245,7 +257,7 @@ module _ {b : Serving} {z : Model.Serving} (h : Serves b z) (i kind : ℕ) (x : 
       record {
         state = unpack-is kind x hx c (leave-is (h .state) i l) i l noWaiter (rw (eqb-same i)) refl refl;
         wanting = wanting-unpack (leaveB i (b .state)) (wanting-leave (b .state) (h .wanting) i l) i x l (all-bytes x hx);
-        sound = sound-entry (sound-leave (h .sound) i) i (bringing (workAt x) noWaiter) (λ e. absurd (false≢true e)) (λ e. absurd (no-commit e));
+        sound = sound-entry (sound-leave (h .sound) i) i (bringing (workAt x) noWaiter) (λ e. absurd (false≢true e)) (λ e. absurd (no-commit e)) (λ e. absurd (no-write e));
         sent = h .sent;
         recs = h .recs;
       }
@@ -300,20 +312,19 @@ module _ {b : Serving} {z : Model.Serving} (h : Serves b z) (kinds x : List ℕ)
   on-read e =
       let i = stationOf x in
       let l = a .station-is in
-      let r = a .request (rw e (omega arith)) in
+      let r = a .request e in
       let n = r .transaction-not-0 in
       let le : addressOf x < 256 = omega (arith, r .page-is, r .object-is) in
       cond-rel Serves (lockingB (b .state) i) (locking (z .server .kind i)) locking-at
       (joinRead-means (noticed n) i (addressOf x) l le (room n) (numbered n))
       (serveNow-means (noticed n) i (addressOf x) l le (numbered n))
 
-  on-write : Message.kindOf x ≡ 2 → Serves (onWriteB x b) (accept (stationOf x) (WriteRequest (address (pageOf x) (objectOf x)) (transactionOf x)) z)
+  on-write : Message.kindOf x ≡ 2 → Serves (onWriteB x b) (accept (stationOf x) (WriteRequest (pageOf x) (transactionOf x) (objectsOn (pageOf x) (setOf x 0))) z)
   unfolding onWriteB accept
   on-write e =
-      let r = a .request (rw e (omega arith)) in
+      let r = a .write-request e in
       let n = r .transaction-not-0 in
-      let le : addressOf x < 256 = omega (arith, r .page-is, r .object-is) in
-      joinWrite-means (noticed n) (stationOf x) (addressOf x) (a .station-is) le (room n) (numbered n)
+      joinWrite-means (noticed n) (stationOf x) (pageOf x) (setOf x 0) (a .station-is) (r .page-is) (all-bytes x hx setsFrom) (room n) (numbered n)
 
   on-commit : Message.kindOf x ≡ 3 → Serves (onCommitB x b) (accept (stationOf x) (Commit (workAt x)) z)
   unfolding onCommitB accept workAt

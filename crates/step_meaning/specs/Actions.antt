@@ -22,6 +22,7 @@ use Rattle.recs.specs.Recs.{asRecord}
 use Rattle.line.specs.Messages.{locking, Work, Lock, Invalidate, To}
 use Rattle.line.specs.Server.{ByCause, Server, setListed, wrotePage, informed, sendPage, leave, finish, abort, write, archive, inform, informFrom, install, recordOf}
 use Rattle.line.specs.Server as Model
+use Rattle.line.specs.Fit.{Object}
 use Rattle.station_state.specs.Layout.{numberWidth, valueWidth, hasBit, member}
 use Rattle.set_record.specs.Record.{valuesAt}
 use Rattle.server_state.specs.Layout.{readValueCell, writtenValueCell, workCell, readSetCell, writtenSetCell, table, workFrom, readValuesFrom, writtenValuesFrom, workNumber, lastOf, setRow, readSetFrom, writtenSetFrom, writtenSet}
@@ -43,16 +44,16 @@ use Rattle.step_meaning.specs.Keeps.{wanting-list, wanting-finish, wanti
 
 module _ {b : Serving} {x : Model.Serving} (h : Serves b x) where
   -- "A station is listed as holding a page from the sending of 16, 17 or 18"
-  pub sendPage-means : (lock : Lock) (i a u : ℕ) → i < 8 → a < 256 → u < 256 → x .server .latest i ≢ 0
+  pub sendPage-means : (lock : Lock) (i a u : ℕ) → i < 8 → a < 256 → u < 256 → Object lock a → x .server .latest i ≢ 0
       → Serves (sendPageB (kindFor lock) i a u b) (sendPage lock i a (λ c. eqb (c / 8) (a / 8) && tb u (c % 8)) x)
   unfolding sendPageB sendPage
-  sendPage-means lock i a u l la lu n =
+  sendPage-means lock i a u l la lu z n =
       let m = x .server in
       record {
         state = list-is (h .state) i (a / 8) l (omega arith);
         wanting = wanting-list (b .state) (h .wanting) i (a / 8) l;
         sound = sound-same (setListed m (upd2 (m .listed) i (a / 8) true)) refl refl refl refl (h .sound);
-        sent = sent-snoc (b .sent) (x .sent) _ _ (h .sent) (page-post (h .state) lock i a u l la lu n);
+        sent = sent-snoc (b .sent) (x .sent) _ _ (h .sent) (page-post (h .state) lock i a u l la lu z n);
         recs = h .recs;
       }
 

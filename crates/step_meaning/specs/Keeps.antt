@@ -13,15 +13,15 @@ use Rattle.sets.specs.Laws.{byEq, eqb-yes}
 use Rattle.le.specs.Le.{u64At, setU32, setU64}
 use Rattle.le.specs.Laws.{setU32-is}
 use Rattle.cells.specs.Num.{AllBytes, put-other}
-use Rattle.line.specs.Server.{Server, Waiter, NoWant, WantCommit, isWant, noWaiter, setWl, setLatest, setQueue}
+use Rattle.line.specs.Server.{Server, Waiter, NoWant, WantWrite, WantCommit, isWant, noWaiter, setWl, setLatest, setQueue}
 use Rattle.message.specs.Layout.{transactionOf}
 use Rattle.message.specs.Commit.{addressesAt, sentReads, sentWrites}
 use Rattle.station_state.specs.Layout.{pageSetWidth, numberWidth, valueWidth, hasBit, member}
 use Rattle.station_state.specs.Changes.{addTo, pageOn, pageOff, clearTo}
 use Rattle.server_state.specs.Layout.{ageWidth, valueFrom, valueRow, setRow, ageFrom, arrivalFrom, nextAgeFrom, nextArrivalFrom, versionFrom, workFrom, latestFrom, listedFrom, lastFrom, askedFrom, lockFrom, wholeFrom, wantFrom, requestFrom, calledFrom, pendFrom, busyFrom, unfinishedFrom, ageKeptFrom, readValuesFrom, readVersionsFrom, writtenVersionsFrom, versionRow, readSetFrom, agesOf, ageKeptOf, latestOf, lockOf, wholeOf, writtenSetFrom, writtenValuesFrom}
-use Rattle.server_changes.specs.Changes.{newAgeB, ageB, noticeB, freePageB, freePagesTo, freeOneB, freeTo, finishB, leaveB, joinB, joinReadB, joinWriteB, unpackOne, unpackTo, unpackB, joinCommitB, listB, unlistB, markBusyB, answeredB, lockOneB, lockTo, loosenB, askedB, calledB, lockPageB, lockObjectB, valueOneB, valuesTo, writeB}
+use Rattle.server_changes.specs.Changes.{newAgeB, ageB, noticeB, freePageB, freePagesTo, freeOneB, freeTo, finishB, leaveB, joinB, joinReadB, joinWriteB, unpackOne, unpackTo, unpackB, joinCommitB, listB, unlistB, markBusyB, answeredB, lockOneB, lockTo, loosenB, askedB, calledB, lockPageB, valueOneB, valuesTo, writeB}
 use Rattle.server_meaning.specs.Tests.{Wanting}
-use Rattle.step_meaning.specs.Relation.{Sound}
+use Rattle.step_meaning.specs.Relation.{Paged, Sound}
 
 -- THE WANT BYTES
 
@@ -211,9 +211,8 @@ module _ (s : List ℕ) (k : Wanting s) where
   unfolding lockPageB
   wanting-lockPage i p l = want-set (want-off here p) (wholeFrom + p) (i + 1) (λ j q e. omega arith) .wants
 
-  pub wanting-lockObject : (i a : ℕ) → a < 256 → Wanting (lockObjectB i a s)
-  unfolding lockObjectB
-  wanting-lockObject i a l = want-set here (lockFrom + a) (i + 1) (λ j q e. omega arith) .wants
+  pub wanting-lock : (i p x : ℕ) → p < 32 → Wanting (lockTo i p x s 8)
+  wanting-lock i p x l = want-objects here i p x 8 l (omega arith) .wants
 
   pub wanting-unpack : (i : ℕ) (x : List ℕ) → i < 8 → AllBytes x → Wanting (unpackB i x s)
   wanting-unpack i x l b = unpacked here i x l b .wants
@@ -222,9 +221,9 @@ module _ (s : List ℕ) (k : Wanting s) where
   unfolding joinReadB
   wanting-joinRead i a l la = want-add (joined here i 1 a l (omega arith)) (readSetFrom i) a (omega arith) la .wants
 
-  pub wanting-joinWrite : (i a : ℕ) → i < 8 → a < 256 → Wanting (joinWriteB i a s)
+  pub wanting-joinWrite : (i p x : ℕ) → i < 8 → p < 32 → Wanting (joinWriteB i p x s)
   unfolding joinWriteB
-  wanting-joinWrite i a l la = want-add (joined here i 2 a l (omega arith)) (writtenSetFrom i) a (omega arith) la .wants
+  wanting-joinWrite i p x l lp = want-set (joined here i 2 (p * 8) l (omega arith)) (writtenSetFrom i + p) x (λ j q e. omega arith) .wants
 
   pub wanting-joinCommit : (i : ℕ) (x : List ℕ) → i < 8 → AllBytes x → Wanting (joinCommitB i x s)
   unfolding joinCommitB
@@ -239,26 +238,31 @@ sound-same n k t q w h =
       kinds = rw k (h .kinds);
       numbered = rw (q, t) (h .numbered);
       worked = rw q (h .worked);
+      paged = rw q (h .paged);
       holder = rw (w, t) (h .holder);
     }
 
 pub no-commit : NoWant ≡ WantCommit → ⊥
 no-commit e = false≢true (ap isWant e)
 
+pub no-write : NoWant ≡ WantWrite → ⊥
+no-write e = false≢true (ap isWant e)
+
 module _ {m : Server} (h : Sound m) where
   -- another entry in the waiting list
   pub sound-entry : (i : ℕ) (w : Waiter) → (isWant (w .want) ≡ true → m .latest i ≢ 0) → (w .want ≡ WantCommit → w .work .transaction ≢ 0)
-      → Sound (setQueue m (upd (m .queue) i w))
-  sound-entry i w f g =
+      → (w .want ≡ WantWrite → Paged (w .req) (w .writes)) → Sound (setQueue m (upd (m .queue) i w))
+  sound-entry i w f g p =
       record {
         kinds = h .kinds;
         numbered = λ j l. byEq j i (λ e. rw (e, eqb-yes j i e) f) (λ e. rw e (h .numbered j l));
         worked = λ j l. byEq j i (λ e. rw e g) (λ e. rw e (h .worked j l));
+        paged = λ j l. byEq j i (λ e. rw e p) (λ e. rw e (h .paged j l));
         holder = h .holder;
       }
 
   pub sound-leave : (i : ℕ) → Sound (setQueue m (upd (m .queue) i noWaiter))
-  sound-leave i = sound-entry i noWaiter (λ e. absurd (false≢true e)) (λ e. absurd (no-commit e))
+  sound-leave i = sound-entry i noWaiter (λ e. absurd (false≢true e)) (λ e. absurd (no-commit e)) (λ e. absurd (no-write e))
 
   -- a transaction that is noticed has a number
   pub sound-latest : (i t : ℕ) → t ≢ 0 → Sound (setLatest m (upd (m .latest) i t))
@@ -267,6 +271,7 @@ module _ {m : Server} (h : Sound m) where
         kinds = h .kinds;
         numbered = λ j l e. numbered j (h .numbered j l e);
         worked = h .worked;
+        paged = h .paged;
         holder = λ p k e. let a = h .holder p k e in (a .0, numbered k (a .1));
       }
     where
@@ -275,7 +280,7 @@ module _ {m : Server} (h : Sound m) where
 
   -- whole locks that were there before
   pub sound-whole : (f : ℕ → ℕ) → ((p k : ℕ) → f p ≡ suc k → m .wl p ≡ suc k) → Sound (setWl m f)
-  sound-whole f g = record { kinds = h .kinds; numbered = h .numbered; worked = h .worked; holder = λ p k e. h .holder p k (g p k e) }
+  sound-whole f g = record { kinds = h .kinds; numbered = h .numbered; worked = h .worked; paged = h .paged; holder = λ p k e. h .holder p k (g p k e) }
 
   pub sound-finish : (i : ℕ) → Sound (setWl m (λ p. cond (eqb (m .wl p) (suc i)) 0 (m .wl p)))
   sound-finish i = sound-whole (λ p. cond (eqb (m .wl p) (suc i)) 0 (m .wl p)) (λ p k. byEq (m .wl p) (suc i) (λ e. rw e (λ w. absurd (omega arith))) (λ e. rw e (λ w. w)))

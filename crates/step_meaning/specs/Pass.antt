@@ -1,6 +1,6 @@
 -- The pass over bytes means document 01's: one waiter's turn, the list in order, cycles, until nothing changes.
-use Prim.Native.Nat.{ℕ, zero, suc, _+_, _-_, _/_, _≤_, _<_}
-use mathlib.Core.Path.{_≡_, refl, sym, ap, subst, _∙_}
+use Prim.Native.Nat.{ℕ, zero, suc, _+_, _-_, _*_, _/_, _%_, _≤_, _<_}
+use mathlib.Core.Path.{_≡_, refl, sym, ap, subst, _∙_, fun-ext}
 use mathlib.Core.Bool.{Bool, true, false, not, _&&_, cond, false≢true}
 use mathlib.Core.Logic.{_≢_}
 use mathlib.Core.List.{List, [], _∷_, _++_, append-nil, append-assoc}
@@ -10,26 +10,28 @@ use lib.ListN.{length}
 use Rattle.sets.specs.Base.{upd, any, turned, snoc}
 use Rattle.sets.specs.Laws.{byB, byEq, eqb-same, eqb-yes, eqb-no, and-l, and-r}
 use Rattle.cells.specs.Upd.{cond-rel, branch-rel}
+use Rattle.cells.specs.Bits.{tb}
 use Rattle.line.specs.Messages.{lastNumber, Lock, NoLock, ObjectLock, WholeLock, Callback, Sent, To}
 use Rattle.line.specs.Server.{Server, Want, WantWrite, WantCommit, isWant, other, wantsPage, waiterCalled, waiterPend, setOl, setWl, setAsked, setQueue, onServer, leave, shut, ask, askFrom, holder, unavailable, sendPage, serveRead, concerned, callsFrom, call, callOnce, hinders, grantPage, grantObject, grant, installWaiter, allAnswered, afterCalls, proceed, blocked, gates, fault, stale, locked, abort, visit, firstFrom, order, pass, victim, moved, settle, accept, start, serverStep}
 use Rattle.line.specs.Server as Model
+use Rattle.line.specs.Fit.{Object}
 use Rattle.line.specs.Pass.{if-keeps, All8, order-8, victim-waits}
 use Rattle.message_meaning.specs.Meant.{upOf}
 use Rattle.station_state.specs.Layout.{hasBit}
-use Rattle.server_state.specs.Layout.{requestFrom, wholeOf, wantOf, calledOf, pendOf}
+use Rattle.server_state.specs.Layout.{requestFrom, wholeOf, writtenSet, wantOf, calledOf, pendOf}
 use Rattle.server_tests.specs.Tests.{faultB, blockedB, shutOutB, concernedSet, hinderedB, unavailableB}
 use Rattle.server_order.specs.Order.{victimB}
-use Rattle.server_changes.specs.Changes.{leaveB, calledB}
+use Rattle.server_changes.specs.Changes.{leaveB, calledB, lockTo}
 use Rattle.server_actions.specs.Actions.{Serving, serving, onState, sendPageB, abortB, installB, acceptB}
 use Rattle.server_actions.specs.Pass.{askB, askTo, serveReadB, callOneB, callTo, callB, callOnceB, grantPageB, grantObjectB, grantB, afterCallsB, proceedB, gatesB, visitB, orderB, passB, movedB, settleB, serverStepB}
 use Rattle.server_meaning.specs.Meant.{wantAs, Is}
-use Rattle.server_meaning.specs.Tests.{Wanting, bit-is, arrival-at, last-at, last-lt, whole-at, request-at, called-at, want-at, work-at, asked-at, fault-at, shut-at, shutOut-at, concernedSet-lt, concernedSet-at, hindered-at, allAnswered-at, unavailable-lt, unavailable-at, blocked-at}
+use Rattle.server_meaning.specs.Tests.{Wanting, bit-is, arrival-at, last-at, last-lt, whole-at, request-at, called-at, want-at, work-at, asked-at, writes-at, fault-at, shut-at, shutOut-at, concernedSet-lt, concernedSet-at, hindered-at, allAnswered-at, unavailable-lt, unavailable-at, blocked-at}
 use Rattle.server_meaning.specs.Order.{first-at, victim-at}
 use Rattle.server_meaning.specs.Waiting.{isCommit, commit-want, leave-is, called-is}
-use Rattle.server_meaning.specs.Changes.{asked-is, lockObject-is, lockPage-is}
+use Rattle.server_meaning.specs.Changes.{asked-is, lock-is, lockPage-is}
 use Rattle.step_meaning.specs.Relation.{Sound, AllSent, sent-snoc, Serves}
 use Rattle.step_meaning.specs.Posts.{kindFor, deescalate-post, callback-post}
-use Rattle.step_meaning.specs.Keeps.{wanting-leave, wanting-asked, wanting-called, wanting-lockPage, wanting-lockObject, sound-same, sound-entry, sound-leave}
+use Rattle.step_meaning.specs.Keeps.{wanting-leave, wanting-asked, wanting-called, wanting-lockPage, wanting-lock, sound-same, sound-entry, sound-leave}
 use Rattle.step_meaning.specs.Actions.{sendPage-means, abort-means, install-means}
 
 -- WHAT KEEPS A SERVER SOUND
@@ -39,7 +41,7 @@ module _ {m : Server} (h : Sound m) where
   sound-asked f = sound-same (setAsked m f) refl refl refl refl h
 
   pub sound-called : (i : ℕ) (f : ℕ → Bool) → i < 8 → Sound (setQueue m (upd (m .queue) i (waiterPend (waiterCalled (m .queue i) true) f)))
-  sound-called i f l = sound-entry h i (waiterPend (waiterCalled (m .queue i) true) f) (h .numbered i l) (h .worked i l)
+  sound-called i f l = sound-entry h i (waiterPend (waiterCalled (m .queue i) true) f) (h .numbered i l) (h .worked i l) (h .paged i l)
 
   pub sound-lockObject : (f : ℕ → ℕ) → Sound (setOl m f)
   sound-lockObject f = sound-same (setOl m f) refl refl refl refl h
@@ -51,6 +53,7 @@ module _ {m : Server} (h : Sound m) where
         kinds = h .kinds;
         numbered = h .numbered;
         worked = h .worked;
+        paged = h .paged;
         holder =
             λ q j.
             byEq q p
@@ -107,12 +110,12 @@ unfolding askTo
 asks-means {b} h i l = asks-from i b 32 0 32 l refl (omega arith) h
 
 -- 16, 17 and 18 for address a, with the unavailable set as it was before i's entry went
-page-means : {b c : Serving} {x y : Model.Serving} → Serves b x → Serves c y → (lock : Lock) (i a : ℕ) → i < 8 → a < 256 → y .server .latest i ≢ 0
+page-means : {b c : Serving} {x y : Model.Serving} → Serves b x → Serves c y → (lock : Lock) (i a : ℕ) → i < 8 → a < 256 → Object lock a → y .server .latest i ≢ 0
     → Serves (sendPageB (kindFor lock) i a (unavailableB (b .state) i a) c) (sendPage lock i a (unavailable (x .server) i a) y)
-page-means {b} {c} {x} {y} h k lock i a l la n =
+page-means {b} {c} {x} {y} h k lock i a l la o n =
     let u = unavailableB (b .state) i a in
-    subst (λ (f : ℕ → Bool). Serves (sendPageB (kindFor lock) i a u c) (sendPage lock i a f y)) (unavailable-at (h .state) i a la)
-    (sendPage-means k lock i a u l la (unavailable-lt (b .state) i a) n)
+    subst (λ (f : ℕ → Bool). Serves (sendPageB (kindFor lock) i a u c) (sendPage lock i a f y)) (unavailable-at (h .state) i a l la)
+    (sendPage-means k lock i a u l la (unavailable-lt (b .state) i a) o n)
 
 -- a station does not call itself
 not-own : (m : Server) (i j : ℕ) → concerned m i j ≡ true → i ≢ j
@@ -186,12 +189,12 @@ module _ {b : Serving} {x : Model.Serving} (h : Serves b x) (i : ℕ) (l : i < 8
   -- "Read: send 16."
   pub serveRead-means : Serves (serveReadB i b) (serveRead i x)
   unfolding serveReadB serveRead leave
-  serveRead-means = rw (request-at (h .state) i l) (page-means h (leave-means h i l) NoLock i (x .server .queue i .req) l request-lt n)
+  serveRead-means = rw (request-at (h .state) i l) (page-means h (leave-means h i l) NoLock i (x .server .queue i .req) l request-lt tt n)
 
   -- 18
-  pub grantPage-means : Serves (grantPageB i b) (grantPage i x)
+  pub grantPage-means : x .server .queue i .want ≡ WantWrite → Serves (grantPageB i b) (grantPage i x)
   unfolding grantPageB grantPage leave
-  grantPage-means =
+  grantPage-means w =
       let a = x .server .queue i .req in
       let la : a < 256 = request-lt in
       let k = leave-means h i l in
@@ -199,28 +202,44 @@ module _ {b : Serving} {x : Model.Serving} (h : Serves b x) (i : ℕ) (l : i < 8
       (page-means h
       (on-state k (lockPage-is (k .state) i (a / 8) l (omega arith)) (wanting-lockPage _ (k .wanting) i (a / 8) (omega arith))
       (sound-lockPage (k .sound) i (a / 8) _ l n))
-      WholeLock i a l la n)
+      WholeLock i a l la (h .sound .paged i l w .stands) n)
 
-  -- 17
-  pub grantObject-means : Serves (grantObjectB i b) (grantObject i x)
+  -- the objects that it writes are those of its page in the bytes
+  written-on : x .server .queue i .want ≡ WantWrite → (c : ℕ)
+      → let p = x .server .queue i .req / 8 in (eqb (c / 8) p && tb (writtenSet (b .state) i p) (c % 8)) ≡ x .server .queue i .writes c
+  written-on w c =
+      let m = x .server in
+      let p = m .queue i .req / 8 in
+      byEq (c / 8) p
+      (λ e.
+      let whole : p * 8 + c % 8 ≡ c = omega (arith, eqb-yes (c / 8) p e) in
+      rw (e, ← bit-is (writtenSet (b .state) i p) (c % 8)) (writes-at (h .state) i p (c % 8) l (omega (arith, request-lt)) (omega arith) ∙ ap (m .queue i .writes) whole))
+      (λ e.
+      rw e
+      (byB (m .queue i .writes c) (λ t. absurd (eqb-no (c / 8) p e (h .sound .paged i l w .page-only c t))) sym))
+
+  -- 17: "takes them in one step"
+  pub grantObject-means : x .server .queue i .want ≡ WantWrite → Serves (grantObjectB i b) (grantObject i x)
   unfolding grantObjectB grantObject leave
-  grantObject-means =
-      let a = x .server .queue i .req in
+  grantObject-means w =
+      let m = x .server in
+      let a = m .queue i .req in
       let la : a < 256 = request-lt in
       let k = leave-means h i l in
+      let set = writtenSet (b .state) i (a / 8) in
+      let locked = subst (λ (f : ℕ → Bool). Is (lockTo i (a / 8) set (leaveB i (b .state)) 8) (setOl (leave i x .server) (λ c. cond (f c) (suc i) (m .ol c)))) (fun-ext (written-on w))
+      (lock-is (k .state) i (a / 8) set l (omega arith)) in
       rw (request-at (h .state) i l)
-      (page-means h
-      (on-state k (lockObject-is (k .state) i a l la) (wanting-lockObject _ (k .wanting) i a la) (sound-lockObject (k .sound) _))
-      ObjectLock i a l la n)
+      (page-means h (on-state k locked (wanting-lock _ (k .wanting) i (a / 8) set (omega arith)) (sound-lockObject (k .sound) _)) ObjectLock i a l la (h .sound .paged i l w .stands) n)
 
-  pub grant-means : Serves (grantB i b) (grant i x)
+  pub grant-means : x .server .queue i .want ≡ WantWrite → Serves (grantB i b) (grant i x)
   unfolding grantB grant
-  grant-means =
+  grant-means w =
       let m = x .server in
       let a = m .queue i .req in
       let la : a < 256 = request-lt in
       rw (request-at (h .state) i l)
-      (cond-rel Serves (hinderedB (b .state) i (a / 8)) (any 8 (hinders m i (a / 8))) (hindered-at (h .state) i (a / 8) (omega arith)) grantObject-means grantPage-means)
+      (cond-rel Serves (hinderedB (b .state) i (a / 8)) (any 8 (hinders m i (a / 8))) (hindered-at (h .state) i (a / 8) (omega arith)) (grantObject-means w) (grantPage-means w))
 
 -- ONE WAITER'S TURN
 
@@ -241,7 +260,7 @@ module _ {b : Serving} {x : Model.Serving} (h : Serves b x) (i : ℕ) (l : i < 8
   afterCalls-means zero l2 l3 e f = absurd (omega arith)
   afterCalls-means (suc zero) l2 l3 e f = absurd (omega arith)
   afterCalls-means (suc (suc zero)) l2 l3 e f =
-      cond-rel Serves (eqb (pendOf (b .state) i) 0) (allAnswered (x .server) i) (allAnswered-at (h .state) i l) (grant-means h i l n) h
+      cond-rel Serves (eqb (pendOf (b .state) i) 0) (allAnswered (x .server) i) (allAnswered-at (h .state) i l) (grant-means h i l n e) h
   afterCalls-means (suc (suc (suc zero))) l2 l3 e f =
       cond-rel Serves (eqb (pendOf (b .state) i) 0) (allAnswered (x .server) i) (allAnswered-at (h .state) i l) (installWaiter-means h i l e (f refl)) h
   afterCalls-means (suc (suc (suc (suc k)))) l2 l3 e f = absurd (omega arith)

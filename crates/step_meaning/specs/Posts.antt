@@ -19,11 +19,12 @@ use Rattle.le.specs.Laws.{u32At-is, u64At-is}
 use Rattle.le.specs.Parts.{numAt-drop}
 use Rattle.cells.specs.Num.{bytes-all, num-frame}
 use Rattle.cells.specs.Bits.{tb, tb-zero}
-use Rattle.line.specs.Messages.{Lock, NoLock, ObjectLock, WholeLock, Down, Page, Deescalate, Callback, Committed, Aborted, Invalidate, To}
+use Rattle.line.specs.Messages.{pageOf, address, Lock, NoLock, ObjectLock, WholeLock, Down, Page, Deescalate, Callback, Committed, Aborted, Invalidate, To}
 use Rattle.line.specs.Server.{Server, valuesOn}
+use Rattle.line.specs.Fit.{Object}
 use Rattle.message.specs.Layout.{pageFrom, objectFrom, transactionFrom, pagesFrom, versionFrom, setsFrom, setsLength, secondSet, valuesFrom, behindLength, messageLength, kindOf, stationOf, transactionOf, message, single}
 use Rattle.message.specs.Layout as Message
-use Rattle.message.specs.Range.{zeroAt, zeros, transactionOk, pageMessageOk, deescalateOk, callbackOk, committedOk, abortedOk, invalidateOk, downFieldsOk}
+use Rattle.message.specs.Range.{zeroAt, zeros, transactionOk, pageMessageOk, grantOk, deescalateOk, callbackOk, committedOk, abortedOk, invalidateOk, downFieldsOk}
 use Rattle.message.specs.Number.{lengthOk, downRange, downNumber}
 use Rattle.message.specs.Stores.{length-message}
 use Rattle.message_meaning.specs.Meant.{objectsOn, objectsIn, pageAt, downOf}
@@ -200,6 +201,10 @@ kindFor NoLock = 16
 kindFor ObjectLock = 17
 kindFor WholeLock = 18
 
+-- a page's first address is its object 0
+first : (a : ℕ) → a ≡ address (pageOf a) 0 → a % 8 ≡ 0
+first a e = omega arith
+
 -- the eight values of a page, and a value among them
 page-value : (s : List ℕ) (at o : ℕ) (rest : List ℕ) → at + pageRow ≤ length s → o < 8 → u64At (take pageRow (drop at s) ++ rest) (o * valueWidth) ≡ u64At s (at + o * valueWidth)
 page-value s at o rest h l =
@@ -264,6 +269,13 @@ module _ {s : List ℕ} {m : Server} (h : Is s m) where
           one-set k i (a / 8) (a % 8) (latestOf s i) 0 0 u behind,
         )
 
+    -- 17 and 18: "byte 3 is then 0"
+    grant-ok : a % 8 ≡ 0 → m .latest i ≢ 0 → grantOk (pageB k i a u s) ≡ true
+    unfolding grantOk
+    grant-ok z h0 =
+        let none : zeros (pageB k i a u s) objectFrom 1 ≡ true = rw z (no-object k i (a / 8) (latestOf s i) 0 0 (single u) behind) in
+        rw (page-ok h0, none)
+
     values-are : (b : ℕ) → cond (eqb (b / 8) (a / 8)) (Message.valueOf (pageB k i a u s) (b % 8)) 0 ≡ valuesOn (a / 8) (m .val) b
     values-are b =
         byEq (b / 8) (a / 8)
@@ -292,22 +304,22 @@ module _ {s : List ℕ} {m : Server} (h : Is s m) where
         (ap₂ (λ (v x : ℕ → ℕ). Page lock a (m .latest i) v (objectsOn (a / 8) u) x) (fun-ext versions-are) (fun-ext values-are))
 
   -- "16 page (page, object, transaction, versions, unavailable set, values); 17 the same with a lock on the object; 18 with a lock on the
-  -- whole page"
-  pub page-post : (lock : Lock) (i a u : ℕ) → i < 8 → a < 256 → u < 256 → m .latest i ≢ 0
+  -- whole page"; by document 02 17 and 18 name no object
+  pub page-post : (lock : Lock) (i a u : ℕ) → i < 8 → a < 256 → u < 256 → Object lock a → m .latest i ≢ 0
       → ReadAs (pageB (kindFor lock) i a u s) (To i (Page lock a (m .latest i) (valuesOn (a / 8) (m .ver)) (λ b. eqb (b / 8) (a / 8) && tb u (b % 8)) (valuesOn (a / 8) (m .val))))
   unfolding downFieldsOk
-  page-post NoLock i a u l la lu h0 =
+  page-post NoLock i a u l la lu z h0 =
       let r = page-back 16 i a u l la in
       sent i 16 (pageB 16 i a u s) l (r .kind-is) refl refl (r .station-is) (page-length 16 i a u l la) (page-are 16 i a u l la (omega arith) lu)
       (rw (r .kind-is) (page-ok 16 i a u l la h0)) (down-16 _ (r .kind-is) ∙ page-meant 16 i a u l la NoLock)
-  page-post ObjectLock i a u l la lu h0 =
+  page-post ObjectLock i a u l la lu z h0 =
       let r = page-back 17 i a u l la in
       sent i 17 (pageB 17 i a u s) l (r .kind-is) refl refl (r .station-is) (page-length 17 i a u l la) (page-are 17 i a u l la (omega arith) lu)
-      (rw (r .kind-is) (page-ok 17 i a u l la h0)) (down-17 _ (r .kind-is) ∙ page-meant 17 i a u l la ObjectLock)
-  page-post WholeLock i a u l la lu h0 =
+      (rw (r .kind-is) (grant-ok 17 i a u l la (first a z) h0)) (down-17 _ (r .kind-is) ∙ page-meant 17 i a u l la ObjectLock)
+  page-post WholeLock i a u l la lu z h0 =
       let r = page-back 18 i a u l la in
       sent i 18 (pageB 18 i a u s) l (r .kind-is) refl refl (r .station-is) (page-length 18 i a u l la) (page-are 18 i a u l la (omega arith) lu)
-      (rw (r .kind-is) (page-ok 18 i a u l la h0)) (down-18 _ (r .kind-is) ∙ page-meant 18 i a u l la WholeLock)
+      (rw (r .kind-is) (grant-ok 18 i a u l la (first a z) h0)) (down-18 _ (r .kind-is) ∙ page-meant 18 i a u l la WholeLock)
 
   -- DE-ESCALATION
 

@@ -2,15 +2,15 @@
 -- as those sent, records that are document 01's bytes of those archived.
 use Prim.Native.Nat.{ℕ, suc, _≤_, _<_}
 use mathlib.Core.Path.{_≡_}
-use mathlib.Core.Bool.{true}
+use mathlib.Core.Bool.{Bool, true}
 use mathlib.Core.Logic.{_≢_}
 use mathlib.Core.List.{List, [], _∷_}
 use lib.ListN.{length}
 use Rattle.sets.specs.Base.{snoc}
 use Rattle.lists.specs.Bytes.{Bytes}
 use Rattle.layout.specs.Record.{bytesOf}
-use Rattle.line.specs.Messages.{Sent, To, Rec}
-use Rattle.line.specs.Server.{Server, WantCommit, waits}
+use Rattle.line.specs.Messages.{pageOf, address, Sent, To, Rec}
+use Rattle.line.specs.Server.{Server, WantWrite, WantCommit, waits}
 use Rattle.line.specs.Server as Model
 use Rattle.message.specs.Layout.{messageLength, stationOf}
 use Rattle.message.specs.Number.{downNumber}
@@ -20,12 +20,18 @@ use Rattle.server_meaning.specs.Meant.{Is}
 use Rattle.server_meaning.specs.Tests.{Wanting}
 use Rattle.server_actions.specs.Actions.{Serving}
 
+-- a write's objects are of one page, for whose first the request stands
+pub record Paged (req : ℕ) (writes : ℕ → Bool) : Type 0 where
+  pub stands : req ≡ address (pageOf req) 0
+  pub page-only : (b : ℕ) → writes b ≡ true → pageOf b ≡ pageOf req
+
 -- what number 1 asks of the server, in the model's words, as far as messages and records need it
 pub record Sound (m : Server) : Type 0 where
   pub kinds : (i : ℕ) → m .kind i ≤ 1
   -- whoever waits has a transaction, and so has the work of a commit
   pub numbered : (i : ℕ) → i < 8 → waits m i ≡ true → m .latest i ≢ 0
   pub worked : (i : ℕ) → i < 8 → m .queue i .want ≡ WantCommit → m .queue i .work .transaction ≢ 0
+  pub paged : (i : ℕ) → i < 8 → m .queue i .want ≡ WantWrite → Paged (m .queue i .req) (m .queue i .writes)
   -- a page that is locked whole is so by a station of the line with a transaction
   pub holder : (p h : ℕ) → m .wl p ≡ suc h → (h < 8) × (m .latest h ≢ 0)
 

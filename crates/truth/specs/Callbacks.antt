@@ -28,7 +28,7 @@ call-below r L T b (Invalidate d) c = tt
 
 done-below : (r L T : ℕ) → L ≤ T → (m : Up) → DoneBelow r L m → DoneBelow r T m
 done-below r L T b (ReadRequest a u) c = tt
-done-below r L T b (WriteRequest a u) c = tt
+done-below r L T b (WriteRequest p u set) c = tt
 done-below r L T b (Commit w) c = tt
 done-below r L T b (Abort u) c = tt
 done-below r L T b (Purge p) c = tt
@@ -55,7 +55,7 @@ call-above r L T b (Invalidate d) c = refl
 
 done-above : (r L T : ℕ) → L < T → (m : Up) → DoneBelow r L m → doneOf r T m ≡ false
 done-above r L T b (ReadRequest a u) c = refl
-done-above r L T b (WriteRequest a u) c = refl
+done-above r L T b (WriteRequest p u set) c = refl
 done-above r L T b (Commit w) c = refl
 done-above r L T b (Abort u) c = refl
 done-above r L T b (Purge p) c = refl

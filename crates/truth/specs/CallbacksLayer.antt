@@ -243,7 +243,7 @@ module _ (i : ℕ) (l : List Up) (w : World) (b : i < 8) (h : Inv w) (g : Arrive
       record {
         read-waits = λ a T n e q. joined (ReadRequest a T) T (readWaiter ((notice i T x) .server) a) n refl refl q;
         read-now = λ a T n e q. under-page t u d NoLock i a _ (notice i T x) (noted (ReadRequest a T) T n q);
-        write-waits = λ a T n e q. joined (WriteRequest a T) T (writeWaiter ((notice i T x) .server) a) n refl refl q;
+        write-waits = λ p T set n e q. joined (WriteRequest p T set) T (writeWaiter ((notice i T x) .server) p set) n refl refl q;
         commit-now = λ k n f e q. under-commit t u d i k (notice i (k .transaction) x) (noted (Commit k) (k .transaction) n q);
         commit-waits = λ k n e q. joined (Commit k) (k .transaction) (commitWaiter ((notice i (k .transaction) x) .server) k) n refl refl q;
         aborts = λ T n e q. under-finish t u d i ByMessage (notice i T x) (noticed-idle t u d i T x n) (noted (Abort T) T n q);

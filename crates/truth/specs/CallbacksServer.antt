@@ -1,7 +1,7 @@
 -- The server's actions and the callback tokens of requester r at station j, under a server's step: t are the stations, u the up lines,
 -- d the down lines before the step.
 use mathlib.Core.Path.{_≡_, refl, sym, _∙_}
-use mathlib.Core.Bool.{Bool, true, false, false≢true}
+use mathlib.Core.Bool.{Bool, true, false, false≢true, cond}
 use mathlib.Core.List.{List, _++_}
 use Prim.Native.Nat.{ℕ, suc, _+_, _<_}
 use native.Mathlib.Omega.{arith}
@@ -124,7 +124,7 @@ module _ (t : ℕ → Station) (u : ℕ → List Up) (d : ℕ → List Down) (r 
       let s : Server = x .server in
       let a : ℕ = s .queue i .req in
       let y : Serving = leave i x in
-      page-calls ObjectLock i a (unavailable s i a) (onServer y (setOl (y .server) (upd (s .ol) a (suc i)))) (granted-calls i x b c h)
+      page-calls ObjectLock i a (unavailable s i a) (onServer y (setOl (y .server) (λ c. cond (s .queue i .writes c) (suc i) (s .ol c)))) (granted-calls i x b c h)
 
   pub whole-calls : (i : ℕ) (x : Serving) → j < 8 → allAnswered (x .server) i ≡ true → CallsIn t u d r j x → CallsIn t u d r j (grantPage i x)
   unfolding grantPage

@@ -75,8 +75,8 @@ module _ (r L : ℕ) (F : Bool) (q : Waiter) (p : Bool) (U : List Up) (D : List 
           reads-again = λ a v b c e f. still (s .kept r) h;
           reads-here = λ a b c e f g. still (s .kept r) h;
           reads-ask = λ a b c e f g. push-up (ReadRequest a (s .num)) refl tt h;
-          writes-here = λ a v b c e. still (s .kept r) h;
-          writes-ask = λ a v b c e. byB (locking (s .kind)) (λ z. rw z (push-up (WriteRequest a (s .num)) refl tt h)) (λ z. rw z (push-up (ReadRequest a (s .num)) refl tt h));
+          writes-here = λ p f b c e. still (s .kept r) h;
+          writes-ask = λ p f b c e. byB (locking (s .kind)) (λ z. rw z (push-up (WriteRequest p (s .num) _) refl tt h)) (λ z. rw z (push-up (ReadRequest _ (s .num)) refl tt h));
           commits = λ a. push-up (Commit (workOf s)) refl tt h;
           aborts = λ a. close-calls _ (rw (undo-kept s r) (byB (locking (s .kind)) (λ z. rw z (push-up (Abort (s .num)) refl tt h)) (λ z. rw z (still (s .kept r) h))));
           purges = λ k a b c e. push-up (Purge k) refl tt h;
@@ -108,7 +108,7 @@ module _ (r L : ℕ) (F : Bool) (q : Waiter) (p : Bool) (U : List Up) (D : List 
           refused = λ m e h. still (s .kept r) (pop-down m h);
           old-page = λ a t v u x e h. still (s .kept r) (pop-down _ h);
           page-read = λ a t v u x e f h. rw (arrived-kept NoLock a v u x s r) (still (s .kept r) (pop-down _ h));
-          page-write = λ l a t v u x y e f g h. rw (arrived-kept l a v u x s r) (still (s .kept r) (pop-down _ h));
+          page-write = λ l a t v u x p y e f g c h. rw (arrived-kept l a v u x s r) (still (s .kept r) (pop-down _ h));
           deescalates = λ k t e h.
               let g : Callbacks r L F q p (s .kept r) (snoc U (WrittenSet k t (writtenOn k t s))) D = push-up (WrittenSet k t (writtenOn k t s)) refl tt (pop-down _ h) in
               byB (live s t && s .wl k) (λ z. rw z g) (λ z. rw z g);

@@ -10,9 +10,9 @@ use lib.ListN.{length, take}
 use Rattle.sets.specs.Base.{Val, none, some, has, valOr, zeros}
 use Rattle.line.specs.All.{All}
 use Rattle.line.specs.Messages.{pageOf, locking, Work, Up, ReadRequest, WriteRequest, Commit, Abort, Purge, Busy, Done, WrittenSet, NoLock, ObjectLock, WholeLock, Down, Page, Deescalate, Callback, Committed, Aborted, Invalidate, Sent, To, Rec}
-use Rattle.line.specs.Station.{Station, Wait, Idle, ForRead, ForWrite, ForCommit, waiting, forRead, forWrite, forCommit, Kept, NotKept, KeptCall}
+use Rattle.line.specs.Station.{Station, Wait, Idle, ForRead, ForWrite, ForCommit, waiting, forRead, forWrite, writesTo, forCommit, requested, someOn, Kept, NotKept, KeptCall}
 use Rattle.line.specs.Server.{Server, Waiter, Want, NoWant, WantRead, WantWrite, WantCommit, isWant, noWaiter, other}
-use Rattle.line.specs.Line.{World, Op, Read, Write, Commits, Told, ToldRead, ToldWrite, ToldCommit, ToldAbort}
+use Rattle.line.specs.Line.{World, Op, Read, Commits, writesOf, Told, ToldRead, ToldWrite, ToldCommit, ToldAbort}
 use Rattle.line.specs.Truth.{In, count, left, NumberedFrom, ofTransaction, ofNumber, lastWrite, firstRead, SameAsTold}
 
 -- 1. TOKENS
@@ -24,7 +24,7 @@ stale kind num opened t = not (locking kind) && not (opened && eqb t num)
 -- a token that is not stale; `old` says which transactions are over for 1 and 16
 abbrev pub tokenUp : (ℕ → Bool) → Up → Bool
 tokenUp old (ReadRequest a t) = not (old t)
-tokenUp old (WriteRequest a t) = true
+tokenUp old (WriteRequest p t set) = true
 tokenUp old (Commit w) = true
 tokenUp old (Abort t) = false
 tokenUp old (Purge p) = false
@@ -52,19 +52,19 @@ pub record Fit (old : Bool) (t num : ℕ) (opened fit : Bool) : Type 0 where
   pub alive : old ≡ false → opened ≡ true
   pub waits : old ≡ false → fit ≡ true
 
--- the wait that a 1 or 16, a 2, 17 or 18, and a 22 answer
+-- the wait that a 1 or 16, a 2, 17 or 18, and a 22 answer: a 2, 17 or 18 is for a page, and a 2 names something there
 abbrev pub pageWait : ℕ → Wait → ℕ → Bool
 pageWait kind w a = forRead w a || (not (locking kind) && forWrite w a)
 
 abbrev pub lockWait : ℕ → Wait → ℕ → Bool
-lockWait kind w a = locking kind && forWrite w a
+lockWait kind w p = locking kind && writesTo w p
 
 abbrev pub abortWait : ℕ → Wait → Bool
 abortWait kind w = waiting w && (locking kind || forCommit w)
 
 abbrev pub FitUp : ℕ → ℕ → Bool → Wait → Up → Type 0
 FitUp kind num opened w (ReadRequest a t) = Fit (stale kind num opened t) t num opened (pageWait kind w a)
-FitUp kind num opened w (WriteRequest a t) = Fit false t num opened (lockWait kind w a)
+FitUp kind num opened w (WriteRequest p t set) = Fit false t num opened (lockWait kind w p && someOn p set)
 FitUp kind num opened w (Commit k) = Fit false (k .transaction) num opened (forCommit w)
 FitUp kind num opened w (Abort t) = Unit {0}
 FitUp kind num opened w (Purge p) = Unit {0}
@@ -74,8 +74,8 @@ FitUp kind num opened w (WrittenSet p t set) = Unit {0}
 
 abbrev pub FitDown : ℕ → ℕ → Bool → Wait → Down → Type 0
 FitDown kind num opened w (Page NoLock a t v u x) = Fit (stale kind num opened t) t num opened (pageWait kind w a)
-FitDown kind num opened w (Page ObjectLock a t v u x) = Fit false t num opened (lockWait kind w a)
-FitDown kind num opened w (Page WholeLock a t v u x) = Fit false t num opened (lockWait kind w a)
+FitDown kind num opened w (Page ObjectLock a t v u x) = Fit false t num opened (lockWait kind w (pageOf a))
+FitDown kind num opened w (Page WholeLock a t v u x) = Fit false t num opened (lockWait kind w (pageOf a))
 FitDown kind num opened w (Deescalate p t) = Unit {0}
 FitDown kind num opened w (Callback r t set) = Unit {0}
 FitDown kind num opened w (Committed t n) = Fit false t num opened (forCommit w)
@@ -86,13 +86,13 @@ FitDown kind num opened w (Invalidate d) = Unit {0}
 abbrev pub FitWaiter : ℕ → ℕ → Bool → Wait → ℕ → Want → ℕ → Type 0
 FitWaiter kind num opened w latest NoWant a = Unit {0}
 FitWaiter kind num opened w latest WantRead a = Fit false latest num opened (locking kind && forRead w a)
-FitWaiter kind num opened w latest WantWrite a = Fit false latest num opened (lockWait kind w a)
+FitWaiter kind num opened w latest WantWrite a = Fit false latest num opened (lockWait kind w (pageOf a))
 FitWaiter kind num opened w latest WantCommit a = Fit false latest num opened (not (locking kind) && forCommit w)
 
 -- a commit on its way up brings the station's reads and writes
 abbrev pub SameWork : (ℕ → Val) → (ℕ → Val) → Up → Type 0
 SameWork rd wr (ReadRequest a t) = Unit {0}
-SameWork rd wr (WriteRequest a t) = Unit {0}
+SameWork rd wr (WriteRequest p t set) = Unit {0}
 SameWork rd wr (Commit k) = (k .reads ≡ rd) × (k .writes ≡ wr)
 SameWork rd wr (Abort t) = Unit {0}
 SameWork rd wr (Purge p) = Unit {0}
@@ -107,11 +107,11 @@ WaitingWork rd wr latest WantRead k = Unit {0}
 WaitingWork rd wr latest WantWrite k = Unit {0}
 WaitingWork rd wr latest WantCommit k = (k .transaction ≡ latest) × (k .reads ≡ rd) × (k .writes ≡ wr)
 
--- what a waiter reads and writes; who does not wait has the empty entry
+-- what a waiter reads and writes, a write's objects being some of one page; who does not wait has the empty entry
 abbrev pub Shape : Want → Waiter → Type 0
 Shape NoWant q = q ≡ noWaiter
 Shape WantRead q = ((b : ℕ) → q .reads b ≡ eqb b (q .req)) × ((b : ℕ) → q .writes b ≡ false) × (q .called ≡ false)
-Shape WantWrite q = ((b : ℕ) → q .reads b ≡ false) × ((b : ℕ) → q .writes b ≡ eqb b (q .req))
+Shape WantWrite q = ((b : ℕ) → q .reads b ≡ false) × ((b : ℕ) → q .writes b ≡ true → pageOf b ≡ pageOf (q .req)) × (someOn (pageOf (q .req)) (q .writes) ≡ true)
 Shape WantCommit q = ((b : ℕ) → q .reads b ≡ has (q .work .reads b)) × ((b : ℕ) → q .writes b ≡ has (q .work .writes b))
 
 pub record Tokens (skind kind num : ℕ) (opened : Bool) (rd wr : ℕ → Val) (w : Wait) (q : Waiter) (latest : ℕ) (fin : Bool) (U : List Up) (D : List Down) : Type 0 where
@@ -127,6 +127,7 @@ pub record Tokens (skind kind num : ℕ) (opened : Bool) (rd wr : ℕ → Val) (
   pub S6 : opened ≡ false → ((a : ℕ) → (rd a ≡ none) × (wr a ≡ none)) × (waiting w ≡ false)  -- nothing read, written or asked when closed
   pub S7 : Shape (q .want) q  -- what a waiter reads and writes; a read is not called
   pub range-wait : (a : ℕ) → (forRead w a || forWrite w a) ≡ true → a < 256  -- "page 0 to 31, object 0 to 7"
+  pub range-page : (p : ℕ) → writesTo w p ≡ true → p < 32
   pub range-used : (a : ℕ) → 256 ≤ a → (rd a ≡ none) × (wr a ≡ none)
 
 abbrev pub TokensAt : Server → (ℕ → Station) → (ℕ → List Up) → (ℕ → List Down) → ℕ → Type 0
@@ -147,7 +148,7 @@ brings p (Invalidate d) = false
 -- a drop of the page: 5, or a 7 with the page in its drops
 abbrev pub dropped : ℕ → Up → Bool
 dropped p (ReadRequest a t) = false
-dropped p (WriteRequest a t) = false
+dropped p (WriteRequest q t set) = false
 dropped p (Commit w) = false
 dropped p (Abort t) = false
 dropped p (Purge q) = eqb p q
@@ -158,7 +159,7 @@ dropped p (WrittenSet q t set) = false
 -- a 1 or 2 for the page
 abbrev pub asksFor : ℕ → Up → Bool
 asksFor p (ReadRequest a t) = eqb p (pageOf a)
-asksFor p (WriteRequest a t) = eqb p (pageOf a)
+asksFor p (WriteRequest q t set) = eqb p q
 asksFor p (Commit w) = false
 asksFor p (Abort t) = false
 asksFor p (Purge q) = false
@@ -211,7 +212,7 @@ keptOf t (KeptCall u set) = eqb u t
 
 abbrev pub doneOf : ℕ → ℕ → Up → Bool
 doneOf r t (ReadRequest a u) = false
-doneOf r t (WriteRequest a u) = false
+doneOf r t (WriteRequest p u set) = false
 doneOf r t (Commit w) = false
 doneOf r t (Abort u) = false
 doneOf r t (Purge p) = false
@@ -237,7 +238,7 @@ KeptBelow t (KeptCall u set) = u ≤ t
 
 abbrev pub DoneBelow : ℕ → ℕ → Up → Type 0
 DoneBelow r t (ReadRequest a u) = Unit {0}
-DoneBelow r t (WriteRequest a u) = Unit {0}
+DoneBelow r t (WriteRequest p u set) = Unit {0}
 DoneBelow r t (Commit w) = Unit {0}
 DoneBelow r t (Abort u) = Unit {0}
 DoneBelow r t (Purge p) = Unit {0}
@@ -290,7 +291,7 @@ askOf p t (Invalidate d) = false
 
 abbrev pub setOf : ℕ → ℕ → Up → Bool
 setOf p t (ReadRequest a u) = false
-setOf p t (WriteRequest a u) = false
+setOf p t (WriteRequest q u set) = false
 setOf p t (Commit w) = false
 setOf p t (Abort u) = false
 setOf p t (Purge q) = false
@@ -364,7 +365,9 @@ TrueValue b val (Aborted t c) = Unit {0}
 TrueValue b val (Invalidate d) = Unit {0}
 
 abbrev pub ShowsRequested : Down → Type 0
-ShowsRequested (Page l a t v u x) = u a ≡ false
+ShowsRequested (Page NoLock a t v u x) = u a ≡ false
+ShowsRequested (Page ObjectLock a t v u x) = Unit {0}
+ShowsRequested (Page WholeLock a t v u x) = Unit {0}
 ShowsRequested (Deescalate p t) = Unit {0}
 ShowsRequested (Callback r t set) = Unit {0}
 ShowsRequested (Committed t n) = Unit {0}
@@ -382,7 +385,7 @@ pub record Values (a val : ℕ) (cached unav : Bool) (copy : ℕ) (rd wr : Val) 
   pub A : (cached && not unav) ≡ true → has wr ≡ false → copy ≡ val  -- shown, not written here: the server's value
   pub A-installed : (cached && not unav) ≡ true → 1 ≤ count isCommitted D → copy ≡ val  -- shown, written, the 21 on its way: the server's value
   pub B : All (TrueValue a val) D  -- a page message that shows it has the server's value
-  pub B2 : All ShowsRequested D  -- a page message shows its requested address
+  pub B2 : All ShowsRequested D  -- a 16 shows its requested address
   pub E : count isCommitted D ≡ 0 → (v : ℕ) → rd ≡ some v → v ≡ val  -- what was read is still the server's value
 
 abbrev pub ValuesAt : Server → (ℕ → Station) → (ℕ → List Down) → ℕ → ℕ → Type 0
@@ -413,7 +416,7 @@ TrueReads archive last k = (a v : ℕ) → k .reads a ≡ some v → (k .readVer
 -- said of the work of a commit in Up, and of a commit that waits
 abbrev pub WorkUp : (Work → Type 0) → Up → Type 0
 WorkUp P (ReadRequest a t) = Unit {0}
-WorkUp P (WriteRequest a t) = Unit {0}
+WorkUp P (WriteRequest p t set) = Unit {0}
 WorkUp P (Commit k) = P k
 WorkUp P (Abort t) = Unit {0}
 WorkUp P (Purge p) = Unit {0}
@@ -463,7 +466,7 @@ over num opened t = ltb t num || (eqb t num && not opened)
 abbrev pub NotedWait : Wait → Op → Type 0
 NotedWait Idle op = Unit {0}
 NotedWait (ForRead a) op = op ≡ Read a
-NotedWait (ForWrite a v) op = op ≡ Write a v
+NotedWait (ForWrite p f) op = writesOf op ≡ f
 NotedWait ForCommit op = op ≡ Commits
 
 -- T6: the record of a 21 on its way

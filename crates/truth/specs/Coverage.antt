@@ -10,7 +10,7 @@ use Rattle.sets.specs.Base.{upd, snoc, nowhere, Val, none, has, any}
 use Rattle.sets.specs.Laws.{byB, byEq, eqb-same, eqb-yes, and-l, and-r, or-yes, or-no, not-yes, any-no}
 use Rattle.line.specs.All.{All, all-map}
 use Rattle.line.specs.Messages.{pageOf, address, locking, lastNumber, Work, Up, ReadRequest, WriteRequest, Commit, Abort, Purge, Busy, Done, WrittenSet, Lock, NoLock, ObjectLock, WholeLock, Down, Page, Deescalate, Callback, Committed, Aborted, Invalidate, AbortedFor}
-use Rattle.line.specs.Station.{Station, Did, does, setKept, Wait, Idle, ForRead, ForWrite, ForCommit, forRead, forWrite, requested, live, usedAt, usedPage, drops, dropPages, mark, recordRead, writeLocal, doCallback, closed, close, undo, readLocal, readAsk, writeAsk, arrive, takeLock, onDeescalate, onCommitted, onAborted, stationStep, workOf}
+use Rattle.line.specs.Station.{Station, Did, does, setKept, Wait, Idle, ForRead, ForWrite, ForCommit, forRead, forWrite, requested, live, usedAt, usedPage, drops, dropPages, mark, recordRead, writeLocal, doCallback, closed, close, undo, readLocal, readAsk, writeAsk, arrive, takeLock, onDeescalate, onCommitted, onAborted, stationStep, workOf, writesTo}
 use Rattle.line.specs.Station as S
 use Rattle.line.specs.Server.{ByCommit, ByCause, Server, Serving, send, onServer, setQueue, setAsked, setOl, setWl, valuesOn, unavailable, Waiter, waiterPend, waiterCalled, Want, NoWant, WantRead, WantWrite, WantCommit, waits, unexpected, notice, finish, join, leave, sendPage, abort, write, archive, install, serveNow, joinRead, joinWrite, joinCommit, commitNow, unlist, markBusy, answered, loosen, accept, ask, serveRead, concerned, call, grantPage, grantObject, installWaiter, start}
 use Rattle.line.specs.Line.{Op, Call, fresh, run, perform, sentTo}
@@ -19,7 +19,7 @@ use Rattle.line.specs.Runs.{Moves, run-keeps}
 use Rattle.line.specs.Truth.{count}
 use Rattle.truth.specs.Clauses.{stale, Fit, pageWait, lockWait, FitUp, FitDown, FitWaiter, Tokens, brings, dropped, asksFor, waitsFor, NoDropBehind, Covered, Coverage, CoverageAt}
 use Rattle.truth.specs.Frame.{count-snoc, all-snoc, none-count, send-own, send-far, call-own, call-far, append-nil, append-assoc, noticed-kind, noticed-queue, noticed-listed, noticed-sent, Owns, performs, closes, Takes, takes, Accepts, accepts, installs}
-use Rattle.truth.specs.Tokens.{pop-down, Quiet, Before, AllTokens, idle-quiet, took-down, perform-after, step-after, tokens-moves, tokens-fresh}
+use Rattle.truth.specs.Tokens.{of-page, pop-down, Quiet, Before, AllTokens, idle-quiet, took-down, perform-after, step-after, tokens-moves, tokens-fresh}
 
 both : {G : Type 0} (b : Bool) → b ≡ true → b ≡ false → G
 both b t f = absurd (false≢true (sym f ∙ t))
@@ -29,14 +29,14 @@ both b t f = absurd (false≢true (sym f ∙ t))
 fits-read : (w : Wait) (a p : ℕ) → forRead w a ≡ true → eqb p (pageOf a) ≡ true → requested w p ≡ true
 fits-read Idle a p e f = absurd (false≢true e)
 fits-read (ForRead b) a p e f = rw (← eqb-yes a b e) f
-fits-read (ForWrite b v) a p e f = absurd (false≢true e)
+fits-read (ForWrite q y) a p e f = absurd (false≢true e)
 fits-read ForCommit a p e f = absurd (false≢true e)
 
-fits-write : (w : Wait) (a p : ℕ) → forWrite w a ≡ true → eqb p (pageOf a) ≡ true → requested w p ≡ true
-fits-write Idle a p e f = absurd (false≢true e)
-fits-write (ForRead b) a p e f = absurd (false≢true e)
-fits-write (ForWrite b v) a p e f = rw (← eqb-yes a b e) f
-fits-write ForCommit a p e f = absurd (false≢true e)
+fits-write : (w : Wait) (q p : ℕ) → writesTo w q ≡ true → eqb p q ≡ true → requested w p ≡ true
+fits-write Idle q p e f = absurd (false≢true e)
+fits-write (ForRead b) q p e f = absurd (false≢true e)
+fits-write (ForWrite r y) q p e f = rw (← eqb-yes q r e) f
+fits-write ForCommit q p e f = absurd (false≢true e)
 
 module _ (kind num : ℕ) (opened : Bool) (w : Wait) (k : locking kind ≡ true) (p : ℕ) (n : requested w p ≡ false) where
   never : {G : Type 0} → requested w p ≡ true → G
@@ -45,10 +45,10 @@ module _ (kind num : ℕ) (opened : Bool) (w : Wait) (k : locking kind ≡ true)
   page-fit : (a t : ℕ) → Fit (stale kind num opened t) t num opened (pageWait kind w a) → eqb p (pageOf a) ≡ true → ⊥
   page-fit a t f e =
       let z : pageWait kind w a ≡ true = f .waits (rw k refl) in
-      or-yes (forRead w a) (not (locking kind) && forWrite w a) z (λ c. never (fits-read w a p c e)) (λ c. never (fits-write w a p (and-r (not (locking kind)) _ c) e))
+      or-yes (forRead w a) (not (locking kind) && forWrite w a) z (λ c. never (fits-read w a p c e)) (λ c. false≢true (sym (rw k refl) ∙ and-l (not (locking kind)) _ c))
 
-  lock-fit : (a t : ℕ) → Fit false t num opened (lockWait kind w a) → eqb p (pageOf a) ≡ true → ⊥
-  lock-fit a t f e = never (fits-write w a p (and-r (locking kind) _ (f .waits refl)) e)
+  lock-fit : (q : ℕ) → lockWait kind w q ≡ true → eqb p q ≡ true → ⊥
+  lock-fit q f e = never (fits-write w q p (and-r (locking kind) _ f) e)
 
   no : (b : Bool) → (b ≡ true → ⊥) → b ≡ false
   no true f = absurd (f refl)
@@ -56,7 +56,7 @@ module _ (kind num : ℕ) (opened : Bool) (w : Wait) (k : locking kind ≡ true)
 
   unasked-up : (m : Up) → FitUp kind num opened w m → asksFor p m ≡ false
   unasked-up (ReadRequest a t) f = no (eqb p (pageOf a)) (page-fit a t f)
-  unasked-up (WriteRequest a t) f = no (eqb p (pageOf a)) (lock-fit a t f)
+  unasked-up (WriteRequest q t set) f = no (eqb p q) (lock-fit q (and-l (lockWait kind w q) _ (f .waits refl)))
   unasked-up (Commit c) f = refl
   unasked-up (Abort t) f = refl
   unasked-up (Purge q) f = refl
@@ -66,8 +66,8 @@ module _ (kind num : ℕ) (opened : Bool) (w : Wait) (k : locking kind ≡ true)
 
   unasked-down : (m : Down) → FitDown kind num opened w m → brings p m ≡ false
   unasked-down (Page NoLock a t v u x) f = no (eqb p (pageOf a)) (page-fit a t f)
-  unasked-down (Page ObjectLock a t v u x) f = no (eqb p (pageOf a)) (lock-fit a t f)
-  unasked-down (Page WholeLock a t v u x) f = no (eqb p (pageOf a)) (lock-fit a t f)
+  unasked-down (Page ObjectLock a t v u x) f = no (eqb p (pageOf a)) (lock-fit (pageOf a) (f .waits refl))
+  unasked-down (Page WholeLock a t v u x) f = no (eqb p (pageOf a)) (lock-fit (pageOf a) (f .waits refl))
   unasked-down (Deescalate q t) f = refl
   unasked-down (Callback r t set) f = refl
   unasked-down (Committed t c) f = refl
@@ -77,7 +77,7 @@ module _ (kind num : ℕ) (opened : Bool) (w : Wait) (k : locking kind ≡ true)
   unasked-waiter : (latest : ℕ) (v : Want) (a : ℕ) → FitWaiter kind num opened w latest v a → waitsFor p v a ≡ false
   unasked-waiter latest NoWant a f = refl
   unasked-waiter latest WantRead a f = no (eqb p (pageOf a)) (λ e. never (fits-read w a p (and-r (locking kind) _ (f .waits refl)) e))
-  unasked-waiter latest WantWrite a f = no (eqb p (pageOf a)) (lock-fit a latest f)
+  unasked-waiter latest WantWrite a f = no (eqb p (pageOf a)) (lock-fit (pageOf a) (f .waits refl))
   unasked-waiter latest WantCommit a f = refl
 
 -- nothing of page p is asked for or on its way
@@ -320,8 +320,8 @@ module _ (skind : ℕ) (q : Waiter) (latest : ℕ) (fin : Bool) (listed : ℕ �
               rw (append-nil U)
               (record { page = c .page; C3 = λ x f. byEq x a (λ y. rw (eqb-yes x a y) (and-l (s .cached (pageOf a)) _ t)) (λ y. c .C3 x (rw y at f)) });
           reads-ask = λ a b g e f t. said (ReadRequest a (s .num)) (λ p. refl);
-          writes-here = λ a v b g e. same;
-          writes-ask = λ a v b g e. byB (locking (s .kind)) (λ l. rw l (said (WriteRequest a (s .num)) (λ p. refl))) (λ l. rw l (said (ReadRequest a (s .num)) (λ p. refl)));
+          writes-here = λ q f b g e. same;
+          writes-ask = λ q f b g e. byB (locking (s .kind)) (λ l. rw l (said (WriteRequest q (s .num) _) (λ p. refl))) (λ l. rw l (said (ReadRequest _ (s .num)) (λ p. refl)));
           commits = λ g. said (Commit (workOf s)) (λ p. refl);
           aborts = λ g.
               let n : (p : ℕ) → Unasked p (q .want) (q .req) U D = quiet-unasked (idle-quiet (g .idle) h) k in
@@ -365,7 +365,7 @@ module _ (skind : ℕ) (q : Waiter) (latest : ℕ) (fin : Bool) (listed : ℕ �
         old-page = λ a t v u x e h c. silent (Page NoLock a t v u x) c;
         page-read = λ a t v u x e f h c.
             page-cover listed (q .want) (q .req) U D s a (Page NoLock a t v u x) (upd (s .rd) a _) (λ p. refl) (λ b y z. rw z at y) c;
-        page-write = λ l a t v u x y e f o h c.
+        page-write = λ l a t v u x p y e f o g h c.
             rw (lock-cached l a s, lock-rd l a s) (page-cover listed (q .want) (q .req) U D s a (Page l a t v u x) (s .rd) (λ p. refl) (λ b z n. z) c);
         deescalates = λ p t e h c.
             let g = answers (Deescalate p t) (WrittenSet p t _) (λ x. refl) c in
@@ -504,7 +504,7 @@ module _ (st : ℕ → Station) (u : ℕ → List Up) (d : ℕ → List Down) wh
             let a : ℕ = x .server .queue i .req in
             let y : Serving = leave i x in
             let g = leave-cover i x h in
-            page-sent ObjectLock i a (unavailable (x .server) i a) (onServer y (setOl (y .server) (upd (x .server .ol) a (suc i)))) (no-drop i x h (λ p. rw w refl)) (record { kinds = g .kinds; cover = g .cover });
+            page-sent ObjectLock i a (unavailable (x .server) i a) (onServer y (setOl (y .server) (λ c. cond (x .server .queue i .writes c) (suc i) (x .server .ol c)))) (no-drop i x h (λ p. rw w refl)) (record { kinds = g .kinds; cover = g .cover });
         pages = λ i x b w r e h.
             let a : ℕ = x .server .queue i .req in
             let y : Serving = leave i x in
@@ -582,7 +582,7 @@ module _ (i : ℕ) (l : List Up) (s : Server) (st : ℕ → Station) (u : ℕ �
         read-waits = λ a t b k g. join-cover st (upd u i l) d i _ (notice i t x) (λ p e. asked-drop (ReadRequest a t) g (rw (kinds i) at k) p e) (t′ t (ReadRequest a t) g);
         read-now = λ a t b k g.
             page-sent st (upd u i l) d NoLock i a nowhere (notice i t x) (λ v. both (locking (st i .kind)) v (rw (kinds i) at k)) (t′ t (ReadRequest a t) g);
-        write-waits = λ a t b k g. join-cover st (upd u i l) d i _ (notice i t x) (λ p e. asked-drop (WriteRequest a t) g (rw (kinds i) at k) p e) (t′ t (WriteRequest a t) g);
+        write-waits = λ q t set b k g. join-cover st (upd u i l) d i _ (notice i t x) (λ p e. asked-drop (WriteRequest q t set) g (rw (kinds i) at k) p (rw (of-page q 0 (omega arith)) at e)) (t′ t (WriteRequest q t set) g);
         commit-now = λ w b n k g.
             let y : Serving = notice i (w .transaction) x in
             let c = t′ (w .transaction) (Commit w) g in

@@ -10,7 +10,7 @@ use Rattle.sets.specs.Base.{snoc, Val, none, has}
 use Rattle.sets.specs.Laws.{byB, and-l, and-r, or-yes}
 use Rattle.line.specs.All.{All}
 use Rattle.line.specs.Messages.{pageOf, locking, Up, NoLock, ObjectLock, WholeLock, Down, Page, Deescalate, Callback, Committed, Aborted, Invalidate}
-use Rattle.line.specs.Station.{Station, Wait, Idle, ForRead, ForWrite, ForCommit, waiting, forRead, forWrite}
+use Rattle.line.specs.Station.{Station, Wait, Idle, ForRead, ForWrite, ForCommit, waiting, forRead, forWrite, writesTo}
 use Rattle.line.specs.Server.{Server, Serving, Waiter, isWant, other}
 use Rattle.line.specs.Line.{World, carryDown, sentTo}
 use Rattle.line.specs.Apart.{Apart}
@@ -119,14 +119,14 @@ module _ {r t a : ℕ} {pend cached unav : Bool} {rd : Val} {U : List Up} {D : L
 waits-read : (w : Wait) (a : ℕ) → forRead w a ≡ true → waiting w ≡ true
 waits-read Idle a e = e
 waits-read (ForRead b) a e = refl
-waits-read (ForWrite b v) a e = refl
+waits-read (ForWrite p f) a e = refl
 waits-read ForCommit a e = refl
 
-waits-write : (w : Wait) (a : ℕ) → forWrite w a ≡ true → waiting w ≡ true
-waits-write Idle a e = e
-waits-write (ForRead b) a e = refl
-waits-write (ForWrite b v) a e = refl
-waits-write ForCommit a e = refl
+waits-write : (w : Wait) (p : ℕ) → writesTo w p ≡ true → waiting w ≡ true
+waits-write Idle p e = e
+waits-write (ForRead b) p e = refl
+waits-write (ForWrite q f) p e = refl
+waits-write ForCommit p e = refl
 
 module _ (kind num : ℕ) (opened : Bool) (w : Wait) (k : locking kind ≡ true) (n : waiting w ≡ false) (a : ℕ) where
   quiet : (m : Down) → FitDown kind num opened w m → shows a m ≡ false
@@ -134,9 +134,9 @@ module _ (kind num : ℕ) (opened : Bool) (w : Wait) (k : locking kind ≡ true)
       let z : (forRead w b || (not (locking kind) && forWrite w b)) ≡ true = f .waits (rw k refl) in
       absurd
       (or-yes (forRead w b) _ z (λ e. false≢true (sym n ∙ waits-read w b e))
-      (λ e. false≢true (sym n ∙ waits-write w b (and-r (not (locking kind)) _ e))))
-  quiet (Page ObjectLock b t v u x) f = absurd (false≢true (sym n ∙ waits-write w b (and-r (locking kind) _ (f .waits refl))))
-  quiet (Page WholeLock b t v u x) f = absurd (false≢true (sym n ∙ waits-write w b (and-r (locking kind) _ (f .waits refl))))
+      (λ e. false≢true (sym (rw k refl) ∙ and-l (not (locking kind)) _ e)))
+  quiet (Page ObjectLock b t v u x) f = absurd (false≢true (sym n ∙ waits-write w (pageOf b) (and-r (locking kind) _ (f .waits refl))))
+  quiet (Page WholeLock b t v u x) f = absurd (false≢true (sym n ∙ waits-write w (pageOf b) (and-r (locking kind) _ (f .waits refl))))
   quiet (Deescalate p t) f = refl
   quiet (Callback r t set) f = refl
   quiet (Committed t c) f = refl

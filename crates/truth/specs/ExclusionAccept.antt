@@ -186,7 +186,7 @@ module _ (apart : KnownApart) where
           record {
             read-waits = λ a n o k p. join-keeps t u′ (w .down) i _ (notice i n x) refl (seen n _ o p);
             read-now = λ a n o k p. now-keeps t u′ (w .down) i a (notice i n x) (rw (← g .tokens i b .kinds) k) (seen n _ o p);
-            write-waits = λ a n o k p. join-keeps t u′ (w .down) i _ (notice i n x) refl (seen n _ o p);
+            write-waits = λ a n set o k p. join-keeps t u′ (w .down) i _ (notice i n x) refl (seen n _ o p);
             commit-now = λ v o f k p. commit-keeps t u′ (w .down) i v (notice i (v .transaction) x) (seen (v .transaction) _ o p);
             commit-waits = λ v o k p. join-keeps t u′ (w .down) i _ (notice i (v .transaction) x) refl (seen (v .transaction) _ o p);
             aborts = λ n o k p. finished t u′ (w .down) i ByMessage (notice i n x) (seen n _ o p);

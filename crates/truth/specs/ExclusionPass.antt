@@ -1,19 +1,20 @@
 -- Exclusion under the pass: the shown rule, the pages sent, the calls. Then the whole layer.
 use mathlib.Core.Path.{_≡_, refl, sym, ap, _∙_}
-use mathlib.Core.Bool.{Bool, true, false, not, _&&_, _||_, false≢true}
+use mathlib.Core.Bool.{Bool, true, false, not, _&&_, _||_, cond, false≢true}
 use mathlib.Core.List.{List, _++_}
 use Prim.Native.Nat.{ℕ, zero, suc, _%_, _<_}
 use native.Mathlib.Omega.{arith}
 use lib.Dec.{eqb, ltb}
 use Rattle.sets.specs.Base.{upd, upd2, snoc, none, has, any}
-use Rattle.sets.specs.Laws.{byB, byEq, eqb-same, eqb-yes, eqb-no, ltb-no, any-no, any-yes, and-r, or-no, not-yes}
+use Rattle.sets.specs.Laws.{byB, byEq, eqb-same, eqb-yes, eqb-no, ltb-no, any-no, any-yes, any-some, and-r, or-no, not-yes}
 use Rattle.line.specs.Messages.{pageOf, address, locking, Up, Lock, NoLock, ObjectLock, WholeLock, Down, Page, Callback, Sent, To}
-use Rattle.line.specs.Station.{Station, forRead, forWrite}
+use Rattle.line.specs.Station.{Station, forRead}
 use Rattle.line.specs.Server.{Server, Serving, noWaiter, waiterPend, waiterCalled, WantRead, WantWrite, isWant, waits, other, wants, wantsPage, writesPage, blocks, blockedAt, blocked, earlier, shut, hinders, lockOn, leave, sendPage, unavailable, abort, ask, serveRead, concerned, call, grantPage, grantObject, allAnswered, installWaiter}
 use Rattle.line.specs.Line.{World, carryDown, sentTo}
 use Rattle.line.specs.Truth.{count}
 use Rattle.truth.specs.Clauses.{Shape, FitWaiter, callTokens, callOf, doneOf, shows, NoShowBehind, Called}
 use Rattle.truth.specs.Frame.{call-own, call-far}
+use Rattle.truth.specs.Tokens.{in-page, of-page}
 use Rattle.truth.specs.Inv.{Inv, ExclusionOf, Acts, Layer}
 use Rattle.truth.specs.Exclusion.{shows-snoc, behind-snoc, behind-uncalled, unlisted-hidden, read-free, Exclusive, lines, Known, KnownApart, known-in, exclusion-in}
 use Rattle.truth.specs.ExclusionFields.{eqb-off, objects-keep, wholes-keep, listed-keeps, leave-keeps, lines-keep, send-keeps, tell-keeps}
@@ -39,7 +40,7 @@ own-other : (i j : ℕ) → other (suc i) j ≡ true → eqb j i ≡ false
 own-other i j o = byEq j i (λ e. absurd (eqb-no (suc i) (suc j) (not-yes (eqb (suc i) (suc j)) (and-r (not (eqb (suc i) 0)) _ o)) (ap suc (sym (eqb-yes j i e))))) (λ e. e)
 
 module _ (s : Server) (t : ℕ → Station) (u : ℕ → List Up) (d : ℕ → List Down) (i : ℕ) (b : i < 8) (k : Known s t u d) where
-  -- THE SHOWN RULE: a page sent to waiter i for the requested a
+  -- THE SHOWN RULE: a page sent to waiter i that wants a
   module _ (a : ℕ) (c : a < 256) (wn : wants s i a ≡ true) (wt : waits s i ≡ true) (un : blocked s i ≡ false) where
     unblocked : (j : ℕ) → j < 8 → blocks s i a j ≡ false
     unblocked j e = let z : blockedAt s i a ≡ false = any-no 256 (blockedAt s i) un a c in any-no 8 (blocks s i a) (rw wn at z) j e
@@ -71,21 +72,6 @@ module _ (s : Server) (t : ℕ → Station) (u : ℕ → List Up) (d : ℕ → L
         let same : i ≡ r = k .apart .waiting .arrivals-apart i r b e wt v (omega (arith, ltb-no (s .queue r .arrival) (s .queue i .arrival) p, ltb-no (s .queue i .arrival) (s .queue r .arrival) f)) in
         eqb-no i r n same))
 
-    hides : (x : ℕ) → eqb x a ≡ false → (other (s .ol x) i || any 8 (λ j. not (eqb j i) && s .queue j .writes x)) ≡ true → (eqb (pageOf x) (pageOf a) && not (unavailable s i a x)) ≡ false
-    hides x e o = byEq (pageOf x) (pageOf a) (λ f. rw (f, e, o) refl) (λ f. rw f refl)
-
-    -- it shows no address that another has locked,
-    pub hides-locked : (x : ℕ) → other (s .ol x) i ≡ true → (eqb (pageOf x) (pageOf a) && not (unavailable s i a x)) ≡ false
-    hides-locked x o = byEq x a (λ e. absurd (false≢true (sym free ∙ (rw (eqb-yes x a e) at o)))) (λ e. hides x e (rw o refl))
-
-    -- and none that another called waiter writes
-    pub hides-called : (r x : ℕ) → r < 8 → eqb i r ≡ false → waits s r ≡ true → s .queue r .called ≡ true → s .queue r .writes x ≡ true → (eqb (pageOf x) (pageOf a) && not (unavailable s i a x)) ≡ false
-    hides-called r x e n v q w =
-        byEq x a (λ f. absurd (unwritten r e n v q (rw (eqb-yes x a f) at w)))
-        (λ f.
-        let z : (not (eqb r i) && s .queue r .writes x) ≡ true = rw (eqb-off i r n, w) refl in
-        hides x f (or-right (other (s .ol x) i) _ (any-yes 8 (λ j. not (eqb j i) && s .queue j .writes x) r e z)))
-
     -- the page is not locked whole by another
     pub open-page : any 32 (shut s i) ≡ false → other (s .wl (pageOf a)) i ≡ false
     open-page e =
@@ -93,8 +79,25 @@ module _ (s : Server) (t : ℕ → Station) (u : ℕ → List Up) (d : ℕ → L
         let page : wantsPage s i (pageOf a) ≡ true = any-yes 8 (λ o. wants s i (address (pageOf a) o)) (a % 8) (omega arith) here in
         rw page at (any-no 32 (shut s i) e (pageOf a) (omega arith))
 
+  -- what the page for the address a shows: nothing that the waiter does not want and another has
+  module _ (a : ℕ) (wt : waits s i ≡ true) (un : blocked s i ≡ false) where
+    hides : (x : ℕ) → wants s i x ≡ false → (other (s .ol x) i || any 8 (λ j. not (eqb j i) && s .queue j .writes x)) ≡ true → (eqb (pageOf x) (pageOf a) && not (unavailable s i a x)) ≡ false
+    hides x e o = byEq (pageOf x) (pageOf a) (λ f. rw (f, e, o) refl) (λ f. rw f refl)
+
+    -- it shows no address that another has locked,
+    pub hides-locked : (x : ℕ) → x < 256 → other (s .ol x) i ≡ true → (eqb (pageOf x) (pageOf a) && not (unavailable s i a x)) ≡ false
+    hides-locked x c o = byB (wants s i x) (λ e. absurd (false≢true (sym (free x c e wt un) ∙ o))) (λ e. hides x e (rw o refl))
+
+    -- and none that another called waiter writes
+    pub hides-called : (r x : ℕ) → r < 8 → x < 256 → eqb i r ≡ false → waits s r ≡ true → s .queue r .called ≡ true → s .queue r .writes x ≡ true → (eqb (pageOf x) (pageOf a) && not (unavailable s i a x)) ≡ false
+    hides-called r x e c n v q w =
+        byB (wants s i x) (λ f. absurd (unwritten x c f wt un r e n v q w))
+        (λ f.
+        let z : (not (eqb r i) && s .queue r .writes x) ≡ true = rw (eqb-off i r n, w) refl in
+        hides x f (or-right (other (s .ol x) i) _ (any-yes 8 (λ j. not (eqb j i) && s .queue j .writes x) r e z)))
+
   -- the page sent: locks as they are after the grant, the waiter gone, the station listed
-  module _ (a : ℕ) (c : a < 256) (wn : wants s i a ≡ true) (wt : waits s i ≡ true) (un : blocked s i ≡ false) (e : ℕ → List Down) (q : List Sent) where
+  module _ (a : ℕ) (wt : waits s i ≡ true) (un : blocked s i ≡ false) (e : ℕ → List Down) (q : List Sent) where
     pub page-keeps : {ol wl : ℕ → ℕ} → Exclusive t u ol wl (s .listed) (s .latest) (s .queue) (λ j. e j ++ sentTo j q)
         → ((x : ℕ) → other (ol x) i ≡ true → other (s .ol x) i ≡ true) → other (wl (pageOf a)) i ≡ false
         → (l : Lock) (n : ℕ) (v y : ℕ → ℕ)
@@ -107,10 +110,10 @@ module _ (s : Server) (t : ℕ → Station) (u : ℕ → List Up) (d : ℕ → L
         (λ m. byEq (pageOf x) (pageOf a) (λ m′. absurd (false≢true (sym g ∙ (rw (eqb-yes j i m, eqb-yes (pageOf x) (pageOf a) m′) at z)))) (λ m′. rw (m, m′, r) refl))
         (λ m. rw (m, r) refl)))
         i (Page l a n v (unavailable s i a) y)
-        (λ x o p w. hides-locked a c wn wt un x (f x w))
+        (λ x o p w. hides-locked a wt un x o (f x w))
         (λ r x o p w m z z′ z″.
         let m′ : eqb r i ≡ false = eqb-off i r m in
-        hides-called a c wn wt un r x o m (rw m′ at z) (rw m′ at z′) (rw m′ at z″))
+        hides-called a wt un r x o p m (rw m′ at z) (rw m′ at z′) (rw m′ at z″))
 
   -- what a waiter asks for is an address, and wanted [S1b, S7]
   read-range : s .queue i .want ≡ WantRead → s .queue i .req < 256
@@ -124,30 +127,38 @@ module _ (s : Server) (t : ℕ → Station) (u : ℕ → List Up) (d : ℕ → L
       let z : Shape WantRead (s .queue i) = rw e at (k .tokens i b .S7) in
       rw (z .0 (s .queue i .req), eqb-same (s .queue i .req)) refl
 
-  pub write-range : s .queue i .want ≡ WantWrite → s .queue i .req < 256
-  write-range e =
+  -- a write's page is one of the 32, and what it wants is on it
+  pub write-page : s .queue i .want ≡ WantWrite → pageOf (s .queue i .req) < 32
+  write-page e =
       let z : FitWaiter (t i .kind) (t i .num) (t i .opened) (t i .wait) (s .latest i) WantWrite (s .queue i .req) = rw e at (k .tokens i b .S1b-waiter) in
-      let f : forWrite (t i .wait) (s .queue i .req) ≡ true = and-r (locking (t i .kind)) _ (z .waits refl) in
-      k .tokens i b .range-wait (s .queue i .req) (or-right (forRead (t i .wait) (s .queue i .req)) _ f)
+      k .tokens i b .range-page (pageOf (s .queue i .req)) (and-r (locking (t i .kind)) _ (z .waits refl))
 
-  write-own : s .queue i .want ≡ WantWrite → s .queue i .writes (s .queue i .req) ≡ true
-  write-own e =
+  pub write-some : s .queue i .want ≡ WantWrite → (a : ℕ) × (s .queue i .writes a ≡ true) × (pageOf a ≡ pageOf (s .queue i .req))
+  write-some e =
       let z : Shape WantWrite (s .queue i) = rw e at (k .tokens i b .S7) in
-      z .1 (s .queue i .req) ∙ eqb-same (s .queue i .req)
+      let p : ℕ = pageOf (s .queue i .req) in
+      let y = any-some 8 (λ o. s .queue i .writes (address p o)) (z .2) in
+      (address p (y .0), y .2, of-page p (y .0) (y .1))
 
-  pub write-wants : s .queue i .want ≡ WantWrite → wants s i (s .queue i .req) ≡ true
-  write-wants e = or-right (s .queue i .reads (s .queue i .req)) _ (write-own e)
+  pub write-wants : (a : ℕ) → s .queue i .writes a ≡ true → wants s i a ≡ true
+  write-wants a e = or-right (s .queue i .reads a) _ e
 
-  -- P.17: each other station has answered, so it is hidden and unread there [G2d, F3b]
-  object-keeps : (a : ℕ) → s .queue i .writes a ≡ true → waits s i ≡ true → s .queue i .called ≡ true → allAnswered s i ≡ true → Exclusive t u (upd (s .ol) a (suc i)) (s .wl) (s .listed) (s .latest) (s .queue) d
-  object-keeps a w v q e =
-      objects-keep (k .exclusive) (upd (s .ol) a (suc i))
+  -- so its page is not locked whole by another
+  write-open : s .queue i .want ≡ WantWrite → blocked s i ≡ false → any 32 (shut s i) ≡ false → other (s .wl (pageOf (s .queue i .req))) i ≡ false
+  write-open e un z =
+      let y = write-some e in
+      let page : pageOf (y .0) ≡ pageOf (s .queue i .req) = y .2 in
+      rw page at (open-page (y .0) (in-page (write-page e) page) (write-wants (y .0) (y .1)) (ap isWant e) un z)
+
+  -- P.17: each other station has answered, so all are hidden and unread there [G2d, F3b]
+  object-keeps : waits s i ≡ true → s .queue i .called ≡ true → allAnswered s i ≡ true → Exclusive t u (λ a. cond (s .queue i .writes a) (suc i) (s .ol a)) (s .wl) (s .listed) (s .latest) (s .queue) d
+  object-keeps v q e =
+      objects-keep (k .exclusive) (λ a. cond (s .queue i .writes a) (suc i) (s .ol a))
       (λ j x o p m z.
-      byEq x a
+      byB (s .queue i .writes x)
       (λ f.
-      let f′ : x ≡ a = eqb-yes x a f in
       let far : eqb j i ≡ false = own-other i j (rw f at z) in
-      let l = k .exclusive .called i j x b o p m far v q (rw f′ w) in
+      let l = k .exclusive .called i j x b o p m far v q f in
       let pend : s .queue i .pend j ≡ false = any-no 8 (s .queue i .pend) (not-yes (any 8 (s .queue i .pend)) e) j o in
       (l .G2d pend, byB (has (t j .rd x)) (λ g. absurd (false≢true (sym pend ∙ l .F3b g .0))) (λ g. g)))
       (λ f.
@@ -246,7 +257,7 @@ module _ (apart : KnownApart) (w : World) where
             let low = read-range s (w .station) (w .up) (lines (w .down) x) i b k o in
             let wn = read-wants s (w .station) (w .up) (lines (w .down) x) i b k o in
             exclusion-in w (serveRead i x)
-            (page-keeps s (w .station) (w .up) (lines (w .down) x) i b k a low wn (ap isWant o) (c .unblocked) (w .down) (x .sent) (k .exclusive) (λ y z. z)
+            (page-keeps s (w .station) (w .up) (lines (w .down) x) i b k a (ap isWant o) (c .unblocked) (w .down) (x .sent) (k .exclusive) (λ y z. z)
             (open-page s (w .station) (w .up) (lines (w .down) x) i b k a low wn (ap isWant o) (c .unblocked) (c .unshut)) NoLock _ _ _);
         calls = λ i x b o q n c h.
             exclusion-in w (call i x)
@@ -256,23 +267,18 @@ module _ (apart : KnownApart) (w : World) where
             let s : Server = x .server in
             let k = knows x h in
             let a : ℕ = s .queue i .req in
-            let low = write-range s (w .station) (w .up) (lines (w .down) x) i b k o in
-            let wn = write-wants s (w .station) (w .up) (lines (w .down) x) i b k o in
-            let own = write-own s (w .station) (w .up) (lines (w .down) x) i b k o in
-            let granted = object-keeps s (w .station) (w .up) (lines (w .down) x) i b k a own (ap isWant o) (r .called) (r .answered) in
+            let granted = object-keeps s (w .station) (w .up) (lines (w .down) x) i b k (ap isWant o) (r .called) (r .answered) in
             exclusion-in w (grantObject i x)
-            (page-keeps s (w .station) (w .up) (lines (w .down) x) i b k a low wn (ap isWant o) (r .clear .unblocked) (w .down) (x .sent) granted
-            (λ y z. byEq y a (λ e. absurd (eqb-no i i (own-other i i (rw e at z)) refl)) (λ e. rw e at z))
-            (open-page s (w .station) (w .up) (lines (w .down) x) i b k a low wn (ap isWant o) (r .clear .unblocked) (r .clear .unshut)) ObjectLock _ _ _);
+            (page-keeps s (w .station) (w .up) (lines (w .down) x) i b k a (ap isWant o) (r .clear .unblocked) (w .down) (x .sent) granted
+            (λ y z. byB (s .queue i .writes y) (λ e. absurd (eqb-no i i (own-other i i (rw e at z)) refl)) (λ e. rw e at z))
+            (write-open s (w .station) (w .up) (lines (w .down) x) i b k o (r .clear .unblocked) (r .clear .unshut)) ObjectLock _ _ _);
         pages = λ i x b o r n h.
             let s : Server = x .server in
             let k = knows x h in
             let a : ℕ = s .queue i .req in
-            let low = write-range s (w .station) (w .up) (lines (w .down) x) i b k o in
-            let wn = write-wants s (w .station) (w .up) (lines (w .down) x) i b k o in
             let granted = whole-keeps s (w .station) (w .up) (lines (w .down) x) i b k (pageOf a) n in
             exclusion-in w (grantPage i x)
-            (page-keeps s (w .station) (w .up) (lines (w .down) x) i b k a low wn (ap isWant o) (r .clear .unblocked) (w .down) (x .sent) granted (λ y z. z)
+            (page-keeps s (w .station) (w .up) (lines (w .down) x) i b k a (ap isWant o) (r .clear .unblocked) (w .down) (x .sent) granted (λ y z. z)
             (rw (eqb-same (pageOf a)) (byB (other (suc i) i) (λ z. absurd (eqb-no i i (own-other i i z) refl)) (λ z. z))) WholeLock _ _ _);
         installs = λ i x b o f r h. exclusion-in w (installWaiter i x) (install-keeps (w .station) (w .up) (w .down) i (x .server .queue i .work) x (knows x h .exclusive));
       }

@@ -5,7 +5,7 @@ use mathlib.Core.List.{List, [], _∷_, _++_}
 use Prim.Native.Nat.{ℕ, zero, suc, _+_, _≤_, _<_}
 use native.Mathlib.Omega.{arith}
 use lib.Dec.{eqb}
-use Rattle.sets.specs.Base.{upd, snoc, has, any}
+use Rattle.sets.specs.Base.{upd, snoc, has, any, Val}
 use Rattle.sets.specs.Laws.{byB, byEq, eqb-same, eqb-yes, any-no, and-l, and-r, or-no}
 use Rattle.line.specs.Messages.{pageOf, locking, Up, ReadRequest, WriteRequest, Abort, Done, Lock, NoLock, ObjectLock, WholeLock, Down, Page, Deescalate, Callback, Answer, Nothing, Begun, Value, Waits, Written, CommittedAs, AbortedFor, Purged, Refused, Empty}
 use Rattle.line.specs.Station.{Station, Did, does, didStation, setKept, NotKept, KeptCall, live, usedAt, shown, drops, dropPages, mark, recordRead, writeLocal, doCallback, closed, close, undo, wrotePage, readLocal, readAsk, writeAsk, arrive, takeLock, loosen, onDeescalate, onCommitted, onAborted, stationStep}
@@ -16,6 +16,8 @@ use Rattle.truth.specs.Clauses.{LockedAt, CalledAt, KeptNames, stale, to
 use Rattle.truth.specs.Frame.{count-append, count-snoc, append-nil, Owns, performs, closes, arrived, Takes, takes}
 use Rattle.truth.specs.Inv.{Inv, ExclusionOf, afterOwner, afterStation}
 use Rattle.truth.specs.Exclusion.{behind-none, hidden-less, locked-less, shown-free, called-less, not-cleared, idle-none, token-none, ExclusiveIn, Known, KnownApart, known}
+use mathlib.Core.Logic.{_⊎_, inl, inr}
+use Rattle.truth.specs.GoalsLists.{either}
 
 -- what a move of station i owes: D is its down line afterwards, U the up line before
 pub record Fine (s : Server) (i : ℕ) (U : List Up) (D : List Down) (k : Did) : Type 0 where
@@ -250,8 +252,8 @@ module _ (s : Server) (t : ℕ → Station) (u : ℕ → List Up) (d : ℕ → L
       still : (k : Did) → Less (t i) (k .station) → NoDone (k .sent) → Fine s i (u i) (d i) k
       still k m n = fine-less k (d i) m n (λ a z. z) (λ r c a z. z)
 
-      asks : (a : ℕ) → NoDone (cond (locking (t i .kind)) (WriteRequest a (t i .num)) (ReadRequest a (t i .num)) ∷ [])
-      asks a r n = byB (locking (t i .kind)) (λ e. rw e refl) (λ e. rw e refl)
+      asks : (p a : ℕ) (set : ℕ → Bool) → NoDone (cond (locking (t i .kind)) (WriteRequest p (t i .num) set) (ReadRequest a (t i .num)) ∷ [])
+      asks p a set r n = byB (locking (t i .kind)) (λ e. rw e refl) (λ e. rw e refl)
 
       leaves : NoDone (cond (locking (t i .kind)) (Abort (t i .num) ∷ []) [])
       leaves r n = byB (locking (t i .kind)) (λ e. rw e refl) (λ e. rw e refl)
@@ -265,8 +267,8 @@ module _ (s : Server) (t : ℕ → Station) (u : ℕ → List Up) (d : ℕ → L
             reads-again = λ a v c e f g. still _ (same-less (t i)) (λ r n. refl);
             reads-here = λ a c e f g z. fine-read a z;
             reads-ask = λ a c e f g z. still _ (record { kind = refl; shows = λ q y. y; rd = λ q y. y }) (λ r n. refl);
-            writes-here = λ a v c e f. still _ (record { kind = refl; shows = λ q y. y; rd = λ q y. y }) (λ r n. refl);
-            writes-ask = λ a v c e f. still _ (record { kind = refl; shows = λ q y. y; rd = λ q y. y }) (asks a);
+            writes-here = λ p v c e f. still _ (record { kind = refl; shows = λ q y. y; rd = λ q y. y }) (λ r n. refl);
+            writes-ask = λ p v c e f. still _ (record { kind = refl; shows = λ q y. y; rd = λ q y. y }) (asks p _ _);
             commits = λ e. still _ (record { kind = refl; shows = λ q y. y; rd = λ q y. y }) (λ r n. refl);
             aborts = λ e.
                 fine-end _ (d i) (undone-kind (t i)) (undone-less (t i)) (undone-kept (t i)) leaves
@@ -285,7 +287,7 @@ module _ (s : Server) (t : ℕ → Station) (u : ℕ → List Up) (d : ℕ → L
     fine-tail : (m : Down) → d i ≡ m ∷ l → (k : Did) → Less (t i) (k .station) → NoDone (k .sent) → Fine s i (u i) l k
     fine-tail m q k c n = fine-less k l c n (tail-none m q) (tail-behind m q)
 
-    -- a page arrives for address a: what the message hides the copy hides, and a itself was not hidden [B2]
+    -- a page arrives for address a: what the message hides the copy hides; what is read of it was not hidden [B2]
     module _ (o : Lock) (a n : ℕ) (v : ℕ → ℕ) (x : ℕ → Bool) (y : ℕ → ℕ) (q : d i ≡ Page o a n v x y ∷ l) where
       arrive-hidden : (c : ℕ) {cached unav : Bool} → Hidden c cached unav (Page o a n v x y ∷ l)
           → Hidden c (cond (eqb (pageOf c) (pageOf a)) true cached) (cond (eqb (pageOf c) (pageOf a)) (x c) unav) l
@@ -310,7 +312,7 @@ module _ (s : Server) (t : ℕ → Station) (u : ℕ → List Up) (d : ℕ → L
       fine-arrives : (k : Did) → k .station .kind ≡ t i .kind
           → ((p : ℕ) → k .station .cached p ≡ cond (eqb p (pageOf a)) true (t i .cached p))
           → ((c : ℕ) → k .station .unav c ≡ cond (eqb (pageOf c) (pageOf a)) (x c) (t i .unav c))
-          → ((c : ℕ) → eqb c a ≡ false → has (k .station .rd c) ≡ true → has (t i .rd c) ≡ true)
+          → (locking (t i .kind) ≡ true → (c : ℕ) → has (k .station .rd c) ≡ true → (has (t i .rd c) ≡ true) ⊎ ((eqb c a ≡ true) × (x a ≡ false)))
           → k .sent ≡ []
           → Fine s i (u i) l k
       fine-arrives k kind cached unav rd sent =
@@ -318,20 +320,18 @@ module _ (s : Server) (t : ℕ → Station) (u : ℕ → List Up) (d : ℕ → L
             locked = λ c f p.
                 let p′ : locking (t i .kind) ≡ true = rw kind at p in
                 let m = rw q at (h .exclusive .locked i c b f p′) in
-                let b2 : x a ≡ false = (rw q at (h .values i c b f p′ .B2)) .0 in
                 rw (cached (pageOf c), unav c)
                 (record {
                   F1 = λ w. arrive-hidden c (m .F1 w);
                   F2a = m .F2a;
-                  F3a = λ w. byEq c a (λ e. byB (other (s .ol c) i) (λ g. absurd (arrive-shown e b2 (m .F1 g))) (λ g. g)) (λ e. m .F3a (rd c e w));
+                  F3a = λ w. either (rd p′ c w) (λ e. m .F3a e) (λ e. byB (other (s .ol c) i) (λ g. absurd (arrive-shown (e .0) (e .1) (m .F1 g))) (λ g. g));
                 });
             called = λ r c f g p w z j e.
                 let p′ : locking (t i .kind) ≡ true = rw kind at p in
                 let m = rw q at (h .exclusive .called r i c f b g p′ w z j e) in
-                let b2 : x a ≡ false = (rw q at (h .values i c b g p′ .B2)) .0 in
                 rw (cached (pageOf c), unav c, sent, append-nil (u i))
                 (record {
-                  F3b = λ w. byEq c a (λ e. not-cleared m (arrive-shown e b2)) (λ e. m .F3b (rd c e w));
+                  F3b = λ w. either (rd p′ c w) (λ e. m .F3b e) (λ e. not-cleared m (arrive-shown (e .0) (e .1)));
                   G2a = m .G2a .1;
                   G2c = λ w. arrive-hidden c (m .G2c w);
                   G2d = λ w. arrive-hidden c (m .G2d w);
@@ -370,16 +370,18 @@ module _ (s : Server) (t : ℕ → Station) (u : ℕ → List Up) (d : ℕ → L
         let z : count (tokenDown old) (d i) ≤ 1 = omega (arith, h .tokens i b .S1a) in
         token-none (t i .kind) (t i .num) (t i .opened) k a m l e (rw q at z)
 
-    page-write : (o : Lock) (a n : ℕ) (v : ℕ → ℕ) (x : ℕ → Bool) (y : ℕ → ℕ) (z : ℕ) → d i ≡ Page o a n v x y ∷ l → Fine s i (u i) l (does Written (writeLocal a z (arrived o a v x y (t i))) [])
+    page-write : (o : Lock) (a n : ℕ) (v : ℕ → ℕ) (x : ℕ → Bool) (y : ℕ → ℕ) (z : ℕ → Val) → d i ≡ Page o a n v x y ∷ l → Fine s i (u i) l (does Written (writeLocal z (arrived o a v x y (t i))) [])
     unfolding arrive takeLock writeLocal
-    page-write NoLock a n v x y z q = fine-arrives NoLock a n v x y q _ refl (λ p. refl) (λ c. refl) (λ c e f. f) refl
-    page-write ObjectLock a n v x y z q = fine-arrives ObjectLock a n v x y q _ refl (λ p. refl) (λ c. refl) (λ c e f. f) refl
-    page-write WholeLock a n v x y z q = fine-arrives WholeLock a n v x y q _ refl (λ p. refl) (λ c. refl) (λ c e f. f) refl
+    page-write NoLock a n v x y z q = fine-arrives NoLock a n v x y q _ refl (λ p. refl) (λ c. refl) (λ p c f. inl f) refl
+    page-write ObjectLock a n v x y z q = fine-arrives ObjectLock a n v x y q _ refl (λ p. refl) (λ c. refl) (λ p c f. inl f) refl
+    page-write WholeLock a n v x y z q = fine-arrives WholeLock a n v x y q _ refl (λ p. refl) (λ c. refl) (λ p c f. inl f) refl
 
     page-read : (a n : ℕ) (v : ℕ → ℕ) (x : ℕ → Bool) (y : ℕ → ℕ) → d i ≡ Page NoLock a n v x y ∷ l
         → Fine s i (u i) l (does (Value ((arrived NoLock a v x y (t i)) .copy a)) (recordRead a (arrived NoLock a v x y (t i))) [])
     unfolding arrive takeLock recordRead
-    page-read a n v x y q = fine-arrives NoLock a n v x y q _ refl (λ p. refl) (λ c. refl) (λ c e f. rw e at f) refl
+    page-read a n v x y q =
+        fine-arrives NoLock a n v x y q _ refl (λ p. refl) (λ c. refl)
+        (λ p c f. byEq c a (λ e. inr (e, (rw q at (h .values i 0 b (omega arith) p .B2)) .0)) (λ e. inl (rw e at f))) refl
 
     deescalates : (p n : ℕ) → d i ≡ Deescalate p n ∷ l → Fine s i (u i) l (onDeescalate p n (t i))
     unfolding onDeescalate loosen
@@ -398,7 +400,7 @@ module _ (s : Server) (t : ℕ → Station) (u : ℕ → List Up) (d : ℕ → L
               refused = λ n e q f. absurd (false≢true (sym f));
               old-page = λ a n v x y e q f. fine-tail _ q _ (record { kind = refl; shows = λ a z. z; rd = λ a z. z }) (λ r c. refl);
               page-read = λ a n v x y e w q f. page-read a n v x y q;
-              page-write = λ o a n v x y z e w k q f. page-write o a n v x y z q;
+              page-write = λ o a n v x y p z e w k c q f. page-write o a n v x y z q;
               deescalates = λ p n k q f. deescalates p n q;
               keeps = λ r n set k e q f. fine-tail _ q _ (record { kind = refl; shows = λ a z. z; rd = λ a z. z }) (λ c g. refl);
               dones = λ r n set k e q f. fine-done r n set q e;

@@ -10,12 +10,13 @@ use Rattle.sets.specs.Base.{upd, snoc, Val, none, some, has, any, turned}
 use Rattle.sets.specs.Laws.{byB, byEq, eqb-same, eqb-yes, eqb-no, ltb-yes, ltb-no, and-l, and-r, or-yes, or-no, not-yes, not-no}
 use Rattle.line.specs.All.{All, all-append}
 use Rattle.line.specs.Messages.{pageOf, locking, Work, Up, ReadRequest, WriteRequest, Commit, Abort, Purge, Busy, Done, WrittenSet, Lock, NoLock, ObjectLock, WholeLock, Down, Page, Deescalate, Callback, Committed, Aborted, Invalidate, Sent, To, Nothing, Begun, Value, Waits, Written, AbortedFor, Purged, Refused}
-use Rattle.line.specs.Station.{Station, Did, does, didStation, unless, setKept, setNum, setOpened, setWait, Wait, Idle, ForRead, ForWrite, ForCommit, waiting, forRead, forWrite, forCommit, requested, Kept, NotKept, KeptCall, live, usedAt, usedPage, shown, mayWrite, workOf, ended, fits, fitsPage, checkBegin, openThen, checkOpen, longRead, longWrite, checkAddress, checkPurge, dropPages, recordRead, writeLocal, doCallback, doKept, doAllKept, closed, close, undo, ownBegin, readLocal, readAsk, readAs, ownRead, writeAsk, ownWrite, ownCommit, ownAbort, ownPurge, arrive, takeLock, answerWait, onPage, onDeescalate, onCallback, onCommitted, onAborted, onInvalidate, onDown, stationStep, inUse, ignored, mark}
+use Rattle.line.specs.Station.{Station, Did, does, didStation, unless, setKept, setNum, setOpened, setWait, Wait, Idle, ForRead, ForWrite, ForCommit, waiting, forRead, forWrite, writesTo, forCommit, requested, Kept, NotKept, KeptCall, live, usedAt, usedPage, shown, workOf, ended, fits, fitsPage, checkBegin, openThen, checkOpen, longRead, longWrite, checkRead, someOn, badSet, checkWrite, checkPurge, dropPages, recordRead, writeLocal, doCallback, doKept, doAllKept, closed, close, undo, ownBegin, readLocal, readAsk, readAs, ownRead, named, writeAsk, writeSet, ofPage, ownWrite, ownCommit, ownAbort, ownPurge, arrive, takeLock, answerWait, onPage, onDeescalate, onCallback, onCommitted, onAborted, onInvalidate, onDown, stationStep, inUse, ignored, mark}
 use Rattle.line.specs.Server.{Server, Serving, send, informed, write, archive, inform, informFrom, install, badNumber, unlocked, lockOn, unexpected, notice, finish, leave, serveNow, joinRead, joinWrite, joinCommit, commitNow, unlist, openCall, markBusy, answered, openAsk, loosen, accept, concerned, callsFrom, ByCommit, ByMessage}
-use Rattle.line.specs.Line.{Op, Begin, Read, Write, Commits, Aborts, Purges, perform, sentTo}
+use Rattle.line.specs.Line.{Op, Begin, Read, WriteSet, Commits, Aborts, Purges, perform, sentTo}
 use Rattle.line.specs.Laws.{sentTo-snoc}
 use Rattle.line.specs.Apart.{good-number}
 use Rattle.line.specs.Truth.{In, here, there, count}
+use Rattle.line.specs.Asks.{Asks, set-asks}
 
 -- COUNTS
 
@@ -197,8 +198,8 @@ pub record Owns (s : Station) (P : Op → Did → Type 0) : Type 0 where
   pub reads-again : (a v : ℕ) → a < 256 → Active s → s .wr a ≡ none → s .rd a ≡ some v → P (Read a) (does (Value v) s [])
   pub reads-here : (a : ℕ) → a < 256 → Active s → s .wr a ≡ none → s .rd a ≡ none → shown s a ≡ true → P (Read a) (readLocal a s)
   pub reads-ask : (a : ℕ) → a < 256 → Active s → s .wr a ≡ none → s .rd a ≡ none → shown s a ≡ false → P (Read a) (readAsk a s)
-  pub writes-here : (a v : ℕ) → a < 256 → Active s → mayWrite a s ≡ true → P (Write a v) (does Written (writeLocal a v s) [])
-  pub writes-ask : (a v : ℕ) → a < 256 → Active s → mayWrite a s ≡ false → P (Write a v) (writeAsk a v s)
+  pub writes-here : (p : ℕ) (f : ℕ → Val) → Asks p (ofPage p f) → Active s → someOn p (named (ofPage p f) s) ≡ false → P (WriteSet p f) (does Written (writeLocal (ofPage p f) s) [])
+  pub writes-ask : (p : ℕ) (f : ℕ → Val) → Asks p (ofPage p f) → Active s → someOn p (named (ofPage p f) s) ≡ true → P (WriteSet p f) (writeAsk p (ofPage p f) s)
   pub commits : Active s → P Commits (does Waits (setWait s ForCommit) (Commit (workOf s) ∷ []))
   pub aborts : Active s → P Aborts (close (does (AbortedFor 0) (undo s) (cond (locking (s .kind)) (Abort (s .num) ∷ []) [])))
   pub purges : (p : ℕ) → p < 32 → requested (s .wait) p ≡ false → usedPage s p ≡ false → s .cached p ≡ true → P (Purges p) (does Purged (dropPages (λ q. eqb q p) s) (Purge p ∷ []))
@@ -218,11 +219,17 @@ module _ (s : Station) where
       let u = passed (waiting (s .wait)) 7 (turned (not (s .opened)) 8 n) refl e in
       record { idle = u .0; opened = not-no (s .opened) (passed (not (s .opened)) 8 n refl (u .1) .0) }
 
-  in-reach : (a : ℕ) (long : Bool) → eqb (checkAddress a long s) 0 ≡ true → (a < 256) × Active s
-  in-reach a long e =
-      let n = turned long 15 0 in
+  in-reach : (a : ℕ) → eqb (checkRead a s) 0 ≡ true → (a < 256) × Active s
+  in-reach a e =
+      let n = turned (longRead a s) 15 0 in
       let u = passed (not (ltb a 256)) 4 (openThen s n) refl e in
       (ltb-yes a 256 (not-no (ltb a 256) (u .0)), active n (u .1))
+
+  set-reach : (p : ℕ) (f : ℕ → Val) → eqb (checkWrite p (ofPage p f) s) 0 ≡ true → Asks p (ofPage p f) × Active s
+  set-reach p f e =
+      let n = turned (longWrite (ofPage p f) s) 15 0 in
+      let u = passed (badSet p (ofPage p f) s) 4 (openThen s n) refl e in
+      (set-asks p f s (u .0), active n (u .1))
 
   module _ (P : Op → Did → Type 0) (k : Owns s P) where
     unless-owns : (op : Op) (n : ℕ) (d : Did) → (eqb n 0 ≡ true → P op d) → P op (unless n d s)
@@ -235,16 +242,16 @@ module _ (s : Station) where
     reads-owns a b c (some v) r e f = k .reads-own a v b c e
 
     pub performs : (op : Op) → P op (perform op s)
-    unfolding perform ownBegin ownRead ownWrite ownCommit ownAbort ownPurge
+    unfolding perform ownBegin ownRead ownWrite writeSet ownCommit ownAbort ownPurge
     performs Begin =
         unless-owns Begin (checkBegin s) _
         (λ e.
         let u = passed (waiting (s .wait)) 7 _ refl e in
         k .begins (u .0) (passed (s .opened) 9 _ refl (u .1) .0))
-    performs (Read a) = unless-owns (Read a) (checkAddress a (longRead a s) s) _ (λ e. let u = in-reach a (longRead a s) e in reads-owns a (u .0) (u .1) (s .wr a) (s .rd a) refl refl)
-    performs (Write a v) =
-        unless-owns (Write a v) (checkAddress a (longWrite a s) s) _
-        (λ e. let u = in-reach a (longWrite a s) e in if-did (P (Write a v)) (mayWrite a s) (λ q. k .writes-here a v (u .0) (u .1) q) (λ q. k .writes-ask a v (u .0) (u .1) q))
+    performs (Read a) = unless-owns (Read a) (checkRead a s) _ (λ e. let u = in-reach a e in reads-owns a (u .0) (u .1) (s .wr a) (s .rd a) refl refl)
+    performs (WriteSet p f) =
+        unless-owns (WriteSet p f) (checkWrite p (ofPage p f) s) _
+        (λ e. let u = set-reach p f e in if-did (P (WriteSet p f)) (someOn p (named (ofPage p f) s)) (λ q. k .writes-ask p f (u .0) (u .1) q) (λ q. k .writes-here p f (u .0) (u .1) q))
     performs Commits = unless-owns Commits (checkOpen s) _ (λ e. k .commits (active 0 e))
     performs Aborts = unless-owns Aborts (checkOpen s) _ (λ e. k .aborts (active 0 e))
     performs (Purges p) =
@@ -279,6 +286,12 @@ isLock NoLock = false
 isLock ObjectLock = true
 isLock WholeLock = true
 
+-- a 16 is for an object that is written, 17 and 18 are for the page
+abbrev pub ForPage : Lock → ℕ → ℕ → (ℕ → Val) → Type 0
+ForPage NoLock a p f = has (f a) ≡ true
+ForPage ObjectLock a p f = pageOf a ≡ p
+ForPage WholeLock a p f = pageOf a ≡ p
+
 abbrev pub arrived : Lock → ℕ → (ℕ → ℕ) → (ℕ → Bool) → (ℕ → ℕ) → Station → Station
 arrived l a v u x s = setWait (arrive (pageOf a) v u x (takeLock l a s)) Idle
 
@@ -287,8 +300,8 @@ pub record Takes (s : Station) (P : Down → Did → Type 0) : Type 0 where
   pub old-page : (a t : ℕ) (v : ℕ → ℕ) (u : ℕ → Bool) (x : ℕ → ℕ) → ended s t ≡ true → P (Page NoLock a t v u x) (ignored a v u x s)
   pub page-read : (a t : ℕ) (v : ℕ → ℕ) (u : ℕ → Bool) (x : ℕ → ℕ) → live s t ≡ true → s .wait ≡ ForRead a
       → P (Page NoLock a t v u x) (does (Value ((arrived NoLock a v u x s) .copy a)) (recordRead a (arrived NoLock a v u x s)) [])
-  pub page-write : (l : Lock) (a t : ℕ) (v : ℕ → ℕ) (u : ℕ → Bool) (x : ℕ → ℕ) (y : ℕ) → live s t ≡ true → s .wait ≡ ForWrite a y → locking (s .kind) ≡ isLock l
-      → P (Page l a t v u x) (does Written (writeLocal a y (arrived l a v u x s)) [])
+  pub page-write : (l : Lock) (a t : ℕ) (v : ℕ → ℕ) (u : ℕ → Bool) (x : ℕ → ℕ) (p : ℕ) (f : ℕ → Val) → live s t ≡ true → s .wait ≡ ForWrite p f → locking (s .kind) ≡ isLock l
+      → ForPage l a p f → P (Page l a t v u x) (does Written (writeLocal f (arrived l a v u x s)) [])
   pub deescalates : (p t : ℕ) → locking (s .kind) ≡ true → P (Deescalate p t) (onDeescalate p t s)
   pub keeps : (r t : ℕ) (set : ℕ → Bool) → locking (s .kind) ≡ true → inUse set s ≡ true → P (Callback r t set) (does Nothing (setKept s (upd (s .kept) r (KeptCall t set))) (Busy r t ∷ []))
   pub dones : (r t : ℕ) (set : ℕ → Bool) → locking (s .kind) ≡ true → inUse set s ≡ false → P (Callback r t set) (doCallback r t set (does Nothing s []))
@@ -301,19 +314,25 @@ pub record Takes (s : Station) (P : Down → Did → Type 0) : Type 0 where
 pub for-read : (w : Wait) (a : ℕ) → forRead w a ≡ true → w ≡ ForRead a
 for-read Idle a e = absurd (false≢true e)
 for-read (ForRead b) a e = ap ForRead (sym (eqb-yes a b e))
-for-read (ForWrite b v) a e = absurd (false≢true e)
+for-read (ForWrite p f) a e = absurd (false≢true e)
 for-read ForCommit a e = absurd (false≢true e)
 
-pub for-write : (w : Wait) (a : ℕ) → forWrite w a ≡ true → (v : ℕ) × (w ≡ ForWrite a v)
+pub for-write : (w : Wait) (a : ℕ) → forWrite w a ≡ true → (p : ℕ) × (f : ℕ → Val) × (w ≡ ForWrite p f) × (has (f a) ≡ true)
 for-write Idle a e = absurd (false≢true e)
 for-write (ForRead b) a e = absurd (false≢true e)
-for-write (ForWrite b v) a e = (v, ap (λ c. ForWrite c v) (sym (eqb-yes a b e)))
+for-write (ForWrite p f) a e = (p, f, refl, e)
 for-write ForCommit a e = absurd (false≢true e)
+
+pub for-page : (w : Wait) (p : ℕ) → writesTo w p ≡ true → (f : ℕ → Val) × (w ≡ ForWrite p f)
+for-page Idle p e = absurd (false≢true e)
+for-page (ForRead b) p e = absurd (false≢true e)
+for-page (ForWrite q f) p e = (f, ap (λ c. ForWrite c f) (sym (eqb-yes p q e)))
+for-page ForCommit p e = absurd (false≢true e)
 
 pub for-commit : (w : Wait) → forCommit w ≡ true → w ≡ ForCommit
 for-commit Idle e = absurd (false≢true e)
 for-commit (ForRead b) e = absurd (false≢true e)
-for-commit (ForWrite b v) e = absurd (false≢true e)
+for-commit (ForWrite p f) e = absurd (false≢true e)
 for-commit ForCommit e = refl
 
 module _ (s : Station) (P : Down → Did → Type 0) (k : Takes s P) where
@@ -322,9 +341,9 @@ module _ (s : Station) (P : Down → Did → Type 0) (k : Takes s P) where
   unfolding answerWait
   page-takes-read a t v u x q w e f = rw e (k .page-read a t v u x q (f ∙ e))
 
-  page-takes-write : (l : Lock) (a t : ℕ) (v : ℕ → ℕ) (u : ℕ → Bool) (x : ℕ → ℕ) → live s t ≡ true → (w : Wait) (y : ℕ) → w ≡ ForWrite a y → s .wait ≡ w → locking (s .kind) ≡ isLock l → P (Page l a t v u x) (answerWait w (arrived l a v u x s))
+  page-takes-write : (l : Lock) (a t : ℕ) (v : ℕ → ℕ) (u : ℕ → Bool) (x : ℕ → ℕ) → live s t ≡ true → (w : Wait) (p : ℕ) (g : ℕ → Val) → w ≡ ForWrite p g → s .wait ≡ w → locking (s .kind) ≡ isLock l → ForPage l a p g → P (Page l a t v u x) (answerWait w (arrived l a v u x s))
   unfolding answerWait
-  page-takes-write l a t v u x q w y e f o = rw e (k .page-write l a t v u x y q (f ∙ e) o)
+  page-takes-write l a t v u x q w p g e f o c = rw e (k .page-write l a t v u x p g q (f ∙ e) o c)
 
   -- live, so not ended
   live-not : (t : ℕ) → live s t ≡ true → ended s t ≡ false
@@ -339,17 +358,17 @@ module _ (s : Station) (P : Down → Did → Type 0) (k : Takes s P) where
       let o : live s t ≡ true = and-l (live s t) _ z in
       or-yes (forRead (s .wait) a) (not (locking (s .kind)) && forWrite (s .wait) a) (and-r (live s t) _ z)
       (λ f. page-takes-read a t v u x o (s .wait) (for-read (s .wait) a f) refl)
-      (λ f. let w = for-write (s .wait) a (and-r (not (locking (s .kind))) _ f) in page-takes-write NoLock a t v u x o (s .wait) (w .0) (w .1) refl (not-yes (locking (s .kind)) (and-l (not (locking (s .kind))) _ f))))
+      (λ f. let w = for-write (s .wait) a (and-r (not (locking (s .kind))) _ f) in page-takes-write NoLock a t v u x o (s .wait) (w .0) (w .1) (w .2) refl (not-yes (locking (s .kind)) (and-l (not (locking (s .kind))) _ f)) (w .3)))
   page-takes ObjectLock a t v u x e =
       let o : live s t ≡ true = and-r (locking (s .kind)) _ (and-l (locking (s .kind) && live s t) _ e) in
-      let w = for-write (s .wait) a (and-r (locking (s .kind) && live s t) _ e) in
+      let w = for-page (s .wait) (pageOf a) (and-r (locking (s .kind) && live s t) _ e) in
       if-did (P (Page ObjectLock a t v u x)) (ended s t) (λ q. absurd (false≢true (sym (live-not t o) ∙ q)))
-      (λ q. page-takes-write ObjectLock a t v u x o (s .wait) (w .0) (w .1) refl (and-l (locking (s .kind)) _ (and-l (locking (s .kind) && live s t) _ e)))
+      (λ q. page-takes-write ObjectLock a t v u x o (s .wait) (pageOf a) (w .0) (w .1) refl (and-l (locking (s .kind)) _ (and-l (locking (s .kind) && live s t) _ e)) refl)
   page-takes WholeLock a t v u x e =
       let o : live s t ≡ true = and-r (locking (s .kind)) _ (and-l (locking (s .kind) && live s t) _ e) in
-      let w = for-write (s .wait) a (and-r (locking (s .kind) && live s t) _ e) in
+      let w = for-page (s .wait) (pageOf a) (and-r (locking (s .kind) && live s t) _ e) in
       if-did (P (Page WholeLock a t v u x)) (ended s t) (λ q. absurd (false≢true (sym (live-not t o) ∙ q)))
-      (λ q. page-takes-write WholeLock a t v u x o (s .wait) (w .0) (w .1) refl (and-l (locking (s .kind)) _ (and-l (locking (s .kind) && live s t) _ e)))
+      (λ q. page-takes-write WholeLock a t v u x o (s .wait) (pageOf a) (w .0) (w .1) refl (and-l (locking (s .kind)) _ (and-l (locking (s .kind) && live s t) _ e)) refl)
 
   takes-down : (m : Down) → fits m s ≡ true → P m (onDown m s)
   unfolding onDown onCallback onInvalidate
@@ -372,7 +391,7 @@ module _ (s : Station) (P : Down → Did → Type 0) (k : Takes s P) where
 pub record Accepts (i : ℕ) (x : Serving) (P : Up → Serving → Type 0) : Type 0 where
   pub read-waits : (a t : ℕ) → badNumber (x .server) i t ≡ false → locking (x .server .kind i) ≡ true → P (ReadRequest a t) (joinRead i a (notice i t x))
   pub read-now : (a t : ℕ) → badNumber (x .server) i t ≡ false → locking (x .server .kind i) ≡ false → P (ReadRequest a t) (serveNow i a (notice i t x))
-  pub write-waits : (a t : ℕ) → badNumber (x .server) i t ≡ false → locking (x .server .kind i) ≡ true → P (WriteRequest a t) (joinWrite i a (notice i t x))
+  pub write-waits : (p t : ℕ) (set : ℕ → Bool) → badNumber (x .server) i t ≡ false → locking (x .server .kind i) ≡ true → P (WriteRequest p t set) (joinWrite i p set (notice i t x))
   pub commit-now : (w : Work) → badNumber (x .server) i (w .transaction) ≡ false → unlocked (x .server) i w ≡ false → locking (x .server .kind i) ≡ true → P (Commit w) (commitNow i w (notice i (w .transaction) x))
   pub commit-waits : (w : Work) → badNumber (x .server) i (w .transaction) ≡ false → locking (x .server .kind i) ≡ false → P (Commit w) (joinCommit i w (notice i (w .transaction) x))
   pub aborts : (t : ℕ) → badNumber (x .server) i t ≡ false → locking (x .server .kind i) ≡ true → P (Abort t) (finish i ByMessage (notice i t x))
@@ -391,9 +410,9 @@ if-serving P false t f = f refl
 pub accepts : (i : ℕ) (x : Serving) (P : Up → Serving → Type 0) → Accepts i x P → (m : Up) → unexpected i m (x .server) ≡ false → P m (accept i m x)
 unfolding accept
 accepts i x P k (ReadRequest a t) u = if-serving (P (ReadRequest a t)) (locking (x .server .kind i)) (λ e. k .read-waits a t u e) (λ e. k .read-now a t u e)
-accepts i x P k (WriteRequest a t) u =
+accepts i x P k (WriteRequest p t set) u =
     let v = or-no (badNumber (x .server) i t) (not (locking (x .server .kind i))) u in
-    k .write-waits a t (v .0) (not-no (locking (x .server .kind i)) (v .1))
+    k .write-waits p t set (v .0) (not-no (locking (x .server .kind i)) (v .1))
 accepts i x P k (Commit w) u =
     let v = or-no (badNumber (x .server) i (w .transaction)) (unlocked (x .server) i w) u in
     if-serving (P (Commit w)) (locking (x .server .kind i)) (λ e. k .commit-now w (v .0) (v .1) e) (λ e. k .commit-waits w (v .0) e)

@@ -147,7 +147,7 @@ module _ (i : ℕ) (l : List Up) (w : World) (b : i < 8) (h : Inv w) where
             λ a t u q e.
             let x = start (w .server) in
             quiet-keeps (taken i l w) (notice i t x) _ (To i (Page _ _ _ _ _ _) ∷ []) refl refl refl refl (refl, tt) (noticed-goals t);
-        write-waits = λ a t u q e. let x = start (w .server) in nothing _ (noticed-sent i t x) (noticed-recs i t x) (noticed-last i t x) (noticed-val i t x);
+        write-waits = λ p t set u q e. let x = start (w .server) in nothing _ (noticed-sent i t x) (noticed-recs i t x) (noticed-last i t x) (noticed-val i t x);
         commit-now = λ k u f q e. commits-now k q e;
         commit-waits = λ k u q e. let x = start (w .server) in let t = k .transaction in nothing _ (noticed-sent i t x) (noticed-recs i t x) (noticed-last i t x) (noticed-val i t x);
         aborts = λ t u q e. let x = start (w .server) in nothing _ (noticed-sent i t x) (noticed-recs i t x) (noticed-last i t x) (noticed-val i t x);

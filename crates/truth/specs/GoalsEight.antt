@@ -9,9 +9,10 @@ use Rattle.line.specs.All.{All, all-append}
 use Rattle.line.specs.Messages.{lastNumber, Work, Up, Down, Page, Deescalate, Callback, Committed, Aborted, Invalidate, Sent, To, Rec, Answer, Nothing, Begun, Value, Waits, Written, CommittedAs, AbortedFor, Purged, Refused, Empty}
 use Rattle.line.specs.Station.{stationStep}
 use Rattle.line.specs.Server.{Server, Serving, notice, finish, join, leave, sendPage, abort, write, archive, install, serveNow, joinRead, joinWrite, joinCommit, commitNow, unlist, markBusy, answered, loosen, accept, ask, serveRead, concerned, callsFrom, call, grantPage, grantObject, installWaiter, start, unexpected}
-use Rattle.line.specs.Line.{World, Op, Call, Owner, ServerTakes, StationTakes, Broken, Told, ToldRead, ToldWrite, ToldCommit, ToldAbort, tell, carryUp, carryDown, ownerActs, stationTakes, serverTakes, act, run, isRefused, fresh}
+use Rattle.line.specs.Line.{World, Op, Call, Owner, ServerTakes, StationTakes, Broken, Told, ToldRead, ToldWrite, ToldCommit, ToldAbort, writesOf, tellWrite, tellWrites, tell, carryUp, carryDown, ownerActs, stationTakes, serverTakes, act, run, isRefused, fresh}
 use Rattle.line.specs.Pass.{Atomic, step-keeps, if-keeps}
 use Rattle.truth.specs.Frame.{all-snoc, installs, accepts, noticed-sent, noticed-recs}
+use Rattle.sets.specs.Base.{Val, none, some}
 
 abbrev pub toldTo : Told → ℕ
 toldTo (ToldRead i t a v) = i
@@ -90,7 +91,7 @@ module _ (i : ℕ) (b : i < 8) (x : Serving) (h : Serving8 x) where
       (record {
         read-waits = λ a t u e. noticed-8 t;
         read-now = λ a t u e. let y = notice i t x in sends-one {recs = y .recs} {sent = y .sent} (To i (Page _ _ _ _ _ _)) tt (noticed-8 t);
-        write-waits = λ a t u e. noticed-8 t;
+        write-waits = λ p t set u e. noticed-8 t;
         commit-now = λ w u e f. let y = notice i (w .transaction) x in if-keeps Serving8 (eqb (y .server .last) lastNumber) (λ q. abort-8 i 4 y b (noticed-8 (w .transaction))) (λ q. install-8 i w y b (noticed-8 (w .transaction)));
         commit-waits = λ w u e. noticed-8 (w .transaction);
         aborts = λ t u e. noticed-8 t;
@@ -103,13 +104,22 @@ module _ (i : ℕ) (b : i < 8) (x : Serving) (h : Serving8 x) where
         loosens-late = λ p t set e. h;
       })
 
+writes-8 : (i t n : ℕ) (f : ℕ → Val) (l : List Told) → i < 8 → All (λ e. toldTo e < 8) l → All (λ e. toldTo e < 8) (tellWrites i t n f l)
+unfolding tellWrites
+writes-8 i t zero f l b h = h
+writes-8 i t (suc n) f l b h = one (tellWrites i t n f l) (f n) (writes-8 i t n f l b h)
+  where
+    one : (m : List Told) (v : Val) → All (λ e. toldTo e < 8) m → All (λ e. toldTo e < 8) (tellWrite i t n v m)
+    one m none k = k
+    one m (some v) k = all-snoc (λ e. toldTo e < 8) m (ToldWrite i t n v) k b
+
 tell-8 : (i : ℕ) (op : Op) (n : Answer) (w : World) → i < 8 → StationsOf w → StationsOf (tell i op n w)
 unfolding tell
 tell-8 i op Nothing w b h = h
 tell-8 i op (Begun t) w b h = h
 tell-8 i op (Value v) w b h = record { records = h .records; tells = all-snoc (λ e. toldTo e < 8) (w .told) _ (h .tells) b; sends = h .sends }
 tell-8 i op Waits w b h = h
-tell-8 i op Written w b h = record { records = h .records; tells = all-snoc (λ e. toldTo e < 8) (w .told) _ (h .tells) b; sends = h .sends }
+tell-8 i op Written w b h = record { records = h .records; tells = writes-8 i (w .number i) 256 (writesOf op) (w .told) b (h .tells); sends = h .sends }
 tell-8 i op (CommittedAs n) w b h = record { records = h .records; tells = all-snoc (λ e. toldTo e < 8) (w .told) _ (h .tells) b; sends = h .sends }
 tell-8 i op (AbortedFor c) w b h = record { records = h .records; tells = all-snoc (λ e. toldTo e < 8) (w .told) _ (h .tells) b; sends = h .sends }
 tell-8 i op Purged w b h = h

@@ -9,15 +9,16 @@ use Rattle.sets.specs.Base.{snoc, upd, Val, none, some}
 use Rattle.sets.specs.Laws.{byB, byEq, eqb-same, eqb-yes}
 use Rattle.line.specs.All.{All}
 use Rattle.line.specs.Messages.{locking, Down, Page, Deescalate, Callback, Committed, Aborted, Invalidate, Answer, AbortedFor}
-use Rattle.line.specs.Station.{Station, Did, Wait, Idle, ForRead, ForWrite, ForCommit, waiting, forCommit, dropPages, recordRead, writeLocal, mark, doCallback, closed, close, undo, readLocal, readAsk, writeAsk}
-use Rattle.line.specs.Line.{World, Op, Read, Write, Commits, Aborts, ToldAbort, tell, carryUp}
+use Rattle.line.specs.Station.{Station, Did, Wait, Idle, ForRead, ForWrite, ForCommit, waiting, forCommit, dropPages, recordRead, writeLocal, mark, doCallback, closed, close, undo, readLocal, readAsk, writeAsk, ofPage}
+use Rattle.line.specs.Line.{World, Op, Read, Commits, Aborts, ToldAbort, tell, carryUp, WriteSet}
 use Rattle.line.specs.Truth.{count, firstOf}
 use Rattle.truth.specs.Clauses.{isCommitted, FitDown, Owned, OwnedAt, Archived}
 use Rattle.truth.specs.Frame.{Owns, performs, closes}
 use Rattle.truth.specs.Inv.{GoalsOf, Inv, afterOwner}
 use Rattle.truth.specs.GoalsLists.{eqb-swap}
-use Rattle.truth.specs.GoalsTold.{begins, waits-for, told-read, told-write, told-abort, told-other}
+use Rattle.truth.specs.GoalsTold.{begins, waits-for, told-read, told-abort, told-other, told-writes, told-others}
 use Rattle.truth.specs.GoalsServer.{by-station}
+use Rattle.truth.specs.Tokens.{in-page}
 
 -- no commit out, no 21 on its way
 pub no-commit-out : (kind num : ℕ) (opened : Bool) (w : Wait) (D : List Down) → forCommit w ≡ false → All (FitDown kind num opened w) D → count isCommitted D ≡ 0
@@ -32,7 +33,7 @@ no-commit-out kind num opened w (Invalidate d ∷ D) e h = omega (arith, no-comm
 idle-no-commit : (w : Wait) → waiting w ≡ false → forCommit w ≡ false
 idle-no-commit Idle e = refl
 idle-no-commit (ForRead a) e = refl
-idle-no-commit (ForWrite a v) e = refl
+idle-no-commit (ForWrite p f) e = refl
 idle-no-commit ForCommit e = e
 
 -- what ends a transaction
@@ -128,19 +129,19 @@ module _ (i : ℕ) (w : World) (b8 : i < 8) (h : Inv w) where
               owned = by-station _ i (λ b. rw (eqb-same i) (waits-for (g .owned i b) (ForRead a) (Read a) refl)) (λ j b e. rw e (g .owned j b));
             };
         writes-here =
-            λ a v r act q.
+            λ p f r act q.
             record {
               archived = g .archived;
               owned =
                   by-station _ i
-                  (λ b. rw (eqb-same i) (told-write (g .owned i b) (act .opened) (none-due (act .idle)) a v _ (λ c. refl)))
-                  (λ j b e. rw e (told-other (g .owned j b) _ (eqb-swap i j ∙ e)));
+                  (λ b. rw (eqb-same i) (told-writes (act .opened) (none-due (act .idle)) (ofPage p f) (g .owned i b) (λ a e. in-page (r .in-range) (r .page-only a e)) _ (λ c. refl)))
+                  (λ j b e. rw e (told-others i _ 256 (ofPage p f) (eqb-swap i j ∙ e) (g .owned j b)));
             };
         writes-ask =
-            λ a v r act q.
+            λ p f r act q.
             record {
               archived = g .archived;
-              owned = by-station _ i (λ b. rw (eqb-same i) (waits-for (g .owned i b) (ForWrite a v) (Write a v) refl)) (λ j b e. rw e (g .owned j b));
+              owned = by-station _ i (λ b. rw (eqb-same i) (waits-for (g .owned i b) (ForWrite p (ofPage p f)) (WriteSet p f) refl)) (λ j b e. rw e (g .owned j b));
             };
         commits =
             λ act.

@@ -9,13 +9,13 @@ use Rattle.sets.specs.Laws.{byB, eqb-same, eqb-yes, and-l, and-r, any-some}
 use Rattle.line.specs.Messages.{Lock, NoLock, ObjectLock, WholeLock, Up, Down, Page, Deescalate, Callback, Committed, Aborted, Invalidate, CommittedAs, AbortedFor}
 use Rattle.line.specs.Station.{Station, Did, Idle, forCommit, live, usedAt, dropPages, recordRead, writeLocal, mark, doCallback, loosen, arrive, takeLock, onDeescalate, onCommitted, onAborted, stationStep, inUse}
 use Rattle.line.specs.Server.{Want, isWant}
-use Rattle.line.specs.Line.{World, worldDown, Read, Write, ToldCommit, tell, carryUp, isRefused}
+use Rattle.line.specs.Line.{World, worldDown, Read, ToldCommit, tell, carryUp, isRefused, writesOf}
 use Rattle.line.specs.Truth.{count}
 use Rattle.truth.specs.Clauses.{tokenUp, tokenDown, tokens, isCommitted, Owned}
 use Rattle.truth.specs.Frame.{Takes, takes}
 use Rattle.truth.specs.Inv.{GoalsOf, Inv, afterStation}
 use Rattle.truth.specs.GoalsLists.{eqb-swap}
-use Rattle.truth.specs.GoalsTold.{takes-next, waits-for, told-read, told-write, told-abort, told-commit, told-other, closed-over}
+use Rattle.truth.specs.GoalsTold.{takes-next, waits-for, told-read, told-abort, told-commit, told-other, closed-over, told-writes, told-others}
 use Rattle.truth.specs.GoalsServer.{by-station, no-answer, none-committed}
 use Rattle.truth.specs.GoalsOwner.{no-commit-out, Ended, close-ends, undo-num, ended-goals, new-read}
 
@@ -90,8 +90,8 @@ module _ (i : ℕ) (l : List Down) (w : World) (b8 : i < 8) (h : Inv w) where
                   (λ j b c. rw c (told-other (g .owned j b) _ (eqb-swap i j ∙ c)));
             });
         page-write =
-            λ m a t v u x y f p o q e.
-            let n : w .asked i ≡ Write a y = rw p at (g .owned i b8 .note-wait) in
+            λ m a t v u x pg y f p o c q e.
+            let n : writesOf (w .asked i) ≡ y = rw p at (g .owned i b8 .note-wait) in
             let z = none-behind (Page m a t v u x) q (rw p refl) in
             let k = took m a s in
             rw n
@@ -100,9 +100,10 @@ module _ (i : ℕ) (l : List Down) (w : World) (b8 : i < 8) (h : Inv w) where
               owned =
                   by-station _ i
                   (λ b.
-                  rw (eqb-same i, n, k .num, k .opened, k .rd, k .wr)
-                  (told-write (waits-for (takes-next (Page m a t v u x) tt (next _ q b)) Idle (Write a y) tt) (and-l (s .opened) _ f) (omega (arith, z)) a y _ (λ c. refl)))
-                  (λ j b c. rw c (told-other (g .owned j b) _ (eqb-swap i j ∙ c)));
+                  rw (eqb-same i, k .num, k .opened, k .rd, k .wr)
+                  (told-writes (and-l (s .opened) _ f) (omega (arith, z)) y (waits-for (takes-next (Page m a t v u x) tt (next _ q b)) Idle (w .asked i) tt)
+                  (λ d l. h .tokens i .range-wait d (rw p l)) _ (λ d. refl)))
+                  (λ j b d. rw d (told-others i _ 256 y (eqb-swap i j ∙ d) (g .owned j b)));
             });
         deescalates =
             λ p t f q e.

@@ -3,15 +3,15 @@ use mathlib.Core.Path.{_≡_, refl, sym, ap, _∙_}
 use mathlib.Core.Bool.{Bool, true, false, not, _&&_, cond, false≢true}
 use mathlib.Core.List.{List, [], _∷_, _++_}
 use mathlib.Core.Logic.{_⊎_, inl, inr}
-use Prim.Native.Nat.{ℕ, _+_, _≤_, _<_}
+use Prim.Native.Nat.{ℕ, zero, suc, _+_, _≤_, _<_}
 use native.Mathlib.Omega.{arith}
 use lib.Dec.{eqb, ltb}
-use Rattle.sets.specs.Base.{snoc, Val, none, some, valOr}
+use Rattle.sets.specs.Base.{snoc, Val, none, some, has, valOr}
 use Rattle.sets.specs.Laws.{byB, byEq, eqb-same, eqb-yes, eqb-no, ltb-yes, ltb-no, and-l, and-r, or-yes}
 use Rattle.line.specs.All.{All, all-map}
 use Rattle.line.specs.Messages.{Down, Page, Deescalate, Callback, Committed, Aborted, Invalidate, Sent, To, Rec}
-use Rattle.line.specs.Station.{Wait, Idle}
-use Rattle.line.specs.Line.{Op, Told, ToldRead, ToldWrite, ToldCommit, ToldAbort}
+use Rattle.line.specs.Station.{Wait, Idle, orVal}
+use Rattle.line.specs.Line.{Op, Told, ToldRead, ToldWrite, ToldCommit, ToldAbort, tellWrite, tellWrites}
 use Rattle.line.specs.Truth.{In, here, there, count, ofTransaction, ofNumber, lastWrite, firstOf, firstRead, SameAsTold}
 use Rattle.truth.specs.Clauses.{isCommitted, over, NotedWait, RecordedDown, ToldBelow, Owned}
 use Rattle.truth.specs.Frame.{all-snoc}
@@ -352,6 +352,27 @@ module _ {i num : ℕ} {opened : Bool} {rd wr : ℕ → Val} {w : Wait} {D : Lis
         T4 = o .T4;
       }
 
+  -- the same writes, said otherwise
+  same-writes : count isCommitted D ≡ 0 → (wr′ : ℕ → Val) → ((b : ℕ) → wr′ b ≡ wr b) → Owned i num opened rd wr′ w D archive told sentDown number asked
+  same-writes z wr′ f =
+      record {
+        note = o .note;
+        note-wait = o .note-wait;
+        told-below = o .told-below;
+        T5-reads = o .T5-reads;
+        T5-writes = λ x c. f c ∙ o .T5-writes x c;
+        T6 = no-committed i archive rd wr′ D z;
+        T6-untold = o .T6-untold;
+        T8 = o .T8;
+        T8-sent = o .T8-sent;
+        T8-recorded = o .T8-recorded;
+        T2 = o .T2;
+        T2-told = o .T2-told;
+        T2-again = o .T2-again;
+        T9 = o .T9;
+        T4 = o .T4;
+      }
+
   -- told aborted: the transaction is over, with no record
   pub told-abort : opened ≡ true → count isCommitted D ≡ 0 → (c : ℕ) (rd′ wr′ : ℕ → Val) → Owned i num false rd′ wr′ Idle D archive (snoc told (ToldAbort i number c)) sentDown number asked
   told-abort b z c rd′ wr′ =
@@ -400,6 +421,64 @@ module _ {i num : ℕ} {opened : Bool} {rd wr : ℕ → Val} {w : Wait} {D : Lis
         T9 = λ t c u. o .T9 t c (in-old (λ x. eqb (toldTo x) i) told e q (eqb-same i) u);
         T4 = o .T4;
       }
+
+-- TOLD OF A SET, write by write
+
+-- the writes below n of a set
+abbrev firstOnes : ℕ → (ℕ → Val) → (ℕ → Val) → ℕ → Val
+firstOnes n f wr b = cond (ltb b n) (orVal (f b) (wr b)) (wr b)
+
+one-further : (n : ℕ) (f wr : ℕ → Val) (b : ℕ) → firstOnes (suc n) f wr b ≡ cond (eqb b n) (orVal (f n) (wr n)) (firstOnes n f wr b)
+one-further n f wr b =
+    byEq b n
+    (λ e.
+    let q : b ≡ n = eqb-yes b n e in
+    byB (ltb b (suc n)) (λ l. rw (e, l, q) refl) (λ l. absurd (omega (arith, ltb-no b (suc n) l))))
+    (λ e.
+    byB (ltb b n) (λ l. byB (ltb b (suc n)) (λ m. rw (e, l, m) refl) (λ m. absurd (omega (arith, ltb-yes b n l, ltb-no b (suc n) m))))
+    (λ l. byB (ltb b (suc n)) (λ m. absurd (omega (arith, ltb-no b n l, ltb-yes b (suc n) m, eqb-no b n e))) (λ m. rw (e, l, m) refl)))
+
+none-further : (n : ℕ) (f wr : ℕ → Val) → f n ≡ none → (b : ℕ) → firstOnes (suc n) f wr b ≡ firstOnes n f wr b
+none-further n f wr e b =
+    one-further n f wr b
+    ∙ byEq b n
+    (λ q. let r : b ≡ n = eqb-yes b n q in byB (ltb b n) (λ l. absurd (omega (arith, ltb-yes b n l))) (λ l. rw (q, l, e, r) refl))
+    (λ q. rw q refl)
+
+some-further : (n : ℕ) (f wr : ℕ → Val) (v : ℕ) → f n ≡ some v → (b : ℕ) → firstOnes (suc n) f wr b ≡ cond (eqb b n) (some v) (firstOnes n f wr b)
+some-further n f wr v e b = one-further n f wr b ∙ rw e refl
+
+module _ {i num : ℕ} {opened : Bool} {rd wr : ℕ → Val} {w : Wait} {D : List Down} {archive : List Rec} {told : List Told} {sentDown : List Sent} {number : ℕ} {asked : Op}
+    (b : opened ≡ true) (z : count isCommitted D ≡ 0) (f : ℕ → Val) (o : Owned i num opened rd wr w D archive told sentDown number asked) where
+  writes-below : (n : ℕ) → Owned i num opened rd (firstOnes n f wr) w D archive (tellWrites i number n f told) sentDown number asked
+  unfolding tellWrites
+  writes-below zero = same-writes o z (firstOnes 0 f wr) (λ c. byB (ltb c 0) (λ l. absurd (omega (arith, ltb-yes c 0 l))) (λ l. rw l refl))
+  writes-below (suc n) = one (tellWrites i number n f told) (f n) refl (writes-below n)
+    where
+      one : (l : List Told) (v : Val) → f n ≡ v → Owned i num opened rd (firstOnes n f wr) w D archive l sentDown number asked
+          → Owned i num opened rd (firstOnes (suc n) f wr) w D archive (tellWrite i number n v l) sentDown number asked
+      one l none e k = same-writes k z (firstOnes (suc n) f wr) (none-further n f wr e)
+      one l (some v) e k = told-write k b z n v (firstOnes (suc n) f wr) (some-further n f wr v e)
+
+  -- told of all
+  pub told-writes : ((a : ℕ) → has (f a) ≡ true → a < 256) → (wr′ : ℕ → Val) → ((a : ℕ) → wr′ a ≡ orVal (f a) (wr a))
+      → Owned i num opened rd wr′ w D archive (tellWrites i number 256 f told) sentDown number asked
+  told-writes r wr′ g = same-writes (writes-below 256) z wr′ (λ a. g a ∙ byB (ltb a 256) (λ l. rw l refl) (λ l. rw l (beyond a (ltb-no a 256 l) (f a) refl)))
+    where
+      beyond : (a : ℕ) → 256 ≤ a → (v : Val) → f a ≡ v → orVal v (wr a) ≡ wr a
+      beyond a l none e = refl
+      beyond a l (some x) e = let m = r a (ap has e) in absurd (omega arith)
+
+-- another owner is told of a set
+pub told-others : {i num : ℕ} {opened : Bool} {rd wr : ℕ → Val} {w : Wait} {D : List Down} {archive : List Rec} {told : List Told} {sentDown : List Sent} {number : ℕ} {asked : Op} (j t n : ℕ) (f : ℕ → Val) → eqb j i ≡ false
+    → Owned i num opened rd wr w D archive told sentDown number asked → Owned i num opened rd wr w D archive (tellWrites j t n f told) sentDown number asked
+unfolding tellWrites
+told-others j t zero f e o = o
+told-others {i} {num} {opened} {rd} {wr} {w} {D} {archive} {told} {sentDown} {number} {asked} j t (suc n) f e o = one (tellWrites j t n f told) (f n) (told-others j t n f e o)
+  where
+    one : (l : List Told) (v : Val) → Owned i num opened rd wr w D archive l sentDown number asked → Owned i num opened rd wr w D archive (tellWrite j t n v l) sentDown number asked
+    one l none k = k
+    one l (some v) k = told-other k (ToldWrite j t n v) e
 
 -- told committed: the 21 is taken, its record is the transaction's
 pub told-commit : {i num : ℕ} {opened : Bool} {rd wr : ℕ → Val} {w : Wait} {l : List Down} {archive : List Rec} {told : List Told} {sentDown : List Sent} {number : ℕ} {asked : Op} (t n : ℕ) (rd′ wr′ : ℕ → Val)

@@ -6,11 +6,11 @@ use mathlib.Core.List.{List, [], _∷_, _++_}
 use Prim.Native.Nat.{ℕ, suc, _+_, _≤_, _<_}
 use native.Mathlib.Omega.{arith}
 use lib.Dec.{eqb}
-use Rattle.sets.specs.Base.{upd, upd2, snoc, nowhere, Val, none, has, noneAt}
-use Rattle.sets.specs.Laws.{byB, byEq, eqb-same, eqb-yes, and-l, and-r, or-yes, not-no}
+use Rattle.sets.specs.Base.{upd, upd2, snoc, nowhere, Val, none, some, has, noneAt}
+use Rattle.sets.specs.Laws.{byB, byEq, eqb-same, eqb-yes, and-l, and-r, or-yes, not-no, any-some, any-yes, and-both}
 use Rattle.line.specs.All.{All, all-map}
-use Rattle.line.specs.Messages.{pageOf, locking, lastNumber, Work, Up, ReadRequest, WriteRequest, Commit, Abort, Purge, Busy, Done, WrittenSet, Lock, NoLock, ObjectLock, WholeLock, Down, Page, Deescalate, Callback, Committed, Aborted, Invalidate, AbortedFor, Written}
-use Rattle.line.specs.Station.{Station, Did, does, Wait, Idle, ForRead, ForWrite, ForCommit, waiting, forRead, forWrite, forCommit, live, dropPages, mark, recordRead, writeLocal, doCallback, closed, close, undo, readLocal, readAsk, writeAsk, arrive, takeLock, onDeescalate, onCommitted, onAborted, stationStep, workOf}
+use Rattle.line.specs.Messages.{pageOf, address, locking, lastNumber, Work, Up, ReadRequest, WriteRequest, Commit, Abort, Purge, Busy, Done, WrittenSet, Lock, NoLock, ObjectLock, WholeLock, Down, Page, Deescalate, Callback, Committed, Aborted, Invalidate, AbortedFor, Written}
+use Rattle.line.specs.Station.{Station, Did, does, Wait, Idle, ForRead, ForWrite, ForCommit, waiting, forRead, forWrite, writesTo, forCommit, someOn, lowestOn, live, dropPages, mark, recordRead, orVal, writeLocal, doCallback, closed, close, undo, readLocal, readAsk, named, writeAsk, ofPage, arrive, takeLock, onDeescalate, onCommitted, onAborted, stationStep, workOf}
 use Rattle.line.specs.Station as S
 use Rattle.line.specs.Server.{End, ByCommit, ByCause, ByMessage, Server, Serving, send, onServer, setListed, setAsked, setOl, setWl, valuesOn, unavailable, Waiter, noWaiter, waiterPend, waiterCalled, waiterBusy, Want, NoWant, WantRead, WantWrite, WantCommit, isWant, waits, badNumber, unexpected, notice, finish, join, leave, sendPage, abort, write, archive, install, readWaiter, writeWaiter, commitWaiter, serveNow, joinRead, joinWrite, joinCommit, commitNow, unlist, openCall, markBusy, answered, loosen, accept, ask, serveRead, concerned, call, grantPage, grantObject, installWaiter, start}
 use Rattle.line.specs.Line.{Op, Call, fresh, run, perform, sentTo}
@@ -20,6 +20,7 @@ use Rattle.line.specs.Runs.{Moves, run-keeps}
 use Rattle.line.specs.Truth.{In, count}
 use Rattle.truth.specs.Clauses.{stale, tokenUp, tokenDown, Fit, pageWait, lockWait, abortWait, FitUp, FitDown, FitWaiter, SameWork, WaitingWork, Shape, Tokens, TokensAt}
 use Rattle.truth.specs.Frame.{all-in, for-commit, one-most, count-snoc, all-snoc, count-none, none-count, all-both, send-own, send-far, call-own, call-far, append-nil, append-assoc, noticed-latest, noticed-own, noticed-fin, noticed-kind, noticed-queue, noticed-sent, Active, Owns, performs, closes, arrived, Takes, takes, Accepts, accepts, installs}
+use Rattle.line.specs.Asks.{lowest-in, Asks}
 
 pub both : {G : Type 0} (b : Bool) → b ≡ true → b ≡ false → G
 both b t f = absurd (false≢true (sym f ∙ t))
@@ -37,7 +38,7 @@ module _ (kind num : ℕ) (opened : Bool) (w : Wait) where
   -- what is old stays old
   calm-up : (old new : ℕ → Bool) → ((t : ℕ) → t ≤ num → old t ≡ true → new t ≡ true) → (m : Up) → FitUp kind num opened w m → tokenUp old m ≡ false → tokenUp new m ≡ false
   calm-up old new c (ReadRequest a t) f e = rw (c t (f .below) (not-no (old t) e)) refl
-  calm-up old new c (WriteRequest a t) f e = e
+  calm-up old new c (WriteRequest p t set) f e = e
   calm-up old new c (Commit k) f e = e
   calm-up old new c (Abort t) f e = e
   calm-up old new c (Purge p) f e = e
@@ -58,7 +59,7 @@ module _ (kind num : ℕ) (opened : Bool) (w : Wait) where
   -- a message that is no token then fits then
   refit-up : (num′ : ℕ) (opened′ : Bool) (w′ : Wait) → num ≤ num′ → (m : Up) → FitUp kind num opened w m → tokenUp (stale kind num′ opened′) m ≡ false → FitUp kind num′ opened′ w′ m
   refit-up num′ opened′ w′ b (ReadRequest a t) f e = old-fit (not-no (stale kind num′ opened′ t) e) (omega (arith, f .below))
-  refit-up num′ opened′ w′ b (WriteRequest a t) f e = not-token e
+  refit-up num′ opened′ w′ b (WriteRequest p t set) f e = not-token e
   refit-up num′ opened′ w′ b (Commit k) f e = not-token e
   refit-up num′ opened′ w′ b (Abort t) f e = tt
   refit-up num′ opened′ w′ b (Purge p) f e = tt
@@ -79,7 +80,7 @@ module _ (kind num : ℕ) (opened : Bool) (w : Wait) where
 -- no token, so no commit
 no-work : (old : ℕ → Bool) (rd wr : ℕ → Val) (m : Up) → tokenUp old m ≡ false → SameWork rd wr m
 no-work old rd wr (ReadRequest a t) e = tt
-no-work old rd wr (WriteRequest a t) e = tt
+no-work old rd wr (WriteRequest p t set) e = tt
 no-work old rd wr (Commit k) e = not-token e
 no-work old rd wr (Abort t) e = tt
 no-work old rd wr (Purge p) e = tt
@@ -89,7 +90,7 @@ no-work old rd wr (WrittenSet p t set) e = tt
 
 -- a wait that no token but a 1 or 16 fits
 pub record Deaf (kind : ℕ) (w : Wait) : Type 0 where
-  pub lock : (a : ℕ) → lockWait kind w a ≡ false
+  pub lock : (p : ℕ) → lockWait kind w p ≡ false
   pub read : (a : ℕ) → (locking kind && forRead w a) ≡ false
   pub commit : forCommit w ≡ false
   pub abort : abortWait kind w ≡ false
@@ -97,19 +98,25 @@ pub record Deaf (kind : ℕ) (w : Wait) : Type 0 where
 pub idle-read : (w : Wait) (a : ℕ) → waiting w ≡ false → forRead w a ≡ false
 idle-read Idle a e = refl
 idle-read (ForRead b) a e = not-token e
-idle-read (ForWrite b v) a e = not-token e
+idle-read (ForWrite p f) a e = not-token e
 idle-read ForCommit a e = not-token e
 
 pub idle-write : (w : Wait) (a : ℕ) → waiting w ≡ false → forWrite w a ≡ false
 idle-write Idle a e = refl
 idle-write (ForRead b) a e = not-token e
-idle-write (ForWrite b v) a e = not-token e
+idle-write (ForWrite p f) a e = not-token e
 idle-write ForCommit a e = not-token e
+
+pub idle-page-write : (w : Wait) (p : ℕ) → waiting w ≡ false → writesTo w p ≡ false
+idle-page-write Idle p e = refl
+idle-page-write (ForRead b) p e = refl
+idle-page-write (ForWrite q f) p e = not-token e
+idle-page-write ForCommit p e = refl
 
 pub idle-commit : (w : Wait) → waiting w ≡ false → forCommit w ≡ false
 idle-commit Idle e = refl
 idle-commit (ForRead b) e = not-token e
-idle-commit (ForWrite b v) e = not-token e
+idle-commit (ForWrite p f) e = not-token e
 idle-commit ForCommit e = not-token e
 
 pub and-no : (a b : Bool) → b ≡ false → (a && b) ≡ false
@@ -119,7 +126,7 @@ and-no false b e = refl
 idle-deaf : (kind : ℕ) (w : Wait) → waiting w ≡ false → Deaf kind w
 idle-deaf kind w e =
     record {
-      lock = λ a. and-no (locking kind) _ (idle-write w a e);
+      lock = λ p. and-no (locking kind) _ (idle-page-write w p e);
       read = λ a. and-no (locking kind) _ (idle-read w a e);
       commit = idle-commit w e;
       abort = rw e refl;
@@ -141,7 +148,7 @@ paging-deaf kind w k e =
 module _ {kind num : ℕ} {opened : Bool} {w : Wait} (k : Deaf kind w) (old : ℕ → Bool) (p : (a t : ℕ) → Fit (stale kind num opened t) t num opened (pageWait kind w a) → old t ≡ true) where
   deaf-up : (m : Up) → FitUp kind num opened w m → tokenUp old m ≡ false
   deaf-up (ReadRequest a t) f = rw (p a t f) refl
-  deaf-up (WriteRequest a t) f = both (lockWait kind w a) (f .waits refl) (k .lock a)
+  deaf-up (WriteRequest q t set) f = both (lockWait kind w q) (and-l (lockWait kind w q) _ (f .waits refl)) (k .lock q)
   deaf-up (Commit c) f = both (forCommit w) (f .waits refl) (k .commit)
   deaf-up (Abort t) f = refl
   deaf-up (Purge q) f = refl
@@ -151,8 +158,8 @@ module _ {kind num : ℕ} {opened : Bool} {w : Wait} (k : Deaf kind w) (old : �
 
   deaf-down : (m : Down) → FitDown kind num opened w m → tokenDown old m ≡ false
   deaf-down (Page NoLock a t v u x) f = rw (p a t f) refl
-  deaf-down (Page ObjectLock a t v u x) f = both (lockWait kind w a) (f .waits refl) (k .lock a)
-  deaf-down (Page WholeLock a t v u x) f = both (lockWait kind w a) (f .waits refl) (k .lock a)
+  deaf-down (Page ObjectLock a t v u x) f = both (lockWait kind w (pageOf a)) (f .waits refl) (k .lock (pageOf a))
+  deaf-down (Page WholeLock a t v u x) f = both (lockWait kind w (pageOf a)) (f .waits refl) (k .lock (pageOf a))
   deaf-down (Deescalate q t) f = refl
   deaf-down (Callback r t set) f = refl
   deaf-down (Committed t n) f = both (forCommit w) (f .waits refl) (k .commit)
@@ -162,7 +169,7 @@ module _ {kind num : ℕ} {opened : Bool} {w : Wait} (k : Deaf kind w) (old : �
 deaf-waiter : (kind num : ℕ) (opened : Bool) (w : Wait) (latest : ℕ) → Deaf kind w → (v : Want) (a : ℕ) → FitWaiter kind num opened w latest v a → isWant v ≡ false
 deaf-waiter kind num opened w latest k NoWant a f = refl
 deaf-waiter kind num opened w latest k WantRead a f = both (locking kind && forRead w a) (f .waits refl) (k .read a)
-deaf-waiter kind num opened w latest k WantWrite a f = both (lockWait kind w a) (f .waits refl) (k .lock a)
+deaf-waiter kind num opened w latest k WantWrite a f = both (lockWait kind w (pageOf a)) (f .waits refl) (k .lock (pageOf a))
 deaf-waiter kind num opened w latest k WantCommit a f = both (not (locking kind) && forCommit w) (f .waits refl) (and-no (not (locking kind)) _ (k .commit))
 
 -- who does not wait has the empty entry
@@ -186,6 +193,7 @@ pub record Own (opened : Bool) (rd wr : ℕ → Val) (w : Wait) : Type 0 where
   pub S5 : (a : ℕ) → forRead w a ≡ true → (rd a ≡ none) × (wr a ≡ none)
   pub S6 : opened ≡ false → ((a : ℕ) → (rd a ≡ none) × (wr a ≡ none)) × (waiting w ≡ false)
   pub range-wait : (a : ℕ) → (forRead w a || forWrite w a) ≡ true → a < 256
+  pub range-page : (p : ℕ) → writesTo w p ≡ true → p < 32
   pub range-used : (a : ℕ) → 256 ≤ a → (rd a ≡ none) × (wr a ≡ none)
 
 module _ {skind kind num : ℕ} {opened : Bool} {q : Waiter} {U : List Up} {D : List Down} where
@@ -194,7 +202,7 @@ module _ {skind kind num : ℕ} {opened : Bool} {q : Waiter} {U : List Up} {D : 
 
 module _ {skind kind num : ℕ} {opened : Bool} {rd wr : ℕ → Val} {w : Wait} {q : Waiter} {latest : ℕ} {fin : Bool} {U : List Up} {D : List Down} where
   pub own : Tokens skind kind num opened rd wr w q latest fin U D → Own opened rd wr w
-  own h = record { S5 = h .S5; S6 = h .S6; range-wait = h .range-wait; range-used = h .range-used }
+  own h = record { S5 = h .S5; S6 = h .S6; range-wait = h .range-wait; range-page = h .range-page; range-used = h .range-used }
 
   pub quiet-tokens : Quiet skind kind num opened q U D → Own opened rd wr w → Tokens skind kind num opened rd wr w q latest fin U D
   quiet-tokens k o =
@@ -211,6 +219,7 @@ module _ {skind kind num : ℕ} {opened : Bool} {rd wr : ℕ → Val} {w : Wait}
         S6 = o .S6;
         S7 = rw (k .empty) refl;
         range-wait = o .range-wait;
+        range-page = o .range-page;
         range-used = o .range-used;
       }
 
@@ -252,7 +261,7 @@ module _ {skind kind num : ℕ} {opened : Bool} {rd wr : ℕ → Val} {w : Wait}
   took-down m e h =
       let n : count (tokenUp (stale kind num opened)) U + cond (isWant (q .want)) 1 0 + count (tokenDown (stale kind num opened)) D ≡ 0 = omega (arith, rw e at (h .S1a)) in
       let g : Tokens skind kind num opened rd wr w q latest fin U D =
-      record { kinds = h .kinds; S1a = omega arith; S1b-up = h .S1b-up; S1b-waiter = h .S1b-waiter; S1b-down = h .S1b-down .1; S3-up = h .S3-up; S3-waiter = h .S3-waiter; S4 = h .S4; S5 = h .S5; S6 = h .S6; S7 = h .S7; range-wait = h .range-wait; range-used = h .range-used } in
+      record { kinds = h .kinds; S1a = omega arith; S1b-up = h .S1b-up; S1b-waiter = h .S1b-waiter; S1b-down = h .S1b-down .1; S3-up = h .S3-up; S3-waiter = h .S3-waiter; S4 = h .S4; S5 = h .S5; S6 = h .S6; S7 = h .S7; range-wait = h .range-wait; range-page = h .range-page; range-used = h .range-used } in
       hushed num opened (omega arith) (byB (isWant (q .want)) (λ y. absurd (omega (arith, rw y at n))) (λ y. y))
       (count-none (tokenUp (stale kind num opened)) U (omega arith))
       (count-none (tokenDown (stale kind num opened)) D (omega arith)) g
@@ -262,7 +271,7 @@ module _ {skind kind num : ℕ} {opened : Bool} {rd wr : ℕ → Val} {w : Wait}
   took-up m e h =
       let n : count (tokenUp (stale kind num opened)) U + cond (isWant (q .want)) 1 0 + count (tokenDown (stale kind num opened)) D ≡ 0 = omega (arith, rw e at (h .S1a)) in
       let g : Tokens skind kind num opened rd wr w q latest fin U D =
-      record { kinds = h .kinds; S1a = omega arith; S1b-up = h .S1b-up .1; S1b-waiter = h .S1b-waiter; S1b-down = h .S1b-down; S3-up = h .S3-up .1; S3-waiter = h .S3-waiter; S4 = h .S4; S5 = h .S5; S6 = h .S6; S7 = h .S7; range-wait = h .range-wait; range-used = h .range-used } in
+      record { kinds = h .kinds; S1a = omega arith; S1b-up = h .S1b-up .1; S1b-waiter = h .S1b-waiter; S1b-down = h .S1b-down; S3-up = h .S3-up .1; S3-waiter = h .S3-waiter; S4 = h .S4; S5 = h .S5; S6 = h .S6; S7 = h .S7; range-wait = h .range-wait; range-page = h .range-page; range-used = h .range-used } in
       hushed num opened (omega arith) (byB (isWant (q .want)) (λ y. absurd (omega (arith, rw y at n))) (λ y. y))
       (count-none (tokenUp (stale kind num opened)) U (omega arith))
       (count-none (tokenDown (stale kind num opened)) D (omega arith)) g
@@ -285,19 +294,19 @@ module _ {skind kind num : ℕ} {opened : Bool} {rd wr : ℕ → Val} {w : Wait}
   -- messages that are no tokens
   pub pop-down : (m : Down) → Tokens skind kind num opened rd wr w q latest fin U (m ∷ D) → Tokens skind kind num opened rd wr w q latest fin U D
   pop-down m h =
-      record { kinds = h .kinds; S1a = omega (arith, h .S1a); S1b-up = h .S1b-up; S1b-waiter = h .S1b-waiter; S1b-down = h .S1b-down .1; S3-up = h .S3-up; S3-waiter = h .S3-waiter; S4 = h .S4; S5 = h .S5; S6 = h .S6; S7 = h .S7; range-wait = h .range-wait; range-used = h .range-used }
+      record { kinds = h .kinds; S1a = omega (arith, h .S1a); S1b-up = h .S1b-up; S1b-waiter = h .S1b-waiter; S1b-down = h .S1b-down .1; S3-up = h .S3-up; S3-waiter = h .S3-waiter; S4 = h .S4; S5 = h .S5; S6 = h .S6; S7 = h .S7; range-wait = h .range-wait; range-page = h .range-page; range-used = h .range-used }
 
   pub pop-up : (m : Up) → Tokens skind kind num opened rd wr w q latest fin (m ∷ U) D → Tokens skind kind num opened rd wr w q latest fin U D
   pop-up m h =
-      record { kinds = h .kinds; S1a = omega (arith, h .S1a); S1b-up = h .S1b-up .1; S1b-waiter = h .S1b-waiter; S1b-down = h .S1b-down; S3-up = h .S3-up .1; S3-waiter = h .S3-waiter; S4 = h .S4; S5 = h .S5; S6 = h .S6; S7 = h .S7; range-wait = h .range-wait; range-used = h .range-used }
+      record { kinds = h .kinds; S1a = omega (arith, h .S1a); S1b-up = h .S1b-up .1; S1b-waiter = h .S1b-waiter; S1b-down = h .S1b-down; S3-up = h .S3-up .1; S3-waiter = h .S3-waiter; S4 = h .S4; S5 = h .S5; S6 = h .S6; S7 = h .S7; range-wait = h .range-wait; range-page = h .range-page; range-used = h .range-used }
 
   pub add-up : (m : Up) → tokenUp (stale kind num opened) m ≡ false → FitUp kind num opened w m → SameWork rd wr m → Tokens skind kind num opened rd wr w q latest fin U D → Tokens skind kind num opened rd wr w q latest fin (snoc U m) D
   add-up m e f s h =
-      record { kinds = h .kinds; S1a = omega (arith, h .S1a, rw e at (count-snoc (tokenUp (stale kind num opened)) U m)); S1b-up = all-snoc (FitUp kind num opened w) U m (h .S1b-up) f; S1b-waiter = h .S1b-waiter; S1b-down = h .S1b-down; S3-up = all-snoc (SameWork rd wr) U m (h .S3-up) s; S3-waiter = h .S3-waiter; S4 = h .S4; S5 = h .S5; S6 = h .S6; S7 = h .S7; range-wait = h .range-wait; range-used = h .range-used }
+      record { kinds = h .kinds; S1a = omega (arith, h .S1a, rw e at (count-snoc (tokenUp (stale kind num opened)) U m)); S1b-up = all-snoc (FitUp kind num opened w) U m (h .S1b-up) f; S1b-waiter = h .S1b-waiter; S1b-down = h .S1b-down; S3-up = all-snoc (SameWork rd wr) U m (h .S3-up) s; S3-waiter = h .S3-waiter; S4 = h .S4; S5 = h .S5; S6 = h .S6; S7 = h .S7; range-wait = h .range-wait; range-page = h .range-page; range-used = h .range-used }
 
   pub add-down : (m : Down) → tokenDown (stale kind num opened) m ≡ false → FitDown kind num opened w m → Tokens skind kind num opened rd wr w q latest fin U D → Tokens skind kind num opened rd wr w q latest fin U (snoc D m)
   add-down m e f h =
-      record { kinds = h .kinds; S1a = omega (arith, h .S1a, rw e at (count-snoc (tokenDown (stale kind num opened)) D m)); S1b-up = h .S1b-up; S1b-waiter = h .S1b-waiter; S1b-down = all-snoc (FitDown kind num opened w) D m (h .S1b-down) f; S3-up = h .S3-up; S3-waiter = h .S3-waiter; S4 = h .S4; S5 = h .S5; S6 = h .S6; S7 = h .S7; range-wait = h .range-wait; range-used = h .range-used }
+      record { kinds = h .kinds; S1a = omega (arith, h .S1a, rw e at (count-snoc (tokenDown (stale kind num opened)) D m)); S1b-up = h .S1b-up; S1b-waiter = h .S1b-waiter; S1b-down = all-snoc (FitDown kind num opened w) D m (h .S1b-down) f; S3-up = h .S3-up; S3-waiter = h .S3-waiter; S4 = h .S4; S5 = h .S5; S6 = h .S6; S7 = h .S7; range-wait = h .range-wait; range-page = h .range-page; range-used = h .range-used }
 
   -- a quiet station gets its token: up, as a waiter, or down
   pub token-up : (m : Up) → FitUp kind num opened w m → SameWork rd wr m → Own opened rd wr w → Quiet skind kind num opened q U D → Tokens skind kind num opened rd wr w q latest fin (snoc U m) D
@@ -315,6 +324,7 @@ module _ {skind kind num : ℕ} {opened : Bool} {rd wr : ℕ → Val} {w : Wait}
         S6 = o .S6;
         S7 = rw (k .empty) refl;
         range-wait = o .range-wait;
+        range-page = o .range-page;
         range-used = o .range-used;
       }
 
@@ -333,6 +343,7 @@ module _ {skind kind num : ℕ} {opened : Bool} {rd wr : ℕ → Val} {w : Wait}
         S6 = o .S6;
         S7 = rw (k .empty) refl;
         range-wait = o .range-wait;
+        range-page = o .range-page;
         range-used = o .range-used;
       }
 
@@ -351,6 +362,7 @@ module _ {skind kind num : ℕ} {opened : Bool} {rd wr : ℕ → Val} {w : Wait}
         S6 = o .S6;
         S7 = z;
         range-wait = o .range-wait;
+        range-page = o .range-page;
         range-used = o .range-used;
       }
 
@@ -393,6 +405,7 @@ own-idle {opened} {rd} {wr} {w} o e r =
       S5 = λ a f. both (forRead w a) f (idle-read w a e);
       S6 = λ f. both opened o f;
       range-wait = λ a f. absurd (false≢true (rw (idle-read w a e, idle-write w a e) at f));
+      range-page = λ p f. both (writesTo w p) f (idle-page-write w p e);
       range-used = r;
     }
 
@@ -402,24 +415,30 @@ own-read {opened} {rd} {wr} a b o x y r =
       S5 = λ c f. rw (eqb-yes c a f) (x, y);
       S6 = λ f. both opened o f;
       range-wait = λ c f. or-yes (eqb c a) false f (λ g. rw (eqb-yes c a g) b) (λ g. absurd (false≢true g));
+      range-page = λ p f. absurd (false≢true f);
       range-used = r;
     }
 
-own-write : {opened : Bool} {rd wr : ℕ → Val} (a v : ℕ) → a < 256 → opened ≡ true → Range rd wr → Own opened rd wr (ForWrite a v)
-own-write {opened} {rd} {wr} a v b o r =
+-- an object of a page below 32
+pub in-page : {p a : ℕ} → p < 32 → pageOf a ≡ p → a < 256
+in-page b e = omega arith
+
+own-write : {opened : Bool} {rd wr : ℕ → Val} (p : ℕ) (f : ℕ → Val) → Asks p f → opened ≡ true → Range rd wr → Own opened rd wr (ForWrite p f)
+own-write {opened} {rd} {wr} p f b o r =
     record {
-      S5 = λ c f. absurd (false≢true f);
-      S6 = λ f. both opened o f;
-      range-wait = λ c f. rw (eqb-yes c a f) b;
+      S5 = λ c e. absurd (false≢true e);
+      S6 = λ e. both opened o e;
+      range-wait = λ c e. in-page (b .in-range) (b .page-only c e);
+      range-page = λ q e. rw (eqb-yes q p e) (b .in-range);
       range-used = r;
     }
 
 own-commit : {opened : Bool} {rd wr : ℕ → Val} → opened ≡ true → Range rd wr → Own opened rd wr ForCommit
 own-commit {opened} o r =
-    record { S5 = λ c f. absurd (false≢true f); S6 = λ f. both opened o f; range-wait = λ c f. absurd (false≢true f); range-used = r }
+    record { S5 = λ c f. absurd (false≢true f); S6 = λ f. both opened o f; range-wait = λ c f. absurd (false≢true f); range-page = λ p f. absurd (false≢true f); range-used = r }
 
 own-closed : Own false noneAt noneAt Idle
-own-closed = record { S5 = λ c f. absurd (false≢true f); S6 = λ f. (λ a. (refl, refl), refl); range-wait = λ c f. absurd (false≢true f); range-used = λ a b. (refl, refl) }
+own-closed = record { S5 = λ c f. absurd (false≢true f); S6 = λ f. (λ a. (refl, refl), refl); range-wait = λ c f. absurd (false≢true f); range-page = λ p f. absurd (false≢true f); range-used = λ a b. (refl, refl) }
 
 far-from : (a b : ℕ) → a < 256 → 256 ≤ b → eqb b a ≡ false
 far-from a b x y = byEq b a (λ e. absurd (omega (arith, eqb-yes b a e))) (λ e. e)
@@ -427,8 +446,16 @@ far-from a b x y = byEq b a (λ e. absurd (omega (arith, eqb-yes b a e))) (λ e.
 pub range-read : {rd wr : ℕ → Val} (a : ℕ) (v : Val) → a < 256 → Range rd wr → Range (upd rd a v) wr
 range-read a v b r c d = rw (far-from a c b d) (r c d)
 
-range-write : {rd wr : ℕ → Val} (a : ℕ) (v : Val) → a < 256 → Range rd wr → Range rd (upd wr a v)
-range-write a v b r c d = rw (far-from a c b d) (r c d)
+range-write : {rd wr : ℕ → Val} (f : ℕ → Val) → ((a : ℕ) → has (f a) ≡ true → a < 256) → Range rd wr → Range rd (λ a. orVal (f a) (wr a))
+range-write {rd} {wr} f b r c d = (r c d .0, beyond (f c) refl)
+  where
+    beyond : (v : Val) → f c ≡ v → orVal v (wr c) ≡ none
+    beyond none e = r c d .1
+    beyond (some x) e = let l = b c (ap has e) in absurd (omega arith)
+
+-- what the owner writes
+asked-range : {p : ℕ} {f : ℕ → Val} → Asks p f → (a : ℕ) → has (f a) ≡ true → a < 256
+asked-range b a e = in-page (b .in-range) (b .page-only a e)
 
 -- A STATION'S MOVE: what it has done, with the messages it sent at the end of its up line
 abbrev pub After : ℕ → Waiter → ℕ → Bool → List Up → List Down → Did → Type 0
@@ -478,18 +505,25 @@ module _ (skind : ℕ) (q : Waiter) (latest : ℕ) (fin : Bool) (U : List Up) (D
     abort-quiet : waiting (s .wait) ≡ false → Quiet skind (s .kind) (s .num) false q (U ++ cond (locking (s .kind)) (Abort (s .num) ∷ []) []) D
     abort-quiet e = byB (locking (s .kind)) (λ l. rw l (quiet-add (Abort (s .num)) refl (λ w. tt) (shut e))) (λ l. rw l (rw (append-nil U) (shut e)))
 
-    write-ask : (a v : ℕ) → a < 256 → Active s → After skind q latest fin U D (writeAsk a v s)
+    write-ask : (p : ℕ) (f : ℕ → Val) → Asks p f → Active s → someOn p (named f s) ≡ true → After skind q latest fin U D (writeAsk p f s)
     unfolding writeAsk
-    write-ask a v b c =
-        byB (locking (s .kind))
-        (λ l.
-        rw l
-        (token-up (WriteRequest a (s .num)) (record { below = omega arith; same = λ z. refl; alive = λ z. c .opened; waits = λ z. rw (l, eqb-same a) refl }) tt
-        (own-write a v b (c .opened) (h .range-used)) (quiet (c .idle))))
-        (λ l.
-        rw l
-        (token-up (ReadRequest a (s .num)) (record { below = omega arith; same = λ z. refl; alive = λ z. c .opened; waits = λ z. rw (l, eqb-same a) refl }) tt
-        (own-write a v b (c .opened) (h .range-used)) (quiet (c .idle))))
+    write-ask p f b c n = by-kind (locking (s .kind)) refl
+      where
+        a : ℕ
+        a = lowestOn p (named f s)
+
+        -- what is asked for is written
+        written-lowest : has (f a) ≡ true
+        written-lowest = and-l (has (f a)) _ (lowest-in p (named f s) n)
+
+        by-kind : (k : Bool) → locking (s .kind) ≡ k
+            → Tokens skind (s .kind) (s .num) (s .opened) (s .rd) (s .wr) (ForWrite p f) q latest fin (U ++ (cond k (WriteRequest p (s .num) (named f s)) (ReadRequest a (s .num)) ∷ [])) D
+        by-kind true l =
+            token-up (WriteRequest p (s .num) (named f s)) (record { below = omega arith; same = λ z. refl; alive = λ z. c .opened; waits = λ z. and-both (lockWait (s .kind) (ForWrite p f) p) (someOn p (named f s)) (and-both (locking (s .kind)) (eqb p p) l (eqb-same p)) n }) tt
+            (own-write p f b (c .opened) (h .range-used)) (quiet (c .idle))
+        by-kind false l =
+            token-up (ReadRequest a (s .num)) (record { below = omega arith; same = λ z. refl; alive = λ z. c .opened; waits = λ z. and-both (not (locking (s .kind))) (has (f a)) (ap not l) written-lowest }) tt
+            (own-write p f b (c .opened) (h .range-used)) (quiet (c .idle))
 
     owner-after : Owns s (λ op d. After skind q latest fin U D d)
     unfolding readLocal recordRead readAsk writeLocal writeAsk dropPages
@@ -505,8 +539,8 @@ module _ (skind : ℕ) (q : Waiter) (latest : ℕ) (fin : Bool) (U : List Up) (D
           reads-ask = λ a b c e f g.
               token-up (ReadRequest a (s .num)) (record { below = omega arith; same = λ z. refl; alive = λ z. c .opened; waits = λ z. rw (eqb-same a) refl }) tt
               (own-read a b (c .opened) f e (h .range-used)) (quiet (c .idle));
-          writes-here = λ a v b c e. rw (append-nil U) (quiet-tokens (quiet (c .idle)) (own-idle (c .opened) (c .idle) (range-write a _ b (h .range-used))));
-          writes-ask = λ a v b c e. write-ask a v b c;
+          writes-here = λ p f b c e. rw (append-nil U) (quiet-tokens (quiet (c .idle)) (own-idle (c .opened) (c .idle) (range-write (ofPage p f) (asked-range b) (h .range-used))));
+          writes-ask = λ p f b c e. write-ask p (ofPage p f) b c e;
           commits = λ c.
               token-up (Commit (workOf s)) (record { below = omega arith; same = λ z. refl; alive = λ z. c .opened; waits = λ z. refl }) (refl, refl)
               (own-commit (c .opened) (h .range-used)) (quiet (c .idle));
@@ -531,17 +565,18 @@ module _ (skind : ℕ) (q : Waiter) (latest : ℕ) (fin : Bool) (U : List Up) (D
     pub shut-taken : (m : Down) → tokenDown (stale (s .kind) (s .num) (s .opened)) m ≡ true → Before skind q latest fin U (m ∷ D) s → Quiet skind (s .kind) (s .num) false q U D
     shut-taken m e h = quiet-on (s .num) false (omega arith) (λ t b f. closed-old (s .kind) (s .num) (s .opened) t f) (took-down m e h)
 
-    written : (l : Lock) (a t : ℕ) (v : ℕ → ℕ) (u : ℕ → Bool) (x : ℕ → ℕ) (y : ℕ) → live s t ≡ true → s .wait ≡ ForWrite a y → Taken (Page l a t v u x) (does Written (writeLocal a y (arrived l a v u x s)) [])
+    -- what is to be written is in range
+    due : (p : ℕ) (y : ℕ → Val) → s .wait ≡ ForWrite p y → {m : Down} → Before skind q latest fin U (m ∷ D) s → (a : ℕ) → has (y a) ≡ true → a < 256
+    due p y f h a e = h .range-wait a (rw f e)
+
+    written : (l : Lock) (a t : ℕ) (v : ℕ → ℕ) (u : ℕ → Bool) (x : ℕ → ℕ) (p : ℕ) (y : ℕ → Val) → live s t ≡ true → s .wait ≡ ForWrite p y → Taken (Page l a t v u x) (does Written (writeLocal y (arrived l a v u x s)) [])
     unfolding writeLocal arrive takeLock
-    written NoLock a t v u x y e f h =
-        let b : a < 256 = h .range-wait a (rw (f, eqb-same a) refl) in
-        rw (append-nil U) (quiet-tokens (took-down (Page NoLock a t v u x) (rw (live-hot t e) refl) h) (own-idle (live-open t e) refl (range-write a _ b (h .range-used))))
-    written ObjectLock a t v u x y e f h =
-        let b : a < 256 = h .range-wait a (rw (f, eqb-same a) refl) in
-        rw (append-nil U) (quiet-tokens (took-down (Page ObjectLock a t v u x) refl h) (own-idle (live-open t e) refl (range-write a _ b (h .range-used))))
-    written WholeLock a t v u x y e f h =
-        let b : a < 256 = h .range-wait a (rw (f, eqb-same a) refl) in
-        rw (append-nil U) (quiet-tokens (took-down (Page WholeLock a t v u x) refl h) (own-idle (live-open t e) refl (range-write a _ b (h .range-used))))
+    written NoLock a t v u x p y e f h =
+        rw (append-nil U) (quiet-tokens (took-down (Page NoLock a t v u x) (rw (live-hot t e) refl) h) (own-idle (live-open t e) refl (range-write y (due p y f h) (h .range-used))))
+    written ObjectLock a t v u x p y e f h =
+        rw (append-nil U) (quiet-tokens (took-down (Page ObjectLock a t v u x) refl h) (own-idle (live-open t e) refl (range-write y (due p y f h) (h .range-used))))
+    written WholeLock a t v u x p y e f h =
+        rw (append-nil U) (quiet-tokens (took-down (Page WholeLock a t v u x) refl h) (own-idle (live-open t e) refl (range-write y (due p y f h) (h .range-used))))
 
     station-after : Takes s Taken
     unfolding recordRead arrive takeLock onDeescalate S.loosen doCallback dropPages mark onCommitted onAborted
@@ -552,7 +587,7 @@ module _ (skind : ℕ) (q : Waiter) (latest : ℕ) (fin : Bool) (U : List Up) (D
           page-read = λ a t v u x e f h.
               let b : a < 256 = h .range-wait a (rw (f, eqb-same a) refl) in
               rw (append-nil U) (quiet-tokens (took-down (Page NoLock a t v u x) (rw (live-hot t e) refl) h) (own-idle (live-open t e) refl (range-read a _ b (h .range-used))));
-          page-write = λ l a t v u x y e f o h. written l a t v u x y e f h;
+          page-write = λ l a t v u x p y e f o c h. written l a t v u x p y e f h;
           deescalates = λ p t e h.
               let g = add-up (WrittenSet p t _) refl tt tt (pop-down (Deescalate p t) h) in
               byB (live s t && s .wl p) (λ z. rw z g) (λ z. rw z g);
@@ -591,21 +626,21 @@ shape-answered WantCommit q b p e s = s
 module _ {skind kind num : ℕ} {opened : Bool} {rd wr : ℕ → Val} {w : Wait} {q : Waiter} {latest : ℕ} {fin : Bool} {U : List Up} {D : List Down} (h : Tokens skind kind num opened rd wr w q latest fin U D) where
   pub called-tokens : (p : ℕ → Bool) → isWant (q .want) ≡ true → (q .want ≡ WantRead → ⊥) → Tokens skind kind num opened rd wr w (waiterPend (waiterCalled q true) p) latest fin U D
   called-tokens p e n =
-      record { kinds = h .kinds; S1a = h .S1a; S1b-up = h .S1b-up; S1b-waiter = h .S1b-waiter; S1b-down = h .S1b-down; S3-up = h .S3-up; S3-waiter = h .S3-waiter; S4 = h .S4; S5 = h .S5; S6 = h .S6; S7 = shape-called (q .want) q p e n (h .S7); range-wait = h .range-wait; range-used = h .range-used }
+      record { kinds = h .kinds; S1a = h .S1a; S1b-up = h .S1b-up; S1b-waiter = h .S1b-waiter; S1b-down = h .S1b-down; S3-up = h .S3-up; S3-waiter = h .S3-waiter; S4 = h .S4; S5 = h .S5; S6 = h .S6; S7 = shape-called (q .want) q p e n (h .S7); range-wait = h .range-wait; range-page = h .range-page; range-used = h .range-used }
 
   pub busy-tokens : (b : ℕ → Bool) → isWant (q .want) ≡ true → Tokens skind kind num opened rd wr w (waiterBusy q b) latest fin U D
   busy-tokens b e =
-      record { kinds = h .kinds; S1a = h .S1a; S1b-up = h .S1b-up; S1b-waiter = h .S1b-waiter; S1b-down = h .S1b-down; S3-up = h .S3-up; S3-waiter = h .S3-waiter; S4 = h .S4; S5 = h .S5; S6 = h .S6; S7 = shape-busy (q .want) q b e (h .S7); range-wait = h .range-wait; range-used = h .range-used }
+      record { kinds = h .kinds; S1a = h .S1a; S1b-up = h .S1b-up; S1b-waiter = h .S1b-waiter; S1b-down = h .S1b-down; S3-up = h .S3-up; S3-waiter = h .S3-waiter; S4 = h .S4; S5 = h .S5; S6 = h .S6; S7 = shape-busy (q .want) q b e (h .S7); range-wait = h .range-wait; range-page = h .range-page; range-used = h .range-used }
 
   pub answered-tokens : (b p : ℕ → Bool) → isWant (q .want) ≡ true → Tokens skind kind num opened rd wr w (waiterPend (waiterBusy q b) p) latest fin U D
   answered-tokens b p e =
-      record { kinds = h .kinds; S1a = h .S1a; S1b-up = h .S1b-up; S1b-waiter = h .S1b-waiter; S1b-down = h .S1b-down; S3-up = h .S3-up; S3-waiter = h .S3-waiter; S4 = h .S4; S5 = h .S5; S6 = h .S6; S7 = shape-answered (q .want) q b p e (h .S7); range-wait = h .range-wait; range-used = h .range-used }
+      record { kinds = h .kinds; S1a = h .S1a; S1b-up = h .S1b-up; S1b-waiter = h .S1b-waiter; S1b-down = h .S1b-down; S3-up = h .S3-up; S3-waiter = h .S3-waiter; S4 = h .S4; S5 = h .S5; S6 = h .S6; S7 = shape-answered (q .want) q b p e (h .S7); range-wait = h .range-wait; range-page = h .range-page; range-used = h .range-used }
 
   -- who does not wait may get any latest number, finished or not
   pub renumbered : (latest′ : ℕ) (fin′ : Bool) → isWant (q .want) ≡ false → Tokens skind kind num opened rd wr w q latest′ fin′ U D
   renumbered latest′ fin′ e =
       let z : q ≡ noWaiter = no-entry (q .want) q e (h .S7) in
-      record { kinds = h .kinds; S1a = h .S1a; S1b-up = h .S1b-up; S1b-waiter = rw z tt; S1b-down = h .S1b-down; S3-up = h .S3-up; S3-waiter = rw z tt; S4 = λ f. both (isWant (q .want)) f e; S5 = h .S5; S6 = h .S6; S7 = h .S7; range-wait = h .range-wait; range-used = h .range-used }
+      record { kinds = h .kinds; S1a = h .S1a; S1b-up = h .S1b-up; S1b-waiter = rw z tt; S1b-down = h .S1b-down; S3-up = h .S3-up; S3-waiter = rw z tt; S4 = λ f. both (isWant (q .want)) f e; S5 = h .S5; S6 = h .S6; S7 = h .S7; range-wait = h .range-wait; range-page = h .range-page; range-used = h .range-used }
 
 -- a 1 answered by a 16 at once: stale or not, the one token for the other
 pub answered-now : {skind kind num : ℕ} {opened : Bool} {rd wr : ℕ → Val} {w : Wait} {q : Waiter} {latest : ℕ} {fin : Bool} {U : List Up} {D : List Down} (a t t′ : ℕ) (v : ℕ → ℕ) (u : ℕ → Bool) (x : ℕ → ℕ) → t′ ≡ t
@@ -613,25 +648,25 @@ pub answered-now : {skind kind num : ℕ} {opened : Bool} {rd wr : ℕ → Val} 
 answered-now {skind} {kind} {num} {opened} {rd} {wr} {w} {q} {latest} {fin} {U} {D} a t t′ v u x e h =
     let g = pop-up (ReadRequest a t) h in
     rw e
-    (record { kinds = g .kinds; S1a = omega (arith, h .S1a, count-snoc (tokenDown (stale kind num opened)) D (Page NoLock a t v u x)); S1b-up = g .S1b-up; S1b-waiter = g .S1b-waiter; S1b-down = all-snoc (FitDown kind num opened w) D (Page NoLock a t v u x) (g .S1b-down) (h .S1b-up .0); S3-up = g .S3-up; S3-waiter = g .S3-waiter; S4 = g .S4; S5 = g .S5; S6 = g .S6; S7 = g .S7; range-wait = g .range-wait; range-used = g .range-used })
+    (record { kinds = g .kinds; S1a = omega (arith, h .S1a, count-snoc (tokenDown (stale kind num opened)) D (Page NoLock a t v u x)); S1b-up = g .S1b-up; S1b-waiter = g .S1b-waiter; S1b-down = all-snoc (FitDown kind num opened w) D (Page NoLock a t v u x) (g .S1b-down) (h .S1b-up .0); S3-up = g .S3-up; S3-waiter = g .S3-waiter; S4 = g .S4; S5 = g .S5; S6 = g .S6; S7 = g .S7; range-wait = g .range-wait; range-page = g .range-page; range-used = g .range-used })
 
 -- a wait for something is a wait
 read-waiting : (w : Wait) (a : ℕ) → forRead w a ≡ true → waiting w ≡ true
 read-waiting Idle a e = e
 read-waiting (ForRead b) a e = refl
-read-waiting (ForWrite b v) a e = refl
+read-waiting (ForWrite p f) a e = refl
 read-waiting ForCommit a e = refl
 
-write-waiting : (w : Wait) (a : ℕ) → forWrite w a ≡ true → waiting w ≡ true
-write-waiting Idle a e = e
-write-waiting (ForRead b) a e = refl
-write-waiting (ForWrite b v) a e = refl
-write-waiting ForCommit a e = refl
+write-waiting : (w : Wait) (p : ℕ) → writesTo w p ≡ true → waiting w ≡ true
+write-waiting Idle p e = e
+write-waiting (ForRead b) p e = refl
+write-waiting (ForWrite q f) p e = refl
+write-waiting ForCommit p e = refl
 
 commit-waiting : (w : Wait) → forCommit w ≡ true → waiting w ≡ true
 commit-waiting Idle e = e
 commit-waiting (ForRead b) e = refl
-commit-waiting (ForWrite b v) e = refl
+commit-waiting (ForWrite p f) e = refl
 commit-waiting ForCommit e = refl
 
 -- the waiter's token becomes a 22
@@ -642,7 +677,7 @@ abort-fit kind num opened w latest WantRead a e f =
     record { below = f .below; same = f .same; alive = f .alive; waits = λ y. rw (and-l (locking kind) _ z, read-waiting w a (and-r (locking kind) _ z)) refl }
 abort-fit kind num opened w latest WantWrite a e f =
     let z = f .waits refl in
-    record { below = f .below; same = f .same; alive = f .alive; waits = λ y. rw (and-l (locking kind) _ z, write-waiting w a (and-r (locking kind) _ z)) refl }
+    record { below = f .below; same = f .same; alive = f .alive; waits = λ y. rw (and-l (locking kind) _ z, write-waiting w (pageOf a) (and-r (locking kind) _ z)) refl }
 abort-fit kind num opened w latest WantCommit a e f =
     let z = and-r (not (locking kind)) _ (f .waits refl) in
     record { below = f .below; same = f .same; alive = f .alive; waits = λ y. rw (z, commit-waiting w z) (byB (locking kind) (λ l. rw l refl) (λ l. rw l refl)) }
@@ -747,7 +782,7 @@ module _ (st : ℕ → Station) (u : ℕ → List Up) (d : ℕ → List Down) wh
             let g = leave-gone i x h (ap isWant w) in
             let a : ℕ = x .server .queue i .req in
             let y : Serving = leave i x in
-            page-back ObjectLock i a (unavailable (x .server) i a) (onServer y (setOl (y .server) (upd (x .server .ol) a (suc i)))) (λ n v. f) (record { far = g .far; here = g .here; mine = g .mine });
+            page-back ObjectLock i a (unavailable (x .server) i a) (onServer y (setOl (y .server) (λ c. cond (x .server .queue i .writes c) (suc i) (x .server .ol c)))) (λ n v. f) (record { far = g .far; here = g .here; mine = g .mine });
         pages = λ i x b w r e h.
             let f = rw w at (h i .S1b-waiter) in
             let g = leave-gone i x h (ap isWant w) in
@@ -761,6 +796,16 @@ module _ (st : ℕ → Station) (u : ℕ → List Up) (d : ℕ → List Down) wh
             (record { below = rw (s .0) (g .below); same = λ z. rw (s .0) (g .same refl); alive = λ z. g .alive refl; waits = λ z. and-r (not (locking (st i .kind))) _ (g .waits refl) })
             (leave-gone i x h (ap isWant w));
       }
+
+-- the page of an address of page p
+pub of-page : (p o : ℕ) → o < 8 → pageOf (address p o) ≡ p
+of-page p o b = omega arith
+
+-- what a 2 names on its page
+set-of-page : (p : ℕ) (set : ℕ → Bool) → someOn p set ≡ true → someOn p (λ b. eqb (pageOf b) p && set b) ≡ true
+set-of-page p set n =
+    let z = any-some 8 (λ o. set (address p o)) n in
+    any-yes 8 (λ o. eqb (pageOf (address p o)) p && set (address p o)) (z .0) (z .1) (rw (of-page p (z .0) (z .1), eqb-same p) (z .2))
 
 -- the server accepts the first message m of station i's up line m ∷ l
 module _ (i : ℕ) (l : List Up) (s : Server) (st : ℕ → Station) (u : ℕ → List Up) (d : ℕ → List Down) (h : (j : ℕ) → TokensAt s st u d j) where
@@ -820,14 +865,17 @@ module _ (i : ℕ) (l : List Up) (s : Server) (st : ℕ → Station) (u : ℕ �
       tt (λ c. refl, λ c. refl, refl) (open-now t b)
       (notice-gone (ReadRequest a t) t b (rw n refl) g)
 
-  write-joins : (a t : ℕ) → badNumber s i t ≡ false → Head (WriteRequest a t) → Then (joinWrite i a (notice i t (start s)))
+  write-joins : (p t : ℕ) (set : ℕ → Bool) → badNumber s i t ≡ false → Head (WriteRequest p t set) → Then (joinWrite i p set (notice i t (start s)))
   unfolding joinWrite
-  write-joins a t b g =
+  write-joins p t set b g =
       let y : Serving = notice i t (start s) in
       let f = g .S1b-up .0 in
-      join-back st (upd u i l) d i (writeWaiter (y .server) a) y (rw (noticed-own i t (start s)) f)
-      tt (λ c. refl, λ c. refl) (open-now t b)
-      (notice-gone (WriteRequest a t) t b refl g)
+      let z = f .waits refl in
+      let same : pageOf (address p 0) ≡ p = of-page p 0 (omega arith) in
+      join-back st (upd u i l) d i (writeWaiter (y .server) p set) y
+      (rw (noticed-own i t (start s), same) (record { below = f .below; same = f .same; alive = f .alive; waits = λ c. and-l (lockWait (st i .kind) (st i .wait) p) _ z }))
+      tt (λ c. refl, λ c e. eqb-yes (pageOf c) p (and-l (eqb (pageOf c) p) _ e) ∙ sym same, rw same (set-of-page p set (and-r (lockWait (st i .kind) (st i .wait) p) _ z))) (open-now t b)
+      (notice-gone (WriteRequest p t set) t b refl g)
 
   commit-joins : (w : Work) → badNumber s i (w .transaction) ≡ false → locking (s .kind i) ≡ false → Head (Commit w) → Then (joinCommit i w (notice i (w .transaction) (start s)))
   unfolding joinCommit
@@ -887,7 +935,7 @@ module _ (i : ℕ) (l : List Up) (s : Server) (st : ℕ → Station) (u : ℕ �
       record {
         read-waits = λ a t b k g. read-joins a t b k g;
         read-now = λ a t b k g. page-now a t b g;
-        write-waits = λ a t b k g. write-joins a t b g;
+        write-waits = λ p t set b k g. write-joins p t set b g;
         commit-now = λ w b n k g. commit-installs w b k g;
         commit-waits = λ w b k g. commit-joins w b k g;
         aborts = λ t b k g. abort-taken t b g;
@@ -958,8 +1006,8 @@ owner-frozen s e =
       reads-again = λ a v b c f g. still s;
       reads-here = λ a b c f g k. not-idle (s .wait) e (c .idle);
       reads-ask = λ a b c f g k. not-idle (s .wait) e (c .idle);
-      writes-here = λ a v b c f. not-idle (s .wait) e (c .idle);
-      writes-ask = λ a v b c f. not-idle (s .wait) e (c .idle);
+      writes-here = λ p v b c f. not-idle (s .wait) e (c .idle);
+      writes-ask = λ p v b c f. not-idle (s .wait) e (c .idle);
       commits = λ c. not-idle (s .wait) e (c .idle);
       aborts = λ c. not-idle (s .wait) e (c .idle);
       purges = λ p b r n f. record { num = refl; opened = refl; rd = refl; wr = refl; wait = refl };
@@ -984,7 +1032,7 @@ station-frozen s e =
       refused = λ m f n. still s;
       old-page = λ a t v u x f n. record { num = refl; opened = refl; rd = refl; wr = refl; wait = refl };
       page-read = λ a t v u x f g n. absurd (false≢true (sym (ap forCommit g) ∙ ap forCommit e));
-      page-write = λ l a t v u x y f g o n. absurd (false≢true (sym (ap forCommit g) ∙ ap forCommit e));
+      page-write = λ l a t v u x p y f g o c n. absurd (false≢true (sym (ap forCommit g) ∙ ap forCommit e));
       deescalates = λ p t f n. byB (live s t && s .wl p) (λ z. rw z (record { num = refl; opened = refl; rd = refl; wr = refl; wait = refl })) (λ z. rw z (still s));
       keeps = λ r t set f g n. record { num = refl; opened = refl; rd = refl; wr = refl; wait = refl };
       dones = λ r t set f g n. record { num = refl; opened = refl; rd = refl; wr = refl; wait = refl };

@@ -1,6 +1,6 @@
 -- The layer of the validating stations: V0 to V5 hold in a fresh line and after every move from a world with the whole invariant.
 use mathlib.Core.Path.{_≡_, refl, sym, ap, _∙_}
-use mathlib.Core.Bool.{Bool, true, false, false≢true}
+use mathlib.Core.Bool.{Bool, true, false, false≢true, cond}
 use mathlib.Core.List.{List, [], _∷_, _++_}
 use Prim.Native.Nat.{ℕ, suc, _+_, _<_}
 use native.Mathlib.Omega.{arith}
@@ -146,7 +146,7 @@ module _ (w : World) where
   objects-within i x e h =
       let a : ℕ = x .server .queue i .req in
       let g = leaves (w .archive) (w .station) (w .up) (w .down) i x (h .within) in
-      sends-page (w .archive) (w .station) (w .up) (w .down) ObjectLock i a (unavailable (x .server) i a) (onServer (leave i x) (setOl ((leave i x) .server) (upd (x .server .ol) a (suc i))))
+      sends-page (w .archive) (w .station) (w .up) (w .down) ObjectLock i a (unavailable (x .server) i a) (onServer (leave i x) (setOl ((leave i x) .server) (λ c. cond (x .server .queue i .writes c) (suc i) (x .server .ol c))))
       (lock-waits i x h e) (record { versions = g .versions; validated = g .validated })
 
   pages-within : (i : ℕ) (x : Serving) → x .server .queue i .want ≡ WantWrite → Before w x → Under (grantPage i x)

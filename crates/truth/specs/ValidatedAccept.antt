@@ -1,6 +1,6 @@
 -- Versions and validating stations when the server accepts a message.
 use mathlib.Core.Path.{_≡_, sym, ap, _∙_}
-use mathlib.Core.Bool.{true, false, false≢true}
+use mathlib.Core.Bool.{true, false, false≢true, Bool}
 use mathlib.Core.List.{List, _++_}
 use Prim.Native.Nat.{ℕ, _+_, _<_}
 use lib.Dec.{eqb}
@@ -38,9 +38,9 @@ module _ (A : List Rec) (t : ℕ → Station) (u : ℕ → List Up) (d : ℕ →
   unfolding joinRead
   reads-join a n e = joins A t u d i (readWaiter ((notice i n x) .server) a) (notice i n x) (λ b f. absurd (locks e f)) (noticed n)
 
-  writes-join : (a n : ℕ) → locking (x .server .kind i) ≡ true → In (joinWrite i a (notice i n x))
+  writes-join : (p n : ℕ) (set : ℕ → Bool) → locking (x .server .kind i) ≡ true → In (joinWrite i p set (notice i n x))
   unfolding joinWrite
-  writes-join a n e = joins A t u d i (writeWaiter ((notice i n x) .server) a) (notice i n x) (λ b f. absurd (locks e f)) (noticed n)
+  writes-join p n set e = joins A t u d i (writeWaiter ((notice i n x) .server) p set) (notice i n x) (λ b f. absurd (locks e f)) (noticed n)
 
   commits-join : (k : Work) → (i < 8 → locking (t i .kind) ≡ false → HeadUp (Commit k)) → In (joinCommit i k (notice i (k .transaction) x))
   unfolding joinCommit
@@ -70,7 +70,7 @@ module _ (A : List Rec) (t : ℕ → Station) (u : ℕ → List Up) (d : ℕ →
       (record {
         read-waits = λ a n b e g. reads-join a n e;
         read-now = λ a n b e g. now a n;
-        write-waits = λ a n b e g. writes-join a n e;
+        write-waits = λ p n set b e g. writes-join p n set e;
         commit-now = λ k b o e g. commits-now k e;
         commit-waits = λ k b e g. commits-join k g;
         aborts = λ n b e g. finishes A t u d i ByMessage (notice i n x) (noticed n);

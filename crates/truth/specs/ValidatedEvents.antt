@@ -1,6 +1,6 @@
 -- What each event does to the clauses of one validating station, over plain values.
-use mathlib.Core.Path.{_≡_, sym, ap, _∙_}
-use mathlib.Core.Bool.{Bool, true, false, cond, false≢true}
+use mathlib.Core.Path.{_≡_, refl, sym, ap, _∙_}
+use mathlib.Core.Bool.{Bool, true, false, cond, false≢true, _&&_, not}
 use mathlib.Core.List.{List, _∷_, _++_}
 use Prim.Native.Nat.{ℕ, _≤_}
 use native.Mathlib.Omega.{arith}
@@ -13,11 +13,13 @@ use Rattle.line.specs.Server.{Waiter, Want, NoWant, WantRead, WantWrite, WantCo
 use Rattle.truth.specs.Clauses.{Hist, TruePage, TrueReads, WorkUp, WorkWaiting, Validated}
 use Rattle.truth.specs.Frame.{all-snoc}
 use Rattle.truth.specs.ValidatedHist.{hist-longer}
+use Rattle.line.specs.Station.{orVal}
+use Rattle.truth.specs.Tokens.{and-no}
 
 -- of works, along the up line and in the waiting list
 pub work-up : (P Q : Work → Type 0) → ((k : Work) → P k → Q k) → (m : Up) → WorkUp P m → WorkUp Q m
 work-up P Q f (ReadRequest a t) h = tt
-work-up P Q f (WriteRequest a t) h = tt
+work-up P Q f (WriteRequest p t set) h = tt
 work-up P Q f (Commit k) h = f k h
 work-up P Q f (Abort t) h = tt
 work-up P Q f (Purge p) h = tt
@@ -92,22 +94,21 @@ module _ {A : List Rec} {last : ℕ} {cached : ℕ → Bool} {cver copy : ℕ �
       }
 
   -- write-local: what was read keeps its version
-  pub writtenHere : (a v : ℕ) (used : Bool) → (has (rd a) ≡ true → used ≡ true)
-      → Validated A last cached cver (upd copy a v) rd (upd wr a (some v)) (upd seen a (cond used (seen a) (cver a))) q U D
-  writtenHere a v used k =
+  pub writtenHere : (f : ℕ → Val) (used : ℕ → Bool) → ((a : ℕ) → has (rd a) ≡ true → used a ≡ true)
+      → Validated A last cached cver (λ a. valOr (f a) (copy a)) rd (λ a. orVal (f a) (wr a)) (λ a. cond (has (f a) && not (used a)) (cver a) (seen a)) q U D
+  writtenHere f used k =
       record {
         V1-last = h .V1-last;
-        V1 = λ b c n.
-            byEq b a (λ e. let z : true ≡ false = rw e at n in absurd (false≢true (sym z)))
-            (λ e. let n′ : has (wr b) ≡ false = rw e at n in rw e (h .V1 b c n′));
+        V1 = λ b c. unwritten b c (f b);
         V2 = h .V2;
         V3-up = h .V3-up;
         V3-waiter = h .V3-waiter;
-        V5 = λ b y r.
-            byEq b a
-            (λ e. let u : used ≡ true = k (ap (λ d. has (rd d)) (sym (eqb-yes b a e)) ∙ ap has r) in rw (e, u, ← eqb-yes b a e) (h .V5 b y r))
-            (λ e. rw e (h .V5 b y r));
+        V5 = λ b y r. let u : used b ≡ true = k b (ap has r) in rw (u, and-no (has (f b)) false refl) (h .V5 b y r);
       }
+    where
+      unwritten : (b : ℕ) → cached (pageOf b) ≡ true → (v : Val) → has (orVal v (wr b)) ≡ false → valOr v (copy b) ≡ Hist A (cver b) b
+      unwritten b c none n = h .V1 b c n
+      unwritten b c (some x) n = absurd (false≢true (sym n))
 
   module _ {cached′ : ℕ → Bool} {cver′ copy′ : ℕ → ℕ} (s : Less cached cver copy cached′ cver′ copy′) where
     less-last : (a : ℕ) → cached′ (pageOf a) ≡ true → cver′ a ≤ last

@@ -4,10 +4,10 @@ use mathlib.Core.Bool.{Bool, true, false, _&&_, cond, false≢true}
 use mathlib.Core.List.{List, [], _∷_, _++_}
 use Prim.Native.Nat.{ℕ}
 use lib.Dec.{eqb}
-use Rattle.sets.specs.Base.{upd, none, some, has}
+use Rattle.sets.specs.Base.{upd, none, some, has, Val}
 use Rattle.sets.specs.Laws.{byB, eqb-same, and-l}
-use Rattle.line.specs.Messages.{pageOf, locking, Up, ReadRequest, Commit, Purge, Lock, NoLock, ObjectLock, WholeLock, Down, Page, Committed, Aborted, Invalidate, Rec, AbortedFor, CommittedAs}
-use Rattle.line.specs.Station.{Station, Did, does, didStation, setCver, setKept, setWait, Idle, ForRead, forRead, NotKept, KeptCall, live, usedAt, wrotePage, workOf, mark, dropPages, recordRead, writeLocal, doCallback, closed, close, undo, readLocal, readAsk, writeAsk, arrive, takeLock, onDeescalate, onCommitted, onAborted, loosen, writtenOn, stationStep}
+use Rattle.line.specs.Messages.{pageOf, locking, Up, ReadRequest, Commit, Purge, Lock, NoLock, ObjectLock, WholeLock, Down, Page, Committed, Aborted, Invalidate, Rec, AbortedFor, CommittedAs, WriteRequest}
+use Rattle.line.specs.Station.{Station, Did, does, didStation, setCver, setKept, setWait, Idle, ForRead, ForWrite, forRead, NotKept, KeptCall, live, usedAt, wrotePage, workOf, mark, dropPages, recordRead, writeLocal, doCallback, closed, close, undo, readLocal, readAsk, writeAsk, arrive, takeLock, onDeescalate, onCommitted, onAborted, loosen, writtenOn, stationStep, named, lowestOn, ofPage}
 use Rattle.line.specs.Server.{Waiter}
 use Rattle.line.specs.Line.{Op, perform, isRefused}
 use Rattle.truth.specs.Clauses.{TrueReads}
@@ -53,8 +53,8 @@ perform-kind op s =
       reads-again = λ a v b c e g. refl;
       reads-here = λ a b c e g k. refl;
       reads-ask = λ a b c e g k. refl;
-      writes-here = λ a v b c e. refl;
-      writes-ask = λ a v b c e. refl;
+      writes-here = λ p v b c e. refl;
+      writes-ask = λ p v b c e. refl;
       commits = λ c. refl;
       aborts = λ c. close-kind (s .kind) _ (undo-kind s);
       purges = λ p b r u c. refl;
@@ -69,7 +69,7 @@ step-kind m s =
       refused = λ m e. refl;
       old-page = λ a t v u x e. refl;
       page-read = λ a t v u x e g. arrived-kind NoLock a s;
-      page-write = λ l a t v u x y e g k. arrived-kind l a s;
+      page-write = λ l a t v u x p y e g k c. arrived-kind l a s;
       deescalates = λ p t e. loosen-kind p (writtenOn p t s) (live s t && s .wl p) s;
       keeps = λ r t set e g. refl;
       dones = λ r t set e g. refl;
@@ -95,6 +95,15 @@ module _ (A : List Rec) (last : ℕ) (s : Station) (q : Waiter) (U : List Up) (D
       ends A last q U D (does (AbortedFor 0) (undo s) [])
       (rw f (sentUp (shrunkEnds h (dropped-less (wrotePage s) s) (left-unwritten (s .wr) (s .cached))) [] tt))
 
+  -- a validating station sends a 1
+  asked : (p : ℕ) (v : ℕ → Val) → AtStation A last ((writeAsk p v s) .station) q (U ++ (writeAsk p v s) .sent) D
+  unfolding writeAsk
+  asked p v = by-kind (locking (s .kind)) f
+    where
+      by-kind : (k : Bool) → k ≡ false → AtStation A last (setWait s (ForWrite p v)) q (U ++ (cond k (WriteRequest p (s .num) (named v s)) (ReadRequest (lowestOn p (named v s)) (s .num)) ∷ [])) D
+      by-kind true e = absurd (false≢true (sym e))
+      by-kind false e = sentUp h (ReadRequest (lowestOn p (named v s)) (s .num) ∷ []) (tt, tt)
+
   owns : Owns s (λ op d. AtStation A last (d .station) q (U ++ d .sent) D)
   unfolding readLocal recordRead readAsk writeLocal writeAsk dropPages
   owns =
@@ -105,8 +114,8 @@ module _ (A : List Rec) (last : ℕ) (s : Station) (q : Waiter) (U : List Up) (D
         reads-again = λ a v b c e g. sentUp h [] tt;
         reads-here = λ a b c e g k. sentUp (readHere h a (and-l (s .cached (pageOf a)) _ k) e) [] tt;
         reads-ask = λ a b c e g k. sentUp h (ReadRequest a (s .num) ∷ []) (tt, tt);
-        writes-here = λ a v b c e. sentUp (writtenHere h a v (usedAt s a) (read-used s a)) [] tt;
-        writes-ask = λ a v b c e. rw f (sentUp h (ReadRequest a (s .num) ∷ []) (tt, tt));
+        writes-here = λ p v b c e. sentUp (writtenHere h (ofPage p v) (usedAt s) (read-used s)) [] tt;
+        writes-ask = λ p v b c e. asked p (ofPage p v);
         commits = λ c. sentUp h (Commit (workOf s) ∷ []) (work-reads, tt);
         aborts = λ c. rw f owner-ends;
         purges = λ p b r u c. sentUp (shrunk h (dropped-less (λ o. eqb o p) s)) (Purge p ∷ []) (tt, tt);
@@ -136,10 +145,10 @@ module _ (A : List Rec) (last : ℕ) (s : Station) (q : Waiter) (U : List Up) (D
   unfolding recordRead arrive takeLock
   read-came a t v u x g k = sentUp (readHere (pageCame NoLock a t v u x (k .valid)) a (rw (eqb-same (pageOf a)) refl) (S5 a (rw g (eqb-same a)) .1)) [] tt
 
-  write-came : (l : Lock) (a t : ℕ) (v : ℕ → ℕ) (u : ℕ → Bool) (x : ℕ → ℕ) (y : ℕ) → locking (s .kind) ≡ isLock l → Head (Page l a t v u x)
-      → AtStation A last (writeLocal a y (setWait (arrive (pageOf a) v u x (takeLock l a s)) Idle)) q (U ++ []) D
+  write-came : (l : Lock) (a t : ℕ) (v : ℕ → ℕ) (u : ℕ → Bool) (x : ℕ → ℕ) (y : ℕ → Val) → locking (s .kind) ≡ isLock l → Head (Page l a t v u x)
+      → AtStation A last (writeLocal y (setWait (arrive (pageOf a) v u x (takeLock l a s)) Idle)) q (U ++ []) D
   unfolding writeLocal arrive takeLock
-  write-came NoLock a t v u x y o k = sentUp (writtenHere (pageCame NoLock a t v u x (k .valid)) a y (usedAt s a) (read-used s a)) [] tt
+  write-came NoLock a t v u x y o k = sentUp (writtenHere (pageCame NoLock a t v u x (k .valid)) y (usedAt s) (read-used s)) [] tt
   write-came ObjectLock a t v u x y o k = absurd (unlocked o)
   write-came WholeLock a t v u x y o k = absurd (unlocked o)
 
@@ -169,7 +178,7 @@ module _ (A : List Rec) (last : ℕ) (s : Station) (q : Waiter) (U : List Up) (D
         refused = λ m e g k. absurd (false≢true (sym g));
         old-page = λ a t v u x e g k. sentUp (takenDown (k .valid)) [] tt;
         page-read = λ a t v u x e w g k. read-came a t v u x w k;
-        page-write = λ l a t v u x y e w o g k. write-came l a t v u x y o k;
+        page-write = λ l a t v u x p y e w o c g k. write-came l a t v u x y o k;
         deescalates = λ p t e g k. absurd (unlocked e);
         keeps = λ r t set e o g k. absurd (unlocked e);
         dones = λ r t set e o g k. absurd (unlocked e);

@@ -8,11 +8,11 @@ use Rattle.sets.specs.Base.{upd, any, has}
 use Rattle.sets.specs.Laws.{byB, byEq, eqb-same, eqb-yes, any-no, and-l, not-yes}
 use Rattle.line.specs.Messages.{pageOf, lastNumber, locking, Work, Up, Commit, NoLock, ObjectLock, WholeLock, Down, Deescalate, Callback, Answer, Nothing, Begun, Value, Waits, Written, CommittedAs, AbortedFor, Purged, Refused, Empty}
 use Rattle.line.specs.Station.{Did, stationStep}
-use Rattle.line.specs.Server.{Server, Serving, WantCommit, isWant, unlocked, notice, finish, join, leave, sendPage, serveNow, joinRead, joinWrite, joinCommit, commitNow, unlist, markBusy, answered, loosen, accept, start, unexpected, ask, serveRead, concerned, call, grantPage, grantObject, installWaiter}
+use Rattle.line.specs.Server.{Server, Serving, WantCommit, isWant, unlocked, notice, finish, join, leave, sendPage, serveNow, joinRead, joinWrite, joinCommit, commitNow, unlist, markBusy, answered, loosen, accept, start, unexpected, ask, serveRead, concerned, call, grantPage, grantObject, installWaiter, WantRead, wants}
 use Rattle.line.specs.Pass.{Ready}
 use Rattle.line.specs.Line.{World, worldDown, Op, perform, tell, carryUp, carryDown, isRefused, fresh, sentTo}
 use Rattle.line.specs.Truth.{count}
-use Rattle.truth.specs.Clauses.{tokenDown, TokensAt, A2At, A2, ValuesAt}
+use Rattle.truth.specs.Clauses.{tokenDown, TokensAt, A2At, A2, ValuesAt, Shape}
 use Rattle.truth.specs.Frame.{append-nil, call-own, call-far, noticed-val, noticed-sent, Accepts, accepts, if-serving}
 use Rattle.truth.specs.Inv.{ValuesOf, Inv, afterOwner, afterStation, taken, Acts, Layer}
 use Rattle.truth.specs.ValuesEvents.{A2-none, Gone, values-sent}
@@ -141,7 +141,7 @@ module _ (i : ℕ) (l : List Up) (w : World) (b : i < 8) (h : Inv w) where
       record {
         read-waits = λ a t n k q. noticed-served t;
         read-now = λ a t n k q. let x : Serving = notice i t (start (w .server)) in served-page (w .station) (w .down) (x .server .val) (x .sent) i NoLock a _ _ _ refl (noticed-served t);
-        write-waits = λ a t n k q. noticed-served t;
+        write-waits = λ p t set n k q. noticed-served t;
         commit-now = λ k n u o q. commit-served k o u q;
         commit-waits = λ k n o q. noticed-served (k .transaction);
         aborts = λ t n k q. noticed-served t;
@@ -200,16 +200,21 @@ module _ (w : World) where
   unfolding carryDown
   validates i x b v h = not-yes (locking (w .station i .kind)) (and-l (not (locking (w .station i .kind))) _ ((rw v at (h .tokens i .S1b-waiter)) .waits refl))
 
+  -- what a read wants is the address requested
+  read-wanted : (i : ℕ) (x : Serving) → x .server .queue i .want ≡ WantRead → Inv (carryDown x w) → wants (x .server) i (x .server .queue i .req) ≡ true
+  unfolding carryDown
+  read-wanted i x v h = let z : Shape WantRead (x .server .queue i) = rw v at (h .tokens i .S7) in rw (z .0 (x .server .queue i .req), eqb-same (x .server .queue i .req)) refl
+
   acts-values : Acts (λ x. Inv (carryDown x w)) (λ x. ValuesOf (carryDown x w))
   unfolding ask serveRead sendPage leave grantObject grantPage installWaiter
   acts-values =
       record {
         aborts = λ i c x b t h. values-of x _ h (served-abort (w .station) (w .down) i c x (served-of x h));
         asks = λ i g p x b t u h. values-of x _ h (served-sent (w .station) (w .down) (x .server .val) (x .sent) g (Deescalate p (x .server .latest g)) refl (λ a. tt) tt (served-of x h));
-        reads = λ i x b v c h. values-of x _ h (served-page (w .station) (w .down) (x .server .val) (x .sent) i NoLock (x .server .queue i .req) _ _ _ (available (x .server) i (x .server .queue i .req)) (served-of x h));
+        reads = λ i x b v c h. values-of x _ h (served-page (w .station) (w .down) (x .server .val) (x .sent) i NoLock (x .server .queue i .req) _ _ _ (available (x .server) i (x .server .queue i .req) (read-wanted i x v h)) (served-of x h));
         calls = λ i x b t u v c h. values-of x _ h (called-served i x (served-of x h));
-        objects = λ i x b v r h. values-of x _ h (served-page (w .station) (w .down) (x .server .val) (x .sent) i ObjectLock (x .server .queue i .req) _ _ _ (available (x .server) i (x .server .queue i .req)) (served-of x h));
-        pages = λ i x b v r e h. values-of x _ h (served-page (w .station) (w .down) (x .server .val) (x .sent) i WholeLock (x .server .queue i .req) _ _ _ (available (x .server) i (x .server .queue i .req)) (served-of x h));
+        objects = λ i x b v r h. values-of x _ h (served-page (w .station) (w .down) (x .server .val) (x .sent) i ObjectLock (x .server .queue i .req) _ _ _ tt (served-of x h));
+        pages = λ i x b v r e h. values-of x _ h (served-page (w .station) (w .down) (x .server .val) (x .sent) i WholeLock (x .server .queue i .req) _ _ _ tt (served-of x h));
         installs = λ i x b v f r h.
             values-of x _ h
             (served-install (w .station) (w .down) i (x .server .queue i .work) x (answered-gone i x b v r h)

@@ -9,7 +9,7 @@ use Rattle.sets.specs.Base.{snoc, Val, none, some, has, valOr}
 use Rattle.sets.specs.Laws.{and-l, not-yes}
 use Rattle.line.specs.All.{All, all-map}
 use Rattle.line.specs.Messages.{pageOf, Lock, NoLock, ObjectLock, WholeLock, Down, Page, Deescalate, Callback, Committed, Aborted, Invalidate}
-use Rattle.line.specs.Station.{Wait, forCommit}
+use Rattle.line.specs.Station.{Wait, forCommit, orVal}
 use Rattle.line.specs.Truth.{count}
 use Rattle.truth.specs.Clauses.{FitDown, tokenDown, shows, isCommitted, TrueValue, ShowsRequested, A2, Values}
 use Rattle.truth.specs.Frame.{count-snoc, all-snoc, count-none}
@@ -113,8 +113,9 @@ values-read y q h =
     }
 
 -- a value is written, no 21 being on its way
-pub values-written : {a val : ℕ} {c u : Bool} {x : ℕ} {rd wr : Val} {D : List Down} (y : ℕ) → count isCommitted D ≡ 0 → Values a val c u x rd wr D → Values a val c u y rd (some y) D
-values-written y o h =
+pub values-written : {a val : ℕ} {c u : Bool} {x : ℕ} {rd wr : Val} {D : List Down} (v : Val) → count isCommitted D ≡ 0 → Values a val c u x rd wr D → Values a val c u (valOr v x) rd (orVal v wr) D
+values-written none o h = h
+values-written (some y) o h =
     record {
       A = λ s e. absurd (false≢true (sym e));
       A-installed = λ s n. absurd (omega (arith, n, o));

@@ -9,7 +9,7 @@ use Rattle.sets.specs.Base.{snoc, Val, has, valOr}
 use Rattle.sets.specs.Laws.{byB, byEq, eqb-same, eqb-yes, eqb-no, and-l}
 use Rattle.line.specs.Messages.{pageOf, locking, Work, Up, Commit, Lock, NoLock, ObjectLock, WholeLock, Down, Page, Deescalate, Callback, Committed, Aborted, Invalidate, Sent, To}
 use Rattle.line.specs.Station.{Station}
-use Rattle.line.specs.Server.{Server, Serving, Want, other, valuesOn, unavailable, leave, write, archive, finish, install, abort}
+use Rattle.line.specs.Server.{Server, Serving, Want, other, valuesOn, unavailable, leave, write, archive, finish, install, abort, wants}
 use Rattle.line.specs.Line.{sentTo}
 use Rattle.line.specs.Truth.{count}
 use Rattle.truth.specs.Clauses.{stale, tokenDown, tokens, brings, Coverage, shows, Locked, Called, isCommitted, TrueValue, ShowsRequested, A2, Values}
@@ -33,7 +33,7 @@ module _ (t : ℕ → Station) (dn : ℕ → List Down) where
       (λ e. rw (send-far i j (dn j) l m e) (h j a b c k))
 
   -- a page
-  pub served-page : (val : ℕ → ℕ) (l : List Sent) (i : ℕ) (k : Lock) (a n : ℕ) (v : ℕ → ℕ) (u : ℕ → Bool) → u a ≡ false → Served val t dn l → Served val t dn (snoc l (To i (Page k a n v u (valuesOn (pageOf a) val))))
+  pub served-page : (val : ℕ → ℕ) (l : List Sent) (i : ℕ) (k : Lock) (a n : ℕ) (v : ℕ → ℕ) (u : ℕ → Bool) → ShowsRequested (Page k a n v u (valuesOn (pageOf a) val)) → Served val t dn l → Served val t dn (snoc l (To i (Page k a n v u (valuesOn (pageOf a) val))))
   served-page val l i k a n v u o h = served-sent val l i (Page k a n v u (valuesOn (pageOf a) val)) refl (λ b e f. rw e refl) o h
 
   -- a commit's values and its 21
@@ -72,8 +72,8 @@ module _ (t : ℕ → Station) (dn : ℕ → List Down) where
   served-abort i c x h = served-sent (x .server .val) (x .sent) i (Aborted _ c) refl (λ a. tt) tt h
 
 -- the requested address is available
-pub available : (s : Server) (i a : ℕ) → unavailable s i a a ≡ false
-available s i a = rw (eqb-same (pageOf a), eqb-same a) refl
+pub available : (s : Server) (i a : ℕ) → wants s i a ≡ true → unavailable s i a a ≡ false
+available s i a e = rw (eqb-same (pageOf a), e) refl
 
 -- WHO HAS NOTHING of an address that another installs
 

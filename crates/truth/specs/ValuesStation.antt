@@ -4,11 +4,11 @@ use mathlib.Core.Bool.{Bool, true, false, not, _&&_, cond, false≢true}
 use mathlib.Core.List.{List, _∷_}
 use Prim.Native.Nat.{ℕ, _<_}
 use lib.Dec.{eqb}
-use Rattle.sets.specs.Base.{none, has, valOr}
+use Rattle.sets.specs.Base.{none, has, valOr, Val, some}
 use Rattle.sets.specs.Laws.{byB, byEq, eqb-same, eqb-yes}
 use Rattle.line.specs.All.{All}
 use Rattle.line.specs.Messages.{pageOf, locking, Lock, NoLock, ObjectLock, WholeLock, Down, Page, Deescalate, Callback, Aborted, Invalidate}
-use Rattle.line.specs.Station.{Station, Did, Wait, Idle, ForRead, ForWrite, ForCommit, waiting, forCommit, live, dropPages, mark, drops, recordRead, writeLocal, doCallback, closed, close, undo, readLocal, readAsk, writeAsk, arrive, takeLock, onDeescalate, loosen, onCommitted, onAborted, stationStep}
+use Rattle.line.specs.Station.{Station, Did, Wait, Idle, ForRead, ForWrite, ForCommit, waiting, forCommit, live, dropPages, mark, drops, recordRead, writeLocal, doCallback, closed, close, undo, readLocal, readAsk, writeAsk, arrive, takeLock, onDeescalate, loosen, onCommitted, onAborted, stationStep, orVal, ofPage}
 use Rattle.line.specs.Line.{Op, perform, isRefused}
 use Rattle.line.specs.Truth.{count}
 use Rattle.truth.specs.Clauses.{FitDown, isCommitted, A2, Values}
@@ -74,13 +74,13 @@ module _ (val : ℕ → ℕ) (D : List Down) where
       }
 
   -- a write
-  write-own : (a y : ℕ) (s : Station) → count isCommitted D ≡ 0 → Own val s D → Own val (writeLocal a y s) D
+  write-own : (f : ℕ → Val) (s : Station) → count isCommitted D ≡ 0 → Own val s D → Own val (writeLocal f s) D
   unfolding writeLocal
-  write-own a y s o h =
-      record {
-        written = λ b c. byEq b a (λ e. rw e (λ v p q. ap (λ r. valOr r 0) p)) (λ e. rw e (h .written b c));
-        values = λ b c k. byEq b a (λ e. rw e (values-written y o (h .values b c k))) (λ e. rw e (h .values b c k));
-      }
+  write-own f s o h = record { written = λ b c. stands b c (f b); values = λ b c k. values-written (f b) o (h .values b c k) }
+    where
+      stands : (b : ℕ) → b < 256 → (v : Val) → A2 (s .cached (pageOf b)) (valOr v (s .copy b)) (orVal v (s .wr b))
+      stands b c none = h .written b c
+      stands b c (some y) = λ v p q. ap (λ r. valOr r 0) p
 
 module _ (val : ℕ → ℕ) where
   -- a page comes
@@ -113,7 +113,7 @@ module _ (val : ℕ → ℕ) (s : Station) (D : List Down) (n : Known s D) (h : 
   idle-commit : (w : Wait) → waiting w ≡ false → forCommit w ≡ false
   idle-commit Idle e = refl
   idle-commit (ForRead a) e = refl
-  idle-commit (ForWrite a v) e = refl
+  idle-commit (ForWrite p f) e = refl
   idle-commit ForCommit e = e
 
   unsettled : forCommit (s .wait) ≡ false → count isCommitted D ≡ 0
@@ -129,8 +129,8 @@ module _ (val : ℕ → ℕ) (s : Station) (D : List Down) (n : Known s D) (h : 
         reads-again = λ a v b c e f. h;
         reads-here = λ a b c e f q. read-own val D a s (λ x k. h .values a b k .A q (ap has e)) h;
         reads-ask = λ a b c e f q. record { written = h .written; values = h .values };
-        writes-here = λ a v b c q. write-own val D a v s (unsettled (idle-commit (s .wait) (c .idle))) h;
-        writes-ask = λ a v b c q. record { written = h .written; values = h .values };
+        writes-here = λ p f b c q. write-own val D (ofPage p f) s (unsettled (idle-commit (s .wait) (c .idle))) h;
+        writes-ask = λ p f b c q. record { written = h .written; values = h .values };
         commits = λ c. record { written = h .written; values = h .values };
         aborts = λ c. aborted-own val D _ s refl h;
         purges = λ p b r u c. dropped-own val D (λ q. eqb q p) s h;
@@ -175,9 +175,9 @@ module _ (val : ℕ → ℕ) (s : Station) (D : List Down) where
         old-page = λ a t v u x e n h r. taken-own val (Page NoLock a t v u x) s D refl h;
         page-read = λ a t v u x e q n h r.
             read-own val D a (arrived NoLock a v u x s) (λ b k. read-true a t v u x q n h b (rw (page-kind a v u x) at k)) (page-own NoLock a t v u x (none-behind (Page NoLock a t v u x) (ForRead a) q refl n) h);
-        page-write = λ k a t v u x y e q o n h r.
-            let z = none-behind (Page k a t v u x) (ForWrite a y) q refl n in
-            write-own val D a y (arrived k a v u x s) z (page-own k a t v u x z h);
+        page-write = λ k a t v u x p y e q o c n h r.
+            let z = none-behind (Page k a t v u x) (ForWrite p y) q refl n in
+            write-own val D y (arrived k a v u x s) z (page-own k a t v u x z h);
         deescalates = λ p t e n h r.
             let g = taken-own val (Deescalate p t) s D refl h in
             byB (live s t && s .wl p) (λ q. rw q (record { written = g .written; values = g .values })) (λ q. rw q g);

@@ -21,7 +21,7 @@ use Rattle.station_answer.specs.declared.Answer.{Answer}
 use Rattle.station_answer.specs.declared.Answer.the-variants.{Refused, Begun, Value, Waits, Written, Committed, Aborted, Purged, Nothing}
 use Rattle.station_answer.specs.Did.{Did, Outcome, laid}
 use Rattle.station_state.specs.Layout as State
-use Rattle.station_owner.specs.Owner.{ready, called, unlessB, checkBeginB, checkOpenB, checkAddressB, commitCalled, ownBeginB, shownB, readLocalB, readAskB, readHereB, readAsB, ownReadB, mayWriteB, writeAskB, writeAsB, ownWriteB, ownAbortB, openThenB, longReadB, longWriteB}
+use Rattle.station_owner.specs.Owner.{ready, called, unlessB, checkBeginB, checkOpenB, checkReadB, badSetB, checkWriteB, commitCalled, ownBeginB, shownB, readLocalB, readAskB, readHereB, readAsB, ownReadB, namedB, writeAskB, writeAsB, ownWriteSetB, ownWriteB, ownAbortB, openThenB, longReadB, longWriteB}
 use Rattle.station.specs.Station.{stationStepB}
 use Rattle.window_state.specs.Layout.{commandFrom, refusalFrom, valueFrom, commitFrom, flagsFrom, maskFrom, blankFrom, registers, value, raised}
 use Rattle.window_state.specs.Registers.{addressOf, stores, storedOf}
@@ -99,9 +99,16 @@ module _ (P : ℕ → Type 0) (s : List ℕ) (p : (at : ℕ) → P (u64At s at))
       both Small (not (eqb (State.wait s) 0)) (omega arith)
       (both Small (not (eqb (State.opened s) 0)) (omega arith) (both Small (eqb (State.number s) 4294967295) (omega arith) (omega arith)))
 
-  address-small : (a : ℕ) (long : Bool) → checkAddressB a long s < 256
-  unfolding checkAddressB
-  address-small a long = both Small (not (ltb a 256)) (omega arith) (open-then-small (cond long 15 0) (both Small long (omega arith) (omega arith)))
+  long-small : (bad long : Bool) → cond bad 4 (openThenB s (cond long 15 0)) < 256
+  long-small bad long = both Small bad (omega arith) (open-then-small (cond long 15 0) (both Small long (omega arith) (omega arith)))
+
+  read-small : (a : ℕ) → checkReadB a s < 256
+  unfolding checkReadB
+  read-small a = long-small (not (ltb a 256)) (longReadB a s)
+
+  write-small : (q x : ℕ) → checkWriteB q x s < 256
+  unfolding checkWriteB
+  write-small q x = long-small (badSetB q x s) (longWriteB q x s)
 
   begin-says : Says (ownBeginB s)
   unfolding ownBeginB
@@ -110,12 +117,16 @@ module _ (P : ℕ → Type 0) (s : List ℕ) (p : (at : ℕ) → P (u64At s at))
   read-says : (a : ℕ) → Says (ownReadB a s)
   unfolding ownReadB readAsB readHereB readLocalB readAskB
   read-says a =
-      unless-says (checkAddressB a (longReadB a s) s) _ (address-small a (longReadB a s))
+      unless-says (checkReadB a s) _ (read-small a)
       (both Says (State.member s State.writtenSetFrom a) (p _) (both Says (State.member s State.readSetFrom a) (p _) (both Says (shownB a s) (p _) tt)))
 
+  set-says : (q x : ℕ) (f : List ℕ) → Says (ownWriteSetB q x f s)
+  unfolding ownWriteSetB writeAsB writeAskB
+  set-says q x f = unless-says (checkWriteB q x s) _ (write-small q x) (both Says (eqb (namedB q x s) 0) tt tt)
+
   write-says : (a v : ℕ) → Says (ownWriteB a v s)
-  unfolding ownWriteB writeAsB writeAskB
-  write-says a v = unless-says (checkAddressB a (longWriteB a s) s) _ (address-small a (longWriteB a s)) (both Says (mayWriteB a s) tt tt)
+  unfolding ownWriteB
+  write-says a v = set-says _ _ _
 
   abort-says : Says (ownAbortB s)
   unfolding ownAbortB

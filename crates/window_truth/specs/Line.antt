@@ -6,10 +6,9 @@ use mathlib.Core.Bool.{cond}
 use mathlib.Core.List.{List, [], _∷_, _++_}
 use lib.Dec.{eqb, ltb}
 use Rattle.sets.specs.Base.{upd}
-use Rattle.line.specs.Line.{Op, Begin, Read, Write, Commits, Aborts}
 use Rattle.message.specs.Layout.{kindOf}
 use Rattle.line_bytes.specs.Bytes.{WorldB, tellB, restDown}
-use Rattle.line_host.specs.Line.{answerIn, carryUpH, CallH, FitsH, Event, Ended, EndedByOwner, toldBy, ended, WorldH, freshH, actH}
+use Rattle.line_host.specs.Line.{OpH, BeginH, ReadH, WriteH, CommitH, AbortH, operation, answerIn, carryUpH, CallH, FitsH, Event, Ended, EndedByOwner, toldBy, ended, WorldH, freshH, actH}
 use Rattle.window_state.specs.Layout.{value}
 use Rattle.window_state.specs.Registers.{addressOf}
 use Rattle.window.specs.Window.{writeOf, stepOf}
@@ -27,8 +26,8 @@ abbrev pub stepHosted : List ℕ → List ℕ → List ℕ → List ℕ → List
 stepHosted m r s o c t = windowOf r s o c t (stepOf m r s o c)
 
 -- what the owner asks for by command b: "1 begin, 2 read, 3 write, 4 commit, 5 abort"
-abbrev pub opOf : ℕ → List ℕ → Op
-opOf b r = cond (eqb b 1) Begin (cond (eqb b 2) (Read (addressOf r)) (cond (eqb b 3) (Write (addressOf r) (value r)) (cond (eqb b 4) Commits Aborts)))
+abbrev pub opOf : ℕ → List ℕ → OpH
+opOf b r = cond (eqb b 1) BeginH (cond (eqb b 2) (ReadH (addressOf r)) (cond (eqb b 3) (WriteH (addressOf r) (value r)) (cond (eqb b 4) CommitH AbortH)))
 
 -- THE CALLS
 
@@ -64,12 +63,12 @@ freshW kinds = record { hosts = freshH kinds; registers = λ i. freshRegisters }
 -- A WRITE: what was left is carried, and the owner is told the command's answer, which its registers show (`command-own`)
 
 unfoldable pub writesW : ℕ → ℕ → ℕ → List ℕ → List ℕ → List ℕ → List ℕ → WorldB → WorldB
-writesW i k b o c t r w = let h = (writeHosted k b r (w .station i) o c t) .hosted in tellB i (opOf b r) (answerIn (h .told)) (carryUpH i h w)
+writesW i k b o c t r w = let h = (writeHosted k b r (w .station i) o c t) .hosted in tellB i (operation (opOf b r)) (answerIn (h .told)) (carryUpH i h w)
 
 abbrev pub writeEvents : ℕ → ℕ → ℕ → List ℕ → List ℕ → List ℕ → List ℕ → WorldB → List Event
 writeEvents i k b o c t r w =
     let h = (writeHosted k b r (w .station i) o c t) .hosted in
-    toldBy i (opOf b r) (w .number i) (answerIn (h .told)) ++ ended (EndedByOwner i) (w .station i) (h .state)
+    toldBy i (operation (opOf b r)) (w .number i) (answerIn (h .told)) ++ ended (EndedByOwner i) (w .station i) (h .state)
 
 -- A DELIVERY: "an accepted step takes the first message of its line, a refused call moves none"; no message, no call
 

@@ -9,7 +9,7 @@ use lib.ListN.{set}
 use lib.Seq.{getD-set-other}
 use lib.Dec.{eqb, ltb}
 use Rattle.sets.specs.Laws.{byB, byEq, eqb-yes, and-l, and-r}
-use Rattle.line.specs.Line.{Op, Begin, isRefused}
+use Rattle.line.specs.Line.{Op, isRefused}
 use Rattle.message.specs.Layout.{kindOf}
 use Rattle.station_callbacks.specs.Callbacks.{flat}
 use Rattle.station_answer.specs.declared.Answer.{Answer}
@@ -20,13 +20,13 @@ use Rattle.station_owner.specs.Owner.{ready}
 use Rattle.host.specs.Host.{toldLength}
 use Rattle.call_meaning.specs.Relation.{answerOf}
 use Rattle.call_meaning.specs.Buffers.{messagesIn, sentBy}
-use Rattle.call_meaning.specs.Calls.{performB, stepB}
+use Rattle.call_meaning.specs.Calls.{performB, one-called, stepB}
 use Rattle.line_bytes.specs.Bytes.{WorldB, carryUpB, tellB, restDown, ownerActsB, stationTakesB}
 use Rattle.line_bytes.specs.Simulates.{carry-none}
 use Rattle.line_host.specs.Line as Hosts
-use Rattle.line_host.specs.Line.{CallH, OwnerH, StationH, lineH, Event, Ended, EndedByOwner, toldBy, ended, ownerEvents, stationEvents, WorldH, actH}
+use Rattle.line_host.specs.Line.{OpH, BeginH, operation, ownerHosted, CallH, OwnerH, StationH, lineH, Event, Ended, EndedByOwner, toldBy, ended, ownerEvents, stationEvents, WorldH, actH}
 use Rattle.line_host.specs.Refusals.{Said, Sure, delivery-sure}
-use Rattle.line_host.specs.Same.{lent, Found, same-call, owner-found, step-found, carry-up-same, owner-same, station-same}
+use Rattle.line_host.specs.Same.{fewValues, lent, Found, same-call, owner-found, step-found, carry-up-same, owner-same, station-same}
 use Rattle.window_state.specs.Layout.{pageFrom, objectFrom, commandFrom, registers, value}
 use Rattle.window_state.specs.Registers.{addressOf, storedOf}
 use Rattle.window.specs.Window.{Accessed, accessed, readyW, noted, isCommand, performed, takenAs, takenSaid, commanded, commandOf, stays, refused, writeOf, stepOf}
@@ -41,14 +41,20 @@ address-same : (b : ℕ) (r : List ℕ) → addressOf (set r commandFrom b) ≡ 
 unfolding addressOf
 address-same b r = rw (getD-set-other r commandFrom pageFrom b 0 (λ z. omega arith), getD-set-other r commandFrom objectFrom b 0 (λ z. omega arith))
 
-performed-own : (b : ℕ) (r s o c : List ℕ) → performed b (set r commandFrom b) s o c ≡ performB (opOf b r) s o c
+performed-own : (b : ℕ) (r s o c : List ℕ) → performed b (set r commandFrom b) s o c ≡ performB (operation (opOf b r)) s o c
 unfolding performed
 performed-own b r s o c =
     let v : value (set r commandFrom b) ≡ value r = value-same r (set r commandFrom b) (λ j l u. getD-set-other r commandFrom j b 0 (λ z. omega arith)) in
     byEq b 1 (λ e. rw e)
     (λ e.
     byEq b 2 (λ f. rw (e, f, address-same b r))
-    (λ f. byEq b 3 (λ g. rw (e, f, g, address-same b r, v)) (λ g. byEq b 4 (λ h. rw (e, f, g, h)) (λ h. rw (e, f, g, h)))))
+    (λ f. byEq b 3 (λ g. rw (e, f, g, address-same b r, v) (one-called (addressOf r) (value r) s o c)) (λ g. byEq b 4 (λ h. rw (e, f, g, h)) (λ h. rw (e, f, g, h)))))
+
+-- no command writes a set
+no-set : (b : ℕ) (r : List ℕ) → fewValues (opOf b r) ≡ false
+no-set b r =
+    byEq b 1 (λ e. rw e)
+    (λ e. byEq b 2 (λ f. rw (e, f)) (λ f. byEq b 3 (λ g. rw (e, f, g)) (λ g. byEq b 4 (λ h. rw (e, f, g, h)) (λ h. rw (e, f, g, h)))))
 
 -- WHAT A HOST FINDS
 
@@ -170,7 +176,7 @@ ended-same e s = byB (openB s) (λ o. rw o) (λ o. rw o)
 
 -- there is no station 8: nothing is called
 abbrev pub noCall : CallH
-noCall = OwnerH 8 Begin [] [] []
+noCall = OwnerH 8 BeginH [] [] []
 
 -- whether a write is a command that number 1 lets pass
 abbrev pub isLive : ℕ → ℕ → List ℕ → List ℕ → List ℕ → List ℕ → List ℕ → Bool
@@ -206,8 +212,8 @@ module _ (i k b : ℕ) (o c t r : List ℕ) (w : WorldB) where
   record Still (z : Outcome) : Type 0 where
     state-stays : z .state ≡ s
     none-sent : sentBy z ≡ []
-    none-told : (v : WorldB) → tellB i (opOf b r) (answerOf (z .said .answer)) v ≡ v
-    none-happened : toldBy i (opOf b r) (w .number i) (answerOf (z .said .answer)) ≡ []
+    none-told : (v : WorldB) → tellB i (operation (opOf b r)) (answerOf (z .said .answer)) v ≡ v
+    none-happened : toldBy i (operation (opOf b r)) (w .number i) (answerOf (z .said .answer)) ≡ []
 
   quiet : (u : List ℕ) → Still ((stays u s (lent toldLength t o) (lent toldLength t c)) .outcome)
   unfolding messagesIn tellB
@@ -237,7 +243,7 @@ module _ (i k b : ℕ) (o c t r : List ℕ) (w : WorldB) where
 
   -- A COMMAND
   abbrev x : Outcome
-  x = performB (opOf b r) s (lent toldLength t o) (lent toldLength t c)
+  x = performB (operation (opOf b r)) s (lent toldLength t o) (lent toldLength t c)
 
   live-at : readyW r s (lent toldLength t o) (lent toldLength t c) ≡ true → eqb k commandFrom ≡ true → isCommand b ≡ true → (P : Accessed → Type 0)
       → P (commanded (set r commandFrom b) (performed b (set r commandFrom b) s (lent toldLength t o) (lent toldLength t c))) → P (writeOf k b r s (lent toldLength t o) (lent toldLength t c))
@@ -256,13 +262,13 @@ module _ (i k b : ℕ) (o c t r : List ℕ) (w : WorldB) where
   unfolding writesW ownerActsB carryUpB
   writes-live d =
       let f = write-found k b r s o c t in
-      rw (f .answer, carry-up-same i _ y w f, live-is d) (tell-taken i (opOf b r) (x .said .answer) _ ∙ sym (owner-same i (opOf b r) o c t w))
+      rw (f .answer, carry-up-same i _ y w f, live-is d) (tell-taken i (operation (opOf b r)) (x .said .answer) _ ∙ sym (rw (no-set b r) at (owner-same i (opOf b r) o c t w)))
 
   events-live : isLive k b r s o c t ≡ true → writeEvents i k b o c t r w ≡ ownerEvents i (opOf b r) o c t w
   events-live d =
       let f = write-found k b r s o c t in
-      let g = owner-found (opOf b r) s o c t in
-      rw (f .answer, f .state, live-is d, g .answer, g .state, told-taken i (opOf b r) (w .number i) (x .said .answer))
+      let g : Found (ownerHosted (opOf b r) s o c t) x = rw (no-set b r) at (owner-found (opOf b r) s o c t) in
+      rw (f .answer, f .state, live-is d, g .answer, g .state, told-taken i (operation (opOf b r)) (w .number i) (x .said .answer))
 
 -- A DELIVERY
 
@@ -307,7 +313,7 @@ module _ (i : ℕ) (o c t r : List ℕ) (w : WorldB) where
 -- EVERY CALL
 
 -- a call of no station of the line
-off-acts : (i : ℕ) (op : Op) (o c t : List ℕ) (h : WorldH) → ltb i 8 ≡ false → actH (OwnerH i op o c t) h ≡ h
+off-acts : (i : ℕ) (op : OpH) (o c t : List ℕ) (h : WorldH) → ltb i 8 ≡ false → actH (OwnerH i op o c t) h ≡ h
 unfolding lineH
 off-acts i op o c t h e = rw (e, append-nil (h .history))
 
@@ -316,7 +322,7 @@ unfolding lineH
 off-steps i o c t h e = rw (e, append-nil (h .history))
 
 -- a call of one
-on-acts : (i : ℕ) (op : Op) (o c t : List ℕ) (h : WorldH) → ltb i 8 ≡ true
+on-acts : (i : ℕ) (op : OpH) (o c t : List ℕ) (h : WorldH) → ltb i 8 ≡ true
     → actH (OwnerH i op o c t) h ≡ record { line = Hosts.ownerActsH i op o c t (h .line); history = h .history ++ ownerEvents i op o c t (h .line) }
 unfolding lineH
 on-acts i op o c t h e = rw e

@@ -14,8 +14,7 @@ use Rattle.station_state.specs.Layout.{kind}
 use Rattle.station_meaning.specs.Tests.{kind-at}
 use Rattle.server_state.specs.Valid.{kindsOk}
 use Rattle.host.specs.Host.{toldLength}
-use Rattle.call_meaning.specs.Calls.{OpFits}
-use Rattle.line_host.specs.Line.{CallH, OwnerH, StationH, FitsH, AllFitH, runH}
+use Rattle.line_host.specs.Line.{ArgumentsFit, CallH, OwnerH, StationH, FitsH, AllFitH, runH}
 use Rattle.line_host.specs.Same.{lent}
 use Rattle.line_host.specs.Claim.{TrueH}
 use Rattle.line_host.specs.Runs.{hosts-simulate}
@@ -79,7 +78,7 @@ run-fine [] w f h = h
 run-fine (c ∷ cs) w f h = run-fine cs (actW c w) (f .1) (act-fine c w (f .0) h)
 
 -- "a value of 64 bits": eight registers
-op-fits : (b : ℕ) (r : List ℕ) → Fine r → OpFits (opOf b r)
+op-fits : (b : ℕ) (r : List ℕ) → Fine r → ArgumentsFit (opOf b r)
 op-fits b r h =
     byEq b 1 (λ e. rw e tt)
     (λ e. byEq b 2 (λ f. rw (e, f) tt) (λ f. byEq b 3 (λ g. rw (e, f, g) (wide-at r (h .all-bytes) _)) (λ g. byEq b 4 (λ k. rw (e, f, g, k) tt) (λ k. rw (e, f, g, k) tt))))

@@ -12,11 +12,11 @@ shared-slice-read-match c = search needs
 page-message-ok-requires : tie.Need-page-message-ok-requires
 page-message-ok-requires c κs = search needs
 
-page-message-ok-requires-2 : tie.Need-page-message-ok-requires-2
-page-message-ok-requires-2 c κs = search needs
+grant-ok-requires : tie.Need-grant-ok-requires
+grant-ok-requires c κs = search needs
 
-page-message-ok-requires-3 : tie.Need-page-message-ok-requires-3
-page-message-ok-requires-3 c κs = search needs
+grant-ok-requires-2 : tie.Need-grant-ok-requires-2
+grant-ok-requires-2 c κs = search needs
 
 deescalate-ok-requires : tie.Need-deescalate-ok-requires
 deescalate-ok-requires c κs = search needs
@@ -39,11 +39,11 @@ returns c = rw (c .before .match .keys1) (c .page-message-ok .ensures)
 
 returns-2 : tie.Need-returns-2
 unfolding downFieldsOk
-returns-2 c = rw (c .before .match .keys2) (c .page-message-ok2 .ensures)
+returns-2 c = rw (c .before .match .keys2) (c .grant-ok .ensures)
 
 returns-3 : tie.Need-returns-3
 unfolding downFieldsOk
-returns-3 c = rw (c .before .match .keys3) (c .page-message-ok3 .ensures)
+returns-3 c = rw (c .before .match .keys3) (c .grant-ok2 .ensures)
 
 returns-4 : tie.Need-returns-4
 unfolding downFieldsOk
@@ -75,8 +75,8 @@ down-fields-spec =
     (tie.spec
     shared-slice-read-match
     page-message-ok-requires
-    page-message-ok-requires-2
-    page-message-ok-requires-3
+    grant-ok-requires
+    grant-ok-requires-2
     deescalate-ok-requires
     callback-ok-requires
     committed-ok-requires

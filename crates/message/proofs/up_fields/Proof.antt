@@ -12,8 +12,8 @@ shared-slice-read-match c = search needs
 request-ok-requires : tie.Need-request-ok-requires
 request-ok-requires c κs = search needs
 
-request-ok-requires-2 : tie.Need-request-ok-requires-2
-request-ok-requires-2 c κs = search needs
+write-request-ok-requires : tie.Need-write-request-ok-requires
+write-request-ok-requires c κs = search needs
 
 commit-ok-requires : tie.Need-commit-ok-requires
 commit-ok-requires c κs = search needs
@@ -39,7 +39,7 @@ returns c = rw (c .before .match .keys1) (c .request-ok .ensures)
 
 returns-2 : tie.Need-returns-2
 unfolding upFieldsOk
-returns-2 c = rw (c .before .match .keys2) (c .request-ok2 .ensures)
+returns-2 c = rw (c .before .match .keys2) (c .write-request-ok .ensures)
 
 returns-3 : tie.Need-returns-3
 unfolding upFieldsOk
@@ -75,7 +75,7 @@ up-fields-spec =
     (tie.spec
     shared-slice-read-match
     request-ok-requires
-    request-ok-requires-2
+    write-request-ok-requires
     commit-ok-requires
     abort-ok-requires
     purge-ok-requires

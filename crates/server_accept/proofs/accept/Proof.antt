@@ -10,7 +10,7 @@ shared-slice-read-match : tie.Need-shared-slice-read-match
 shared-slice-read-match c = search needs
 
 on-read-requires : tie.Need-on-read-requires
-on-read-requires c κs = let h = c .before .before .before .before .before .before .before .before .before .pre .1 .address (omega (arith, c .before .before .before .match .keys1)) in (search needs, search needs, search needs, h, search needs, search needs, room-as _ _ _ (accept-read _ _ (c .before .before .before .match .keys1)) (c .before .before .before .before .before .before .before .before .before .pre .2))
+on-read-requires c κs = let h = c .before .before .before .before .before .before .before .before .before .pre .1 .address (c .before .before .before .match .keys1) in (search needs, search needs, search needs, h, search needs, search needs, room-as _ _ _ (accept-read _ _ (c .before .before .before .match .keys1)) (c .before .before .before .before .before .before .before .before .before .pre .2))
 
 same-length : tie.Need-same-length
 same-length c = search needs
@@ -25,7 +25,7 @@ returns : tie.Need-returns
 returns c = post-as _ _ _ (accept-read _ _ (c .before .before .before .before .before .before .before .before .before .before .match .keys1)) (c .before .before .before .before .before .before .on-read .ensures)
 
 on-write-requires : tie.Need-on-write-requires
-on-write-requires c κs = let h = c .before .before .before .before .before .before .before .pre .1 .address (omega (arith, c .before .match .keys2)) in search needs
+on-write-requires c κs = let h = c .before .before .before .before .before .before .before .pre .1 .asked (c .before .match .keys2) in search needs
 
 on-commit-requires : tie.Need-on-commit-requires
 on-commit-requires c κs = (search needs, c .before .before .before .before .before .before .before .before .before .pre .1 .commit (c .before .before .before .match .keys3), search needs, c .before .before .before .before .before .before .before .before .before .pre .1 .last (c .before .before .before .match .keys3), search needs, search needs, room-as _ _ _ (accept-commit _ _ (c .before .before .before .match .keys3)) (c .before .before .before .before .before .before .before .before .before .pre .2))

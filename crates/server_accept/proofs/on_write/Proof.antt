@@ -11,11 +11,14 @@ noticed-requires c κs = search needs
 station-requires : tie.Need-station-requires
 station-requires c κs = search needs
 
-address-requires : tie.Need-address-requires
-address-requires c κs = search needs
+named-requires : tie.Need-named-requires
+named-requires c κs = search needs
+
+shared-slice-read-join-write : tie.Need-shared-slice-read-join-write
+shared-slice-read-join-write c = search needs
 
 join-write-requires : tie.Need-join-write-requires
-join-write-requires c κs = let h = arrivals-fit _ _ _ (c .before .before .before .before .before .before .before .before .before .pre .2) (c .before .before .before .before .before .before .before .before .before .pre .5) (c .before .before .before .before .before .noticed .ensures) in search needs
+join-write-requires c κs = let h = arrivals-fit _ _ _ (c .before .before .before .before .before .before .before .before .before .before .pre .2) (c .before .before .before .before .before .before .before .before .before .before .pre .5) (c .before .before .before .before .before .before .noticed .ensures) in search needs
 
 same-length : tie.Need-same-length
 same-length c = search needs
@@ -30,7 +33,8 @@ on-write-spec =
     (tie.spec
     noticed-requires
     station-requires
-    address-requires
+    named-requires
+    shared-slice-read-join-write
     join-write-requires
     same-length
     returns)

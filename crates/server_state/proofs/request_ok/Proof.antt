@@ -16,17 +16,17 @@ returns : tie.Need-returns
 unfolding requestOk
 returns c = simp (ne-eqb _ _ (c .if1 .taken))
 
-add-a : tie.Need-add-a
-add-a c = search needs
-
-shared-slice-read-a : tie.Need-shared-slice-read-a
-shared-slice-read-a c = search needs
-
 add-if2 : tie.Need-add-if2
 add-if2 c = search needs
 
 shared-slice-read-if2 : tie.Need-shared-slice-read-if2
 shared-slice-read-if2 c = search needs
+
+add-a : tie.Need-add-a
+add-a c = search needs
+
+shared-slice-read-a : tie.Need-shared-slice-read-a
+shared-slice-read-a c = search needs
 
 mul-only-in : tie.Need-mul-only-in
 mul-only-in c = search needs
@@ -48,29 +48,14 @@ none-in-requires c κs = search needs
 
 returns-2 : tie.Need-returns-2
 unfolding requestOk
-returns-2 c = simp (eq-eqb _ _ (c .before .before .before .before .before .if1 .left), eq-eqb _ _ (c .before .before .if2 .taken), sym (c .before .only-in .ensures), sym (c .none-in .ensures))
+returns-2 c = simp (eq-eqb _ _ (c .before .before .before .before .before .if1 .left), eq-eqb _ _ (c .before .before .before .if2 .taken), sym (c .before .only-in .ensures), sym (c .none-in .ensures))
 
-mul-only-in-2 : tie.Need-mul-only-in-2
-mul-only-in-2 c = search needs
-
-add-only-in-2 : tie.Need-add-only-in-2
-add-only-in-2 c = search needs
-
-only-in-requires-2 : tie.Need-only-in-requires-2
-only-in-requires-2 c κs = search needs
-
-mul-none-in-2 : tie.Need-mul-none-in-2
-mul-none-in-2 c = search needs
-
-add-none-in-2 : tie.Need-add-none-in-2
-add-none-in-2 c = search needs
-
-none-in-requires-2 : tie.Need-none-in-requires-2
-none-in-requires-2 c κs = search needs
+write-ok-requires : tie.Need-write-ok-requires
+write-ok-requires c κs = search needs
 
 returns-3 : tie.Need-returns-3
 unfolding requestOk
-returns-3 c = simp (eq-eqb _ _ (c .before .before .before .before .before .if1 .left), ne-eqb _ _ (c .before .before .if2 .left), sym (c .before .only-in2 .ensures), sym (c .none-in2 .ensures))
+returns-3 c = simp (eq-eqb _ _ (c .before .before .before .if1 .left), ne-eqb _ _ (c .before .if2 .left)) (c .write-ok .ensures)
 
 pub request-ok-spec : {M : Type 1} → statement M
 request-ok-spec =
@@ -79,10 +64,10 @@ request-ok-spec =
     add-if1
     shared-slice-read-if1
     returns
-    add-a
-    shared-slice-read-a
     add-if2
     shared-slice-read-if2
+    add-a
+    shared-slice-read-a
     mul-only-in
     add-only-in
     only-in-requires
@@ -90,10 +75,5 @@ request-ok-spec =
     add-none-in
     none-in-requires
     returns-2
-    mul-only-in-2
-    add-only-in-2
-    only-in-requires-2
-    mul-none-in-2
-    add-none-in-2
-    none-in-requires-2
+    write-ok-requires
     returns-3)

@@ -20,12 +20,18 @@ shared-slice-read-other c = search needs
 other-requires : tie.Need-other-requires
 other-requires c κs = search needs
 
+wanted-requires : tie.Need-wanted-requires
+wanted-requires c κs = search needs
+
 has-bit8-requires : tie.Need-has-bit8-requires
 has-bit8-requires c κs = search needs
 
+has-bit8-requires-2 : tie.Need-has-bit8-requires-2
+has-bit8-requires-2 c κs = search needs
+
 returns : tie.Need-returns
 unfolding unavailableAt
-returns c = rw (← others-wait _ _ _ _, ← c .before .before .before .before .pre .4) (cc)
+returns c = rw (← others-wait _ _ _ _, ← c .before .before .before .before .before .before .pre .4) (cc)
 
 pub unavailable-at-spec : {M : Type 1} → statement M
 unavailable-at-spec =
@@ -36,5 +42,7 @@ unavailable-at-spec =
     add-other-2
     shared-slice-read-other
     other-requires
+    wanted-requires
     has-bit8-requires
+    has-bit8-requires-2
     returns)

@@ -23,10 +23,10 @@ same-length : tie.Need-same-length
 same-length c = search needs
 
 returns : tie.Need-returns
-returns c = answer-read _ _ _ _ _ (c .before .before .before .before .before .before .before .if1 .taken) (c .before .before .before .before .before .get-u64 .ensures) (c .before .before .before .record-read .ensures) (c .say .ensures)
+returns c = answer-read _ _ _ _ _ _ (c .before .before .before .before .before .before .before .if1 .taken) (c .before .before .before .before .before .get-u64 .ensures) (c .before .before .before .record-read .ensures) (c .say .ensures)
 
-write-local-requires : tie.Need-write-local-requires
-write-local-requires c κs = search needs
+write-all-requires : tie.Need-write-all-requires
+write-all-requires c κs = search needs
 
 say-requires-2 : tie.Need-say-requires-2
 say-requires-2 c κs = search needs
@@ -35,13 +35,13 @@ same-length-2 : tie.Need-same-length-2
 same-length-2 c = search needs
 
 returns-2 : tie.Need-returns-2
-returns-2 c = answer-written _ _ _ _ _ (c .before .before .before .before .before .before .if1 .left) (c .before .before .before .before .before .if2 .taken) (c .before .before .before .write-local .ensures) (c .say2 .ensures)
+returns-2 c = answer-written _ _ _ _ _ _ (c .before .before .before .before .before .before .if1 .left) (c .before .before .before .before .before .if2 .taken) (c .before .before .before .write-all .ensures) (c .say2 .ensures)
 
 say-requires-3 : tie.Need-say-requires-3
 say-requires-3 c κs = search needs
 
 returns-3 : tie.Need-returns-3
-returns-3 c = answer-none _ _ _ _ _ (c .before .before .if1 .left) (c .before .if2 .left) (c .say3 .ensures)
+returns-3 c = answer-none _ _ _ _ _ _ (c .before .before .if1 .left) (c .before .if2 .left) (c .say3 .ensures)
 
 pub answer-wait-spec : {M : Type 1} → statement M
 answer-wait-spec =
@@ -54,7 +54,7 @@ answer-wait-spec =
     say-requires
     same-length
     returns
-    write-local-requires
+    write-all-requires
     say-requires-2
     same-length-2
     returns-2

@@ -1,27 +1,10 @@
 -- `station_delivery::fits_lock` meets its contract.
 use Rattle.station_delivery.specs.Delivery.{fitsLockB}
+use Rattle.message.specs.Layout.{pageFrom}
 use native.Mathlib.Omega.{arith}
 use borrow.Author.Needs.{needs}
 use Rattle.station_delivery.proofs.fits_lock.Statement.{statement}
 use Rattle.station_delivery.proofs.fits_lock.Tie as tie
-
-shared-slice-read-a : tie.Need-shared-slice-read-a
-shared-slice-read-a c = search needs
-
-cast-a : tie.Need-cast-a
-cast-a c = omega (arith, c .shared-slice-known3 .given 2)
-
-mul-a : tie.Need-mul-a
-mul-a c = omega (arith, c .shared-slice-known3 .given 2)
-
-shared-slice-read-a-2 : tie.Need-shared-slice-read-a-2
-shared-slice-read-a-2 c = search needs
-
-cast-a-2 : tie.Need-cast-a-2
-cast-a-2 c = omega (arith, c .shared-slice-known4 .given 3)
-
-add-a : tie.Need-add-a
-add-a c = omega (arith, c .before .shared-slice-known3 .given 2, c .shared-slice-known4 .given 3)
 
 shared-slice-read-result : tie.Need-shared-slice-read-result
 shared-slice-read-result c = search needs
@@ -32,8 +15,14 @@ get-u32-requires c κs = search needs
 live-requires : tie.Need-live-requires
 live-requires c κs = search needs
 
-for-write-of-requires : tie.Need-for-write-of-requires
-for-write-of-requires c κs = search needs
+shared-slice-read-for-write-on : tie.Need-shared-slice-read-for-write-on
+shared-slice-read-for-write-on c = search needs
+
+cast-for-write-on : tie.Need-cast-for-write-on
+cast-for-write-on c = omega (arith, c .shared-slice-known4 .given pageFrom)
+
+for-write-on-requires : tie.Need-for-write-on-requires
+for-write-on-requires c κs = search needs
 
 returns : tie.Need-returns
 unfolding fitsLockB
@@ -43,14 +32,10 @@ pub fits-lock-spec : {M : Type 1} → statement M
 fits-lock-spec =
     tie.close
     (tie.spec
-    shared-slice-read-a
-    cast-a
-    mul-a
-    shared-slice-read-a-2
-    cast-a-2
-    add-a
     shared-slice-read-result
     get-u32-requires
     live-requires
-    for-write-of-requires
+    shared-slice-read-for-write-on
+    cast-for-write-on
+    for-write-on-requires
     returns)

@@ -10,13 +10,13 @@ shared-slice-read-match : tie.Need-shared-slice-read-match
 shared-slice-read-match c = search needs
 
 on-page-requires : tie.Need-on-page-requires
-on-page-requires c κs = (search needs, search needs, c .before .before .before .before .before .before .before .pre .4 .0 (λ e. omega (arith, c .before .before .match .keys1)), c .before .before .before .before .before .before .before .pre .4 .2 (omega (arith, c .before .before .match .keys1)))
+on-page-requires c κs = (search needs, search needs, c .before .before .before .before .before .before .before .pre .4 .0 (λ e. omega (arith, c .before .before .match .keys1)))
 
 on-page-requires-2 : tie.Need-on-page-requires-2
-on-page-requires-2 c κs = (search needs, search needs, c .before .before .before .before .before .before .before .pre .4 .0 (λ e. omega (arith, c .before .before .match .keys2)), c .before .before .before .before .before .before .before .pre .4 .2 (omega (arith, c .before .before .match .keys2)))
+on-page-requires-2 c κs = (search needs, search needs, c .before .before .before .before .before .before .before .pre .4 .0 (λ e. omega (arith, c .before .before .match .keys2)))
 
 on-page-requires-3 : tie.Need-on-page-requires-3
-on-page-requires-3 c κs = (search needs, search needs, c .before .before .before .before .before .before .before .pre .4 .0 (λ e. omega (arith, c .before .before .match .keys3)), c .before .before .before .before .before .before .before .pre .4 .2 (omega (arith, c .before .before .match .keys3)))
+on-page-requires-3 c κs = (search needs, search needs, c .before .before .before .before .before .before .before .pre .4 .0 (λ e. omega (arith, c .before .before .match .keys3)))
 
 on-deescalate-requires : tie.Need-on-deescalate-requires
 on-deescalate-requires c κs = (search needs, search needs, search needs, c .before .before .before .before .before .before .before .pre .4 .0 (λ e. omega (arith, c .before .before .match .keys4)))
@@ -117,7 +117,7 @@ unfolding onDownB
 returns-8 c = rw (c .before .before .before .before .before .before .before .match .keys8) (c .before .before .before .before .on-invalidate .ensures)
 
 returns-9 : tie.Need-returns-9
-returns-9 c = let r = c .before .match .rest in absurd (no-other _ (c .before .before .before .before .before .before .pre .4 .3) (r .0 .0 .0 .0 .0 .0 .0 .1) (r .0 .0 .0 .0 .0 .0 .1) (r .0 .0 .0 .0 .0 .1) (r .0 .0 .0 .0 .1) (r .0 .0 .0 .1) (r .0 .0 .1) (r .0 .1) (r .1))
+returns-9 c = let r = c .before .match .rest in absurd (no-other _ (c .before .before .before .before .before .before .pre .4 .2) (r .0 .0 .0 .0 .0 .0 .0 .1) (r .0 .0 .0 .0 .0 .0 .1) (r .0 .0 .0 .0 .0 .1) (r .0 .0 .0 .0 .1) (r .0 .0 .0 .1) (r .0 .0 .1) (r .0 .1) (r .1))
 
 pub on-down-spec : {M : Type 1} → statement M
 on-down-spec =

@@ -14,27 +14,15 @@ cast-p c = search needs
 shared-slice-read-if1 : tie.Need-shared-slice-read-if1
 shared-slice-read-if1 c = search needs
 
-mul-add-to : tie.Need-mul-add-to
-mul-add-to c = search needs
-
-shared-slice-read-add-to : tie.Need-shared-slice-read-add-to
-shared-slice-read-add-to c = search needs
-
-cast-add-to : tie.Need-cast-add-to
-cast-add-to c = search needs
-
-add-add-to : tie.Need-add-add-to
-add-add-to c = search needs
-
-add-to-requires : tie.Need-add-to-requires
-add-to-requires c κs = search needs
+lock-waiting-requires : tie.Need-lock-waiting-requires
+lock-waiting-requires c κs = search needs
 
 same-length : tie.Need-same-length
 same-length c = search needs
 
 returns : tie.Need-returns
 unfolding takeLockB
-returns c = simp (eq-eqb _ _ (c .before .before .before .before .before .if1 .taken)) (c .before .before .add-to .ensures)
+returns c = simp (eq-eqb _ _ (c .before .before .before .before .if1 .taken)) (c .before .before .lock-waiting .ensures)
 
 shared-slice-read-if2 : tie.Need-shared-slice-read-if2
 shared-slice-read-if2 c = search needs
@@ -60,11 +48,7 @@ take-lock-spec =
     shared-slice-read-p
     cast-p
     shared-slice-read-if1
-    mul-add-to
-    shared-slice-read-add-to
-    cast-add-to
-    add-add-to
-    add-to-requires
+    lock-waiting-requires
     same-length
     returns
     shared-slice-read-if2

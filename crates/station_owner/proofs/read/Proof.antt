@@ -2,7 +2,7 @@
 use borrow.Author.Tests.{not-true, not-false}
 use mathlib.Core.Path.{sym, _∙_}
 use Rattle.station_owner.specs.Owner.{ownReadB}
-use Rattle.station_owner.specs.Facts.{ready-is, address-passed, call-1, call-n, call-ok}
+use Rattle.station_owner.specs.Facts.{ready-is, read-passed, call-1, call-n, call-ok}
 use borrow.Author.Needs.{needs}
 use Rattle.station_owner.proofs.read.Statement.{statement}
 use Rattle.station_owner.proofs.read.Tie as tie
@@ -45,7 +45,7 @@ unfolding ownReadB
 returns-2 c = call-n _ _ _ _ _ (sym (c .before .before .before .before .before .ready .ensures) ∙ not-false (c .before .before .before .before .before .ready .result) (c .before .before .before .before .if1 .left)) (c .before .before .check-read .ensures) (c .before .if2 .taken) (c .refuse2 .ensures)
 
 read-as-requires : tie.Need-read-as-requires
-read-as-requires c κs = ((ready-is _ _ _ (sym (c .before .before .before .before .before .before .ready .ensures) ∙ not-false (c .before .before .before .before .before .before .ready .result) (c .before .before .before .before .before .if1 .left))) .size, (ready-is _ _ _ (sym (c .before .before .before .before .before .before .ready .ensures) ∙ not-false (c .before .before .before .before .before .before .ready .result) (c .before .before .before .before .before .if1 .left))) .messages-fit, address-passed _ _ _ (sym (c .before .before .before .check-read .ensures) ∙ c .before .before .if2 .left))
+read-as-requires c κs = ((ready-is _ _ _ (sym (c .before .before .before .before .before .before .ready .ensures) ∙ not-false (c .before .before .before .before .before .before .ready .result) (c .before .before .before .before .before .if1 .left))) .size, (ready-is _ _ _ (sym (c .before .before .before .before .before .before .ready .ensures) ∙ not-false (c .before .before .before .before .before .before .ready .result) (c .before .before .before .before .before .if1 .left))) .messages-fit, read-passed _ _ (sym (c .before .before .before .check-read .ensures) ∙ c .before .before .if2 .left))
 
 same-length-7 : tie.Need-same-length-7
 same-length-7 c = search needs

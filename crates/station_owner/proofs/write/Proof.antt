@@ -1,17 +1,24 @@
 -- `station_owner::write` meets its contract.
-use borrow.Author.Tests.{not-true, not-false}
-use mathlib.Core.Path.{sym, _∙_}
+use mathlib.Core.Path.{sym}
 use Rattle.station_owner.specs.Owner.{ownWriteB}
-use Rattle.station_owner.specs.Facts.{ready-is, address-passed, call-1, call-n, call-ok}
 use borrow.Author.Needs.{needs}
 use Rattle.station_owner.proofs.write.Statement.{statement}
 use Rattle.station_owner.proofs.write.Tie as tie
 
-ready-requires : tie.Need-ready-requires
-ready-requires c κs = search needs
+cast-k : tie.Need-cast-k
+cast-k c = search needs
 
-refuse-requires : tie.Need-refuse-requires
-refuse-requires c κs = search needs
+only-requires : tie.Need-only-requires
+only-requires c κs = search needs
+
+bit8-requires : tie.Need-bit8-requires
+bit8-requires c κs = search needs
+
+wide-requires : tie.Need-wide-requires
+wide-requires c κs = search needs
+
+write-set-requires : tie.Need-write-set-requires
+write-set-requires c κs = search needs
 
 same-length : tie.Need-same-length
 same-length c = search needs
@@ -23,61 +30,19 @@ same-length-3 : tie.Need-same-length-3
 same-length-3 c = search needs
 
 returns : tie.Need-returns
-returns c = call-1 _ _ _ _ (sym (c .before .before .ready .ensures) ∙ not-true (c .before .before .ready .result) (c .before .if1 .taken)) (c .refuse .ensures)
-
-check-write-requires : tie.Need-check-write-requires
-check-write-requires c κs = (ready-is _ _ _ (sym (c .before .before .ready .ensures) ∙ not-false (c .before .before .ready .result) (c .before .if1 .left))) .size
-
-refuse-requires-2 : tie.Need-refuse-requires-2
-refuse-requires-2 c κs = search needs
-
-same-length-4 : tie.Need-same-length-4
-same-length-4 c = search needs
-
-same-length-5 : tie.Need-same-length-5
-same-length-5 c = search needs
-
-same-length-6 : tie.Need-same-length-6
-same-length-6 c = search needs
-
-returns-2 : tie.Need-returns-2
 unfolding ownWriteB
-returns-2 c = call-n _ _ _ _ _ (sym (c .before .before .before .before .before .ready .ensures) ∙ not-false (c .before .before .before .before .before .ready .result) (c .before .before .before .before .if1 .left)) (c .before .before .check-write .ensures) (c .before .if2 .taken) (c .refuse2 .ensures)
-
-write-as-requires : tie.Need-write-as-requires
-write-as-requires c κs = ((ready-is _ _ _ (sym (c .before .before .before .before .before .before .ready .ensures) ∙ not-false (c .before .before .before .before .before .before .ready .result) (c .before .before .before .before .before .if1 .left))) .size, (ready-is _ _ _ (sym (c .before .before .before .before .before .before .ready .ensures) ∙ not-false (c .before .before .before .before .before .before .ready .result) (c .before .before .before .before .before .if1 .left))) .messages-fit, address-passed _ _ _ (sym (c .before .before .before .check-write .ensures) ∙ c .before .before .if2 .left))
-
-same-length-7 : tie.Need-same-length-7
-same-length-7 c = search needs
-
-same-length-8 : tie.Need-same-length-8
-same-length-8 c = search needs
-
-same-length-9 : tie.Need-same-length-9
-same-length-9 c = search needs
-
-returns-3 : tie.Need-returns-3
-unfolding ownWriteB
-returns-3 c = call-ok _ _ _ _ _ (sym (c .before .before .before .before .before .before .before .before .before .before .before .ready .ensures) ∙ not-false (c .before .before .before .before .before .before .before .before .before .before .before .ready .result) (c .before .before .before .before .before .before .before .before .before .before .if1 .left)) (c .before .before .before .before .before .before .before .before .check-write .ensures) (c .before .before .before .before .before .before .before .if2 .left) (c .before .before .before .before .write-as .ensures)
+returns c = simp (sym (c .before .before .before .before .before .before .before .before .before .before .before .before .before .only .ensures), sym (c .before .before .before .before .before .before .before .before .before .before .before .before .bit8 .ensures), sym (c .before .before .before .before .before .before .before .before .before .before .before .wide .ensures .0)) (c .before .before .before .before .before .before .write-set .ensures)
 
 pub write-spec : {M : Type 1} → statement M
 write-spec =
     tie.close
     (tie.spec
-    ready-requires
-    refuse-requires
+    cast-k
+    only-requires
+    bit8-requires
+    wide-requires
+    write-set-requires
     same-length
     same-length-2
     same-length-3
-    returns
-    check-write-requires
-    refuse-requires-2
-    same-length-4
-    same-length-5
-    same-length-6
-    returns-2
-    write-as-requires
-    same-length-7
-    same-length-8
-    same-length-9
-    returns-3)
+    returns)

@@ -10,11 +10,8 @@ shared-slice-read-few-in c = search needs
 few-in-requires : tie.Need-few-in-requires
 few-in-requires c κs = search needs
 
-shared-slice-read-few-in-2 : tie.Need-shared-slice-read-few-in-2
-shared-slice-read-few-in-2 c = search needs
-
-few-in-requires-2 : tie.Need-few-in-requires-2
-few-in-requires-2 c κs = search needs
+few-written-requires : tie.Need-few-written-requires
+few-written-requires c κs = search needs
 
 returns : tie.Need-returns
 unfolding limitedOk
@@ -22,10 +19,4 @@ returns c = cc
 
 pub limited-ok-spec : {M : Type 1} → statement M
 limited-ok-spec =
-    tie.close
-    (tie.spec
-    shared-slice-read-few-in
-    few-in-requires
-    shared-slice-read-few-in-2
-    few-in-requires-2
-    returns)
+    tie.close (tie.spec shared-slice-read-few-in few-in-requires few-written-requires returns)

@@ -1,0 +1,15 @@
+-- `station_owner::bad_set` meets its contract.
+use Rattle.station_owner.specs.Owner.{badSetB}
+use borrow.Author.Needs.{needs}
+use Rattle.station_owner.proofs.bad_set.Statement.{statement}
+use Rattle.station_owner.proofs.bad_set.Tie as tie
+
+shared-slice-read-result : tie.Need-shared-slice-read-result
+shared-slice-read-result c = search needs
+
+returns : tie.Need-returns
+unfolding badSetB
+returns c = search needs
+
+pub bad-set-spec : {M : Type 1} → statement M
+bad-set-spec = tie.close (tie.spec shared-slice-read-result returns)

@@ -1,0 +1,32 @@
+-- `station_state::lock_waiting` meets its contract.
+use Rattle.station_state.specs.Changes.{lockWaitingB}
+use borrow.Author.Needs.{needs}
+use Rattle.station_state.proofs.lock_waiting.Statement.{statement}
+use Rattle.station_state.proofs.lock_waiting.Tie as tie
+
+add-x : tie.Need-add-x
+add-x c = search needs
+
+slice-read-x : tie.Need-slice-read-x
+slice-read-x c = search needs
+
+slice-read-x-2 : tie.Need-slice-read-x-2
+slice-read-x-2 c = search needs
+
+add-put-u8 : tie.Need-add-put-u8
+add-put-u8 c = search needs
+
+put-u8-requires : tie.Need-put-u8-requires
+put-u8-requires c κs = search needs
+
+same-length : tie.Need-same-length
+same-length c = search needs
+
+returns : tie.Need-returns
+unfolding lockWaitingB
+returns c = cc
+
+pub lock-waiting-spec : {M : Type 1} → statement M
+lock-waiting-spec =
+    tie.close
+    (tie.spec add-x slice-read-x slice-read-x-2 add-put-u8 put-u8-requires same-length returns)
