@@ -1,6 +1,7 @@
 /*
  * A complete host: the server and eight stations of both kinds in one process, with lines in memory. The owners count
  * frames into counters that they share: read a counter, write it with the frames added, commit; begin again when aborted.
+ * The locking ones also reject bottles, which touch three counters of one page: these are written as a set, all or none.
  * Who acts next is drawn from a seeded generator, so messages cross in many ways, and a run can be had again.
  *
  * At the end the archive is replayed. What it leaves, what the server has and what the owners counted has to be the same.
@@ -277,24 +278,41 @@ static size_t draw(size_t below)
 
 /* ---------------------------------------------------------------- The owners */
 
-/* Counters on few pages, so that owners meet; a batch adds to two of them, so that they meet in both orders. */
-enum { FIRST_COUNTER = 8, COUNTERS = 24, BATCH = 2, MOST_FRAMES = 9, OBJECTS_PER_PAGE = 8 };
+/* Counters on few pages, so that owners meet; a batch adds to two of them, so that they meet in both orders. A bottle that is
+ * rejected adds to three of one page. */
+enum { FIRST_COUNTER = 8, COUNTERS = 24, BATCH = 2, BOTTLE = 3, MOST_FRAMES = 9 };
 
 /* An owner's next call. */
-enum next { PURGE, BEGIN, READ, WRITE, COMMIT, ABORT, REST };
+enum next { PURGE, BEGIN, READ, WRITE, WRITE_SET, COMMIT, ABORT, REST };
 
 struct owner {
     enum next next;
+    int locking;                        /* only a locking station writes sets */
     int waits;                          /* the answer comes with a delivery; no call until then */
     uint64_t left;                      /* batches to be counted, this one too */
-    uint8_t counters[BATCH];            /* the batch: addresses, and the frames seen for each */
-    uint64_t frames[BATCH];
+    size_t count;                       /* the batch: BATCH or BOTTLE addresses, and the frames seen for each */
+    uint8_t counters[BOTTLE];
+    uint64_t frames[BOTTLE];
     size_t at;                          /* which of them is at hand */
-    uint64_t sum;                       /* what it is to become */
+    uint64_t sums[BOTTLE];              /* what they are to become */
     uint64_t counted[WAX_ADDRESSES];    /* frames of the batches that were committed */
-    uint64_t commits;
+    uint64_t commits, bottles;
     uint64_t aborts[WAX_CAUSE_NO_NUMBERS]; /* by cause, 0 for its own wish */
 };
+
+static int is_bottle(const struct owner *owner)
+{
+    return owner->count == BOTTLE;
+}
+
+/* Three different counters of the first one's page: its object, the next and the one behind that, round the page. */
+static void put_on_one_page(uint8_t *counters)
+{
+    const uint8_t first = counters[0], page = (uint8_t)(first / WAX_OBJECTS);
+
+    for (size_t k = 0; k < BOTTLE; k++)
+        counters[k] = (uint8_t)(page * WAX_OBJECTS + (first + k) % WAX_OBJECTS);
+}
 
 /* The next batch; now and then the owner gives a page back first. */
 static void next_batch(struct owner *owner)
@@ -303,10 +321,13 @@ static void next_batch(struct owner *owner)
         owner->next = REST;
         return;
     }
-    for (size_t k = 0; k < BATCH; k++) {
+    owner->count = owner->locking && draw(4) == 0 ? BOTTLE : BATCH;
+    for (size_t k = 0; k < owner->count; k++) {
         owner->counters[k] = (uint8_t)(FIRST_COUNTER + draw(COUNTERS));
         owner->frames[k] = 1 + draw(MOST_FRAMES);
     }
+    if (is_bottle(owner))
+        put_on_one_page(owner->counters);
     owner->next = draw(8) == 0 ? PURGE : BEGIN;
 }
 
@@ -318,15 +339,17 @@ static void hear_begun(struct owner *owner)
 
 static void hear_value(struct owner *owner, uint64_t value)
 {
-    owner->sum = value + owner->frames[owner->at];
-    owner->next = WRITE;
+    owner->sums[owner->at] = value + owner->frames[owner->at];
+    if (!is_bottle(owner))
+        owner->next = WRITE;
+    else if (++owner->at == BOTTLE)
+        owner->next = WRITE_SET;
 }
 
 /* Now and then the owner thinks better of its commit. */
 static void hear_written(struct owner *owner)
 {
-    owner->at++;
-    if (owner->at < BATCH)
+    if (!is_bottle(owner) && ++owner->at < BATCH)
         owner->next = READ;
     else
         owner->next = draw(32) == 0 ? ABORT : COMMIT;
@@ -335,9 +358,11 @@ static void hear_written(struct owner *owner)
 /* Frames count when their commit was told, not before. */
 static void hear_committed(struct owner *owner)
 {
-    for (size_t k = 0; k < BATCH; k++)
+    for (size_t k = 0; k < owner->count; k++)
         owner->counted[owner->counters[k]] += owner->frames[k];
     owner->commits++;
+    if (is_bottle(owner))
+        owner->bottles++;
     owner->left--;
     next_batch(owner);
 }
@@ -373,18 +398,33 @@ static void hear(struct owner *owner, uint64_t answer, uint64_t value)
         stop("a station tells what the header does not name");
 }
 
+/* The three counters of a bottle in one call: granted together, or none of them yet. */
+static uint32_t write_set(const struct owner *owner, struct station *station)
+{
+    uint64_t values[WAX_OBJECTS] = { 0 };
+    uint32_t set = 0;
+
+    for (size_t k = 0; k < BOTTLE; k++) {
+        values[owner->counters[k] % WAX_OBJECTS] = owner->sums[k];
+        set |= UINT32_C(1) << owner->counters[k] % WAX_OBJECTS;
+    }
+    return wax_station_write_set(owner->counters[0] / WAX_OBJECTS, set, values, WAX_OBJECTS, LENT(station));
+}
+
 /* The owner's next call, at its station. */
 static uint32_t call(const struct owner *owner, struct station *station)
 {
     switch (owner->next) {
     case PURGE:
-        return wax_station_purge(owner->counters[0] / OBJECTS_PER_PAGE, LENT(station));
+        return wax_station_purge(owner->counters[0] / WAX_OBJECTS, LENT(station));
     case BEGIN:
         return wax_station_begin(LENT(station));
     case READ:
         return wax_station_read(owner->counters[owner->at], LENT(station));
     case WRITE:
-        return wax_station_write(owner->counters[owner->at], owner->sum, LENT(station));
+        return wax_station_write(owner->counters[owner->at], owner->sums[owner->at], LENT(station));
+    case WRITE_SET:
+        return write_set(owner, station);
     case COMMIT:
         return wax_station_commit(LENT(station));
     case ABORT:
@@ -396,7 +436,7 @@ static uint32_t call(const struct owner *owner, struct station *station)
 
 static void act(struct line *line, struct owner *owner, size_t i)
 {
-    static const char *const calls[] = { "purge", "begin", "read", "write", "commit", "abort", "rest" };
+    static const char *const calls[] = { "purge", "begin", "read", "write", "write of a set", "commit", "abort", "rest" };
     struct station *station = &line->stations[i];
     const uint32_t number = call(owner, station);
 
@@ -478,10 +518,10 @@ static uint64_t number_at(const uint8_t *bytes, size_t width)
 
 static void print_owners(const struct owner *owners, const uint8_t *kinds)
 {
-    puts("station kind       commits  aborts: deadlock    stale   locked      own");
+    puts("station kind       commits  bottles  aborts: deadlock    stale   locked      own");
     for (size_t i = 0; i < WAX_STATIONS; i++)
-        printf("%7zu %-10s %7" PRIu64 " %17" PRIu64 " %8" PRIu64 " %8" PRIu64 " %8" PRIu64 "\n", i,
-               kinds[i] == WAX_LOCKING ? "locking" : "validating", owners[i].commits,
+        printf("%7zu %-10s %7" PRIu64 " %8" PRIu64 " %17" PRIu64 " %8" PRIu64 " %8" PRIu64 " %8" PRIu64 "\n", i,
+               kinds[i] == WAX_LOCKING ? "locking" : "validating", owners[i].commits, owners[i].bottles,
                owners[i].aborts[WAX_CAUSE_DEADLOCK], owners[i].aborts[WAX_CAUSE_STALE],
                owners[i].aborts[WAX_CAUSE_LOCKED], owners[i].aborts[0]);
 }
@@ -626,6 +666,7 @@ int main(int count, char **texts)
     make_line(&line, kinds);
     for (size_t i = 0; i < WAX_STATIONS; i++) {
         owners[i].left = options.rounds;
+        owners[i].locking = kinds[i] == WAX_LOCKING;
         next_batch(&owners[i]);
     }
     moves = run(&line, owners);

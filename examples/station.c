@@ -83,10 +83,10 @@ static void put_message(uint8_t *message, uint8_t kind, uint8_t page, uint8_t ob
     put_number(message + 4, 4, transaction);
 }
 
-/* Kinds 16 to 18: also values and versions of the page's eight objects; no object is unavailable. */
+/* Kinds 16 to 18: also values and versions of the page's eight objects; no object is unavailable. Kind 16 alone names the object. */
 static void put_page(uint8_t *message, uint8_t kind, uint32_t transaction, const uint64_t *values, const uint32_t *versions)
 {
-    put_message(message, kind, PAGE, OBJECT, transaction);
+    put_message(message, kind, PAGE, kind == WAX_DOWN_PAGE ? OBJECT : 0, transaction);
     for (size_t i = 0; i < 8; i++) {
         put_number(message + 48 + 8 * i, 8, values[i]);
         put_number(message + 112 + 4 * i, 4, versions[i]);
@@ -107,12 +107,14 @@ static uint32_t server_check(const uint8_t *bytes, size_t length)
     return wax_up_check(kinds, sizeof kinds, bytes, length);
 }
 
-/* The message to be sent is this request. */
+/* The message to be sent is this request; a write request names a set of objects, here of one. */
 static void expect_request(const char *call, uint8_t kind, uint32_t transaction)
 {
     uint8_t request[WAX_MESSAGE_LENGTH];
 
-    put_message(request, kind, PAGE, OBJECT, transaction);
+    put_message(request, kind, PAGE, kind == READ_REQUEST ? OBJECT : 0, transaction);
+    if (kind != READ_REQUEST)
+        request[16] = 1 << OBJECT;
     stop_unless(memcmp(lent.messages, request, sizeof request) == 0, call, "another message");
     stop_unless(server_check(lent.messages, WAX_MESSAGE_LENGTH) == WAX_OK, call, "a message that the server refuses");
     printf("    to the server: %s request for page %d, object %d\n", kind == READ_REQUEST ? "read" : "write", PAGE, OBJECT);

@@ -45,9 +45,9 @@ extern "C" {
 #endif
 
 /* Of this header; the library has no number of its own. waxwingrack.pc has the same. */
-#define WAX_VERSION       "1.11.0"
+#define WAX_VERSION       "1.12.0"
 #define WAX_VERSION_MAJOR 1
-#define WAX_VERSION_MINOR 11
+#define WAX_VERSION_MINOR 12
 #define WAX_VERSION_PATCH 0
 
 /* Stack that the deepest call takes, its own frame and those below it, in bytes, and the deepest call of a station or the server;
@@ -89,6 +89,7 @@ extern "C" {
 #define WAX_LIMIT          48   /* the most objects that one transaction reads, and the most that it writes */
 #define WAX_LONGEST_SENT   880  /* WAX_RECORD_LENGTH(WAX_LIMIT, WAX_LIMIT): no record that a server leaves is longer */
 #define WAX_ADDRESSES      256  /* 32 pages of 8 objects */
+#define WAX_OBJECTS        8    /* of a page */
 #define WAX_STATIONS       8
 #define WAX_FIELDS         7    /* numbers that wax_archive_read gives */
 #define WAX_ENTRY_FIELDS   2    /* numbers that wax_archive_entry gives */
@@ -368,7 +369,7 @@ uint32_t wax_counts_entry(const uint8_t *file, size_t length, size_t at, uint32_
  *
  * A station's state is WAX_STATION_LENGTH bytes that the host keeps and lends to every call (docs/STATE.md has their meaning).
  * Bytes that no call can leave and that a rule would trip over are no state: WAX_BUFFER. What is taken stays so. A state of a
- * version before 1.11.0 has another length, and is none; a message of then, of 112 bytes, is WAX_LENGTH.
+ * version before 1.12.0 has another length, and is none. A message of one before 1.11.0, of 112 bytes, is WAX_LENGTH.
  * Each call takes two more buffers and the place for what it tells:
  *
  *   messages  at least WAX_STATION_MESSAGES bytes: messages of WAX_MESSAGE_LENGTH bytes for the server, one behind the other
@@ -399,7 +400,7 @@ uint32_t wax_counts_entry(const uint8_t *file, size_t length, size_t at, uint32_
 
 #define WAX_MESSAGE_LENGTH   144
 #define WAX_COMMIT_LENGTH    1408 /* of the longest: WAX_COMMIT_LENGTH_OF(WAX_LIMIT, WAX_LIMIT) */
-#define WAX_STATION_LENGTH   8633
+#define WAX_STATION_LENGTH   8690
 #define WAX_STATION_MESSAGES 1152 /* 8 messages */
 
 /* Where every message has its kind and the station on whose line it goes. The other bytes are the library's own business. */
@@ -416,7 +417,7 @@ uint32_t wax_counts_entry(const uint8_t *file, size_t length, size_t at, uint32_
 #define WAX_UP_DONE           7
 #define WAX_UP_WRITTEN_SET    8
 #define WAX_DOWN_PAGE         16
-#define WAX_DOWN_OBJECT_LOCK  17 /* a page, with a lock on the object */
+#define WAX_DOWN_OBJECT_LOCK  17 /* a page, with locks on the objects asked for */
 #define WAX_DOWN_WHOLE_LOCK   18 /* a page, with a lock on all of it */
 #define WAX_DOWN_DEESCALATE   19
 #define WAX_DOWN_CALLBACK     20
@@ -471,6 +472,7 @@ uint32_t wax_station_fresh(uint32_t station, uint32_t kind, uint8_t *state, size
  *   begin   WAX_WAITING, WAX_OPEN, WAX_SPENT                tells WAX_BEGUN
  *   read    WAX_RANGE (address above 255), WAX_WAITING, WAX_CLOSED, WAX_LONG    tells WAX_VALUE or WAX_WAITS
  *   write   the same                                        tells WAX_WRITTEN or WAX_WAITS
+ *   write_set  WAX_RANGE (below), WAX_WAITING, WAX_CLOSED, WAX_LONG             tells WAX_WRITTEN or WAX_WAITS
  *   commit  WAX_WAITING, WAX_CLOSED                         tells WAX_WAITS
  *   abort   WAX_WAITING, WAX_CLOSED                         tells WAX_ABORTED, value 0
  *   purge   WAX_RANGE (page above 31), WAX_WAITING (it is the requested page), WAX_KEPT    tells WAX_PURGED
@@ -478,6 +480,16 @@ uint32_t wax_station_fresh(uint32_t station, uint32_t kind, uint8_t *state, size
  * WAX_LONG is for an object that the transaction would be the first time to read, or to write, where it has recorded WAX_LIMIT
  * reads, or written WAX_LIMIT objects. What it has read or written before it may read and write again. The transaction stays
  * open: its owner commits what there is, or aborts.
+ *
+ * write_set writes several objects of one page at once. In set bit i is object i of the page; values[i] is what is written to it,
+ * and values of objects outside the set are not looked at. values has at least WAX_OBJECTS numbers, else WAX_BUFFER. What is under
+ * no lock yet is asked for by one request, which is granted as a whole: the owner has all of the set, or waits for all of it and
+ * holds none of what it asked for. WAX_RANGE: page above 31, set 0 or above 255, or more than one object at a validating station,
+ * which asks for no locks. WAX_LONG is for the whole set. A set of one object is what write does.
+ *
+ *   const uint64_t values[WAX_OBJECTS] = { frames, 0, rejected, 0, 0, faults };
+ *   wax_station_write_set(1, 1u << 0 | 1u << 2 | 1u << 5, values, WAX_OBJECTS, state, sizeof state,
+ *                         messages, sizeof messages, commit, sizeof commit, told, WAX_TOLD);
  */
 uint32_t wax_station_begin(uint8_t *state, size_t state_length, uint8_t *messages, size_t messages_length,
                            uint8_t *commit, size_t commit_length, uint64_t *told, size_t told_length);
@@ -486,6 +498,9 @@ uint32_t wax_station_read(uint32_t address, uint8_t *state, size_t state_length,
 uint32_t wax_station_write(uint32_t address, uint64_t value, uint8_t *state, size_t state_length,
                            uint8_t *messages, size_t messages_length, uint8_t *commit, size_t commit_length,
                            uint64_t *told, size_t told_length);
+uint32_t wax_station_write_set(uint32_t page, uint32_t set, const uint64_t *values, size_t values_length,
+                               uint8_t *state, size_t state_length, uint8_t *messages, size_t messages_length,
+                               uint8_t *commit, size_t commit_length, uint64_t *told, size_t told_length);
 uint32_t wax_station_commit(uint8_t *state, size_t state_length, uint8_t *messages, size_t messages_length,
                             uint8_t *commit, size_t commit_length, uint64_t *told, size_t told_length);
 uint32_t wax_station_abort(uint8_t *state, size_t state_length, uint8_t *messages, size_t messages_length,

@@ -110,6 +110,9 @@ impl<W: Write> Line<W> {
             Call::Write(station, address, value) => {
                 self.ask(station, |lent| stations::write(address.into(), value, lent))
             }
+            Call::WriteSet(station, page, set, values) => self.ask(station, |lent| {
+                stations::write_set(page, set.into(), &values, lent)
+            }),
             Call::Commit(station) => self.ask(station, stations::commit),
             Call::Abort(station) => self.ask(station, stations::abort),
             Call::Purge(station, page) => self.ask(station, |lent| stations::purge(page, lent)),

@@ -37,6 +37,7 @@ fn run(settings: &Settings) -> Result<bool, String> {
     let mut shift = begun(settings.seed, settings.frames, archive);
     shift.pace = settings.pace;
     shift.turns = settings.shares.map(Turns::new);
+    shift.staff.sets = settings.sets;
     shift.stretch = chart.map(|chart| Stretch::new(shift.kinds, chart.from, chart.calls));
     work(&mut shift, settings)?;
     let played = played(&settings.archive, &settings.playback)?;

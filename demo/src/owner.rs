@@ -2,6 +2,7 @@
 
 use crate::counters::Counts;
 use second::line::call::Call;
+use second::line::sets::{address, rising, ObjectSet, OBJECTS};
 use second::line::Answer;
 
 #[derive(Clone, Copy, Debug, PartialEq, Eq)]
@@ -10,6 +11,8 @@ pub enum Step {
     Read(u8),
     /// Write what was read of this counter, and so much more.
     Add(u8, u64),
+    /// The same of counters of a page, all at once: page, set, and how much more each.
+    AddSet(u8, ObjectSet, [u64; OBJECTS]),
     /// Write what was read of the first counter into the second.
     Copy(u8, u8),
     Commit,
@@ -74,6 +77,13 @@ impl Owner {
             Step::Begin => Call::Begin(station),
             Step::Read(address) => Call::Read(station, address),
             Step::Add(address, more) => Call::Write(station, address, read(address) + more),
+            Step::AddSet(page, set, more) => {
+                let mut values = more;
+                for object in rising(set) {
+                    values[object as usize] += read(address(page, object));
+                }
+                Call::WriteSet(station, page.into(), set, values)
+            }
             Step::Copy(from, to) => Call::Write(station, to, read(from)),
             Step::Commit => Call::Commit(station),
             Step::Abort => Call::Abort(station),

@@ -32,6 +32,8 @@ pub struct Settings {
     pub shares: Option<Shares>,
     /// The panel is driven by registers.
     pub window: bool,
+    /// Locking heads write sets.
+    pub sets: bool,
     pub archive: String,
     pub playback: String,
     pub chart: Option<Chart>,
@@ -46,7 +48,8 @@ pub struct Chart {
 impl Settings {
     /// The program's own; a wrong one ends it with its usage.
     pub fn read() -> Settings {
-        let options = Options::read(USAGE, &VALUES, &["--window", "--help"]).without_words();
+        let options =
+            Options::read(USAGE, &VALUES, &["--window", "--sets", "--help"]).without_words();
         if options.has("--help") {
             println!("usage: {USAGE}");
             process::exit(0);
@@ -58,6 +61,7 @@ impl Settings {
             pace: at_least_one(&options, "--pace", PACE as u64) as usize,
             shares: shares(&options),
             window: options.has("--window"),
+            sets: options.has("--sets"),
             archive: text("--archive", "target/demo/shift.archive"),
             playback: text("--playback", "target/bin/playback"),
             chart: chart(&options),
@@ -103,7 +107,7 @@ mod tests {
 
     #[test]
     fn the_usage_names_options_and_defaults() {
-        for name in VALUES.into_iter().chain(["--window"]) {
+        for name in VALUES.into_iter().chain(["--window", "--sets"]) {
             assert!(USAGE.contains(&format!("\n  {name} ")), "{name}");
         }
         assert!(USAGE.contains(&format!("frames to count, by default {FRAMES}\n")));

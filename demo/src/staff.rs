@@ -5,7 +5,7 @@ use crate::counters::{
     self, Counts, CLOSED_FRAMES, CLOSED_REJECTED, FRAMES, HEADS, HOURS, REJECTED,
 };
 use crate::owner::Step;
-use second::line::sets::STATIONS;
+use second::line::sets::{object_bit, object_of, page_of, OBJECTS, PAGES, STATIONS};
 use second::line::Kind;
 use second::random::Random;
 
@@ -27,6 +27,8 @@ const LOOK: usize = 60;
 
 #[derive(Default)]
 pub struct Staff {
+    /// Locking heads write what they count on a page at once.
+    pub sets: bool,
     heads: [Head; HEADS],
     pub panel: Panel,
     office: Office,
@@ -79,7 +81,7 @@ impl Staff {
         match station {
             PANEL => self.panel.work(belt, random),
             OFFICE => self.office.work(belt, random),
-            head => self.heads[head].work(),
+            head => self.heads[head].work(self.sets && KINDS[head] == Kind::Locking),
         }
     }
 
@@ -119,14 +121,33 @@ pub fn name(station: usize) -> String {
 }
 
 impl Head {
-    /// Adds all that was seen to its counters.
-    fn work(&mut self) -> Vec<Step> {
+    /// Adds all that was seen to its counters, one by one or as sets.
+    fn work(&mut self, sets: bool) -> Vec<Step> {
         self.batch = std::mem::take(&mut self.seen);
         let adding =
             |(address, more): (&u8, &u64)| [Step::Read(*address), Step::Add(*address, *more)];
         let mut steps = vec![Step::Begin];
-        steps.extend(self.batch.iter().flat_map(adding));
+        match sets {
+            true => steps.extend((0..PAGES as u8).flat_map(|page| self.adding_on(page))),
+            false => steps.extend(self.batch.iter().flat_map(adding)),
+        }
         steps.push(Step::Commit);
+        steps
+    }
+
+    /// Reads its counters of a page, then adds to all of them at once.
+    fn adding_on(&self, page: u8) -> Vec<Step> {
+        let on_page = |(address, _): &(&u8, &u64)| page_of(**address) == page;
+        let mut steps = Vec::new();
+        let (mut set, mut more) = (0, [0; OBJECTS]);
+        for (address, frames) in self.batch.iter().filter(on_page) {
+            steps.push(Step::Read(*address));
+            set |= object_bit(*address);
+            more[object_of(*address) as usize] = *frames;
+        }
+        if set != 0 {
+            steps.push(Step::AddSet(page, set, more));
+        }
         steps
     }
 

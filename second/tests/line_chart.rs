@@ -48,7 +48,7 @@ fn an_arrow_for_each_message() {
     for label in [
         "1 read 8 (t1)",
         "16 page 1 (t1)",
-        "2 write 8 (t1)",
+        "2 write {8} (t1)",
         "20 callback {8} for 0 (t1)",
         "6 busy for 0 (t1)",
         "3 commit (t1): read 8",
@@ -160,7 +160,7 @@ fn a_later_stretch() {
     let svg = drawn.svg;
     // of the nine messages the 1 and the 16 are over; the 2 comes from above
     assert_eq!(arrows(&svg), (7, 0));
-    assert!(svg.contains(">2 write 8 (t1)<") && !svg.contains(">1 read 8 (t1)<"));
+    assert!(svg.contains(">2 write {8} (t1)<") && !svg.contains(">1 read 8 (t1)<"));
     assert!(svg.contains("A busy callback") && svg.contains("the owner of 0 can do nothing"));
     assert!(!svg.contains("write 8=5") && svg.contains("refused 7"));
     // behind the 20, and behind the note

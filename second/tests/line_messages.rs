@@ -13,6 +13,8 @@ fn samples() -> Vec<(Message, Vec<usize>)> {
         .chain(16..17)
         .chain(48..144)
         .collect();
+    // 17 and 18 name no object
+    let lock_places: Vec<usize> = page_places.iter().copied().filter(|at| *at != 3).collect();
     let on_object: Vec<usize> = (1..8).collect();
     let transaction: Vec<usize> = [1].into_iter().chain(4..8).collect();
     let second: Vec<usize> = [1, 2].into_iter().chain(4..8).collect();
@@ -20,16 +22,16 @@ fn samples() -> Vec<(Message, Vec<usize>)> {
         places.iter().copied().chain(more).collect()
     };
     vec![
-        (read(2, 1, 0, 1), on_object.clone()),
-        (write(2, 1, 0, 1), on_object.clone()),
+        (read(2, 1, 0, 1), on_object),
+        (write(2, 1, 0, 1), with(&second, 16..17)),
         (abort(2, 1), transaction.clone()),
         (purge(2, 1), vec![1, 2]),
         (busy(2, 1, 1), second.clone()),
         (done(2, 1, 1, 0), with(&second, 8..12)),
         (written_set(2, 1, 1, 1), with(&second, 16..17)),
-        (page(16, 2, 1, 0, 1), page_places.clone()),
-        (page(17, 2, 1, 0, 1), page_places.clone()),
-        (page(18, 2, 1, 0, 1), page_places),
+        (page(16, 2, 1, 0, 1), page_places),
+        (page(17, 2, 1, 0, 1), lock_places.clone()),
+        (page(18, 2, 1, 0, 1), lock_places),
         (de_escalate(2, 1, 1), second.clone()),
         (callback(2, 1, 1, &[]), with(&second, 16..48)),
         (committed(2, 1, 1), with(&transaction, 12..16)),
@@ -107,6 +109,24 @@ fn ranges() {
         }
         if message.kind == 21 {
             check(12, 0, true);
+        }
+    }
+}
+
+/// Document 02, reading 20: "the empty set is 4 before 6, also from a validating station".
+#[test]
+fn sets_of_write_requests() {
+    for set in 0..=255 {
+        let number = number(&format!("serverraw {}", writes(2, 1, set, 1).hex()));
+        assert_eq!(number, if set == 0 { 4 } else { 0 }, "{set}");
+    }
+    let mut line = Line::fresh("01000000");
+    line.server_refuses(&writes(1, 1, 0, 1), 4);
+    line.server_refuses(&writes(1, 1, 3, 1), 6);
+    // 17 and 18 may have any unavailable set
+    for kind in [17, 18] {
+        for set in [0, 1, 255] {
+            line.station_refuses(&page(kind, 2, 1, 0, 1).unavailable(set), 6);
         }
     }
 }

@@ -47,10 +47,11 @@ impl Compiled {
     }
 }
 
-/// Page 1, object 0, transaction 1 of station 0.
+/// Page 1, object 0, transaction 1 of station 0; a request to write names the object by its set.
 fn request(kind: u8) -> [u8; 144] {
     let mut message = [0; 144];
     message[..5].copy_from_slice(&[kind, 0, 1, 0, 1]);
+    message[16] = u8::from(kind == 2);
     message
 }
 
@@ -147,7 +148,7 @@ fn replies_agree() {
 }
 
 /// A waiter's request outside its sets, which led to a lock beside another's whole lock, is number 1: station 0 waits to
-/// write address 9, its written set names address 16, and station 1 holds page 1 whole. With 9 in the set it is asked for.
+/// write on page 1, its written set names address 16, and station 1 holds page 1 whole. With 9 in the set it is asked for.
 #[test]
 fn a_request_outside_its_set() {
     let mut server = Compiled::fresh(&[0; 8]);
@@ -162,7 +163,7 @@ fn a_request_outside_its_set() {
         (Field::Unfinished, 0, 1),
         (Field::Unfinished, 1, 1),
         (Field::Want, 0, 2),
-        (Field::Request, 0, 9),
+        (Field::Request, 0, 8),
         (Field::WrittenSet, 2, 1),
         (Field::Whole, 1, 2),
     ];

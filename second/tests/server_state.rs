@@ -233,6 +233,27 @@ fn number_1_entries() {
     assert!(valid(&with(&good, Field::ReadSet.start() + 32, 255)));
 }
 
+/// "of a waiting write objects of the requested page alone, at least one", its request "a multiple of 8"
+#[test]
+fn number_1_of_a_write() {
+    let both = "begin 2; write 2 8 6; server 2; station 2; begin 0; ";
+    let waits = encode(&behind(&format!("{both}writes 0 1 6 5 5; server 0")).server);
+    assert!(valid(&waits));
+    assert_eq!(Field::Want.byte_of(&waits, 0), 2);
+    assert_eq!(Field::Request.byte_of(&waits, 0), 8);
+    assert_eq!(Field::WrittenSet.sets(&waits, 0).on(1), 0b110);
+    let put = |field: Field, at: usize, byte: u8| valid(&with(&waits, field.start() + at, byte));
+    for byte in 1..=255 {
+        assert!(put(Field::WrittenSet, 1, byte), "{byte}");
+    }
+    assert!(!put(Field::WrittenSet, 1, 0));
+    assert!(!put(Field::WrittenSet, 0, 1) && !put(Field::WrittenSet, 2, 1));
+    assert!(!put(Field::ReadSet, 1, 2));
+    for byte in (0..=255).filter(|byte| *byte != 8) {
+        assert!(!put(Field::Request, 0, byte), "{byte}");
+    }
+}
+
 /// "other, locking stations; 0 unless called is 1", "a part of pend"
 #[test]
 fn number_1_callbacks() {

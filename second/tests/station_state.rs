@@ -37,9 +37,9 @@ fn busy() -> Vec<u8> {
 #[test]
 fn the_fields_are_the_tables() {
     assert_eq!(rows("A station's state"), fields::<Field>());
-    assert_eq!(Field::Address.range().end, LENGTH);
+    assert_eq!(Field::WaitingSet.range().end, LENGTH);
     assert_eq!(Field::of(0), Some(Field::Copy));
-    assert_eq!(Field::of(8_235), Some(Field::Number));
+    assert_eq!(Field::of(8_291), Some(Field::Number));
     assert_eq!(Field::of(LENGTH), None);
 }
 
@@ -47,7 +47,7 @@ fn the_fields_are_the_tables() {
 #[test]
 fn fresh() {
     let bytes = encode(&Station::fresh(5, Kind::Validating, 0));
-    assert_eq!(not_zero(&bytes), [(8_628, 5), (8_629, 1)]);
+    assert_eq!(not_zero(&bytes), [(8_684, 5), (8_685, 1)]);
 }
 
 #[test]
@@ -66,17 +66,70 @@ fn a_state_place_by_place() {
     assert_eq!(Field::Whole.word(&bytes, 0), 0b100);
     assert_eq!(Field::ReadSet.sets(&bytes, 0), Addresses::one(8));
     assert_eq!(Field::WrittenSet.sets(&bytes, 0), Addresses::one(17));
-    assert_eq!(bytes[8_628..], [0, 0, 1, 1, 40]);
+    assert_eq!(bytes[8_684..], [0, 0, 1, 1, 40, 0]);
 }
 
-/// "the waiting value": of a write only.
+/// "its page × 8", the set and its values: of a write only.
 #[test]
 fn a_waiting_write() {
     let (_, bytes) = behind("begin 0; write 0 9 77");
-    assert_eq!(bytes[Field::WaitingValue.start()], 77);
-    assert_eq!(bytes[8_628..], [0, 0, 1, 2, 9]);
+    assert_eq!(Field::WaitingValues.long(&bytes, 1), 77);
+    assert_eq!(bytes[8_684..], [0, 0, 1, 2, 8, 0b10]);
     let (_, bytes) = behind("begin 0; commit 0");
-    assert_eq!(bytes[8_628..], [0, 0, 1, 3, 0]);
+    assert_eq!(bytes[8_684..], [0, 0, 1, 3, 0, 0]);
+}
+
+/// Document 02, wish 9: values outside the set keep their bytes, and those locked before stand in the set too.
+#[test]
+fn a_waiting_set() {
+    let others = "begin 2; read 2 15; server 2; station 2; ";
+    let locked = "begin 0; write 0 9 5; server 0; station 2; server 2; station 0; ";
+    let (station, mut bytes) = behind(&format!("{others}{locked}writes 0 1 7 71 72 73"));
+    assert_eq!(bytes[8_684..], [0, 0, 1, 2, 8, 0b111]);
+    let values = |bytes: &[u8]| [0, 1, 2, 3].map(|object| Field::WaitingValues.long(bytes, object));
+    assert_eq!(values(&bytes), [71, 72, 73, 0]);
+    assert_eq!(Field::Locks.sets(&bytes, 0), Addresses::one(9));
+    assert_eq!(decode(&bytes), Some(station));
+    let (other, _) = behind("begin 0; writes 0 3 9 81 82");
+    lay(&other, &mut bytes);
+    assert_eq!(bytes[8_684..], [0, 0, 1, 2, 24, 0b1001]);
+    assert_eq!(values(&bytes), [81, 72, 73, 82]);
+}
+
+/// "a multiple of 8 while a write is out", "not 0 while a write is out"
+#[test]
+fn number_1_of_a_write() {
+    let (_, writes) = behind("begin 0; writes 0 1 7 71 72 73");
+    let (_, reads) = behind("begin 0; read 0 9");
+    let put = |bytes: &[u8], field: Field, byte: u8| valid(&with(bytes, field.start(), byte));
+    for byte in 0..=255 {
+        assert_eq!(put(&writes, Field::Address, byte), byte % 8 == 0, "{byte}");
+        assert_eq!(put(&writes, Field::WaitingSet, byte), byte != 0, "{byte}");
+        assert!(put(&reads, Field::Address, byte) && put(&reads, Field::WaitingSet, byte));
+    }
+}
+
+/// "at most 48 objects, those of the write that is out counted with them"
+#[test]
+fn number_1_of_a_long_set() {
+    let (_, bytes) = behind("begin 0; writes 0 30 15 1 2 3 4");
+    let with_written = |count: usize, more: u8| {
+        let mut bytes = bytes.clone();
+        let mut written = Addresses([255; 32]).lowest(count);
+        written.join(30, more);
+        Field::WrittenSet.put_sets(&mut bytes, 0, &written);
+        valid(&bytes)
+    };
+    // of the four that wait so many are written before
+    for (count, more, fits) in [
+        (44, 0, true),
+        (45, 0, false),
+        (44, 7, true),
+        (44, 16, false),
+    ] {
+        assert_eq!(with_written(count, more), fits, "{count} {more}");
+    }
+    assert!(with_written(43, 16) && !with_written(44, 255));
 }
 
 #[test]
@@ -97,7 +150,10 @@ fn number_1() {
         }
     }
     for wait in 0..=3 {
-        assert!(valid(&with(&good, Field::Wait.start(), wait)));
+        // a write has a set
+        let asks = with(&good, Field::WaitingSet.start(), 1);
+        assert!(valid(&with(&asks, Field::Wait.start(), wait)));
+        assert_eq!(valid(&with(&good, Field::Wait.start(), wait)), wait != 2);
     }
     for station in 0..=255 {
         let bytes = with(&good, Field::Station.start(), station);
@@ -155,6 +211,7 @@ fn number_1_of_a_read() {
         assert!(valid(&with(&open, field.start() + 5, 2)), "{field:?}");
         let mut writes = with(&open, field.start() + 5, 1);
         Field::Wait.put_byte(&mut writes, 2);
+        Field::WaitingSet.put_byte(&mut writes, 1);
         assert!(valid(&writes), "{field:?}");
     }
 }
@@ -245,9 +302,10 @@ fn leftovers() {
     for field in [
         Field::ReadValue,
         Field::WrittenValue,
-        Field::WaitingValue,
+        Field::WaitingValues,
         Field::Named,
         Field::Address,
+        Field::WaitingSet,
     ] {
         assert_eq!(after[field.range()], before[field.range()], "{field:?}");
     }

@@ -3,6 +3,7 @@
 use second::line::counts::Counts;
 use second::line::hot::{self, Hot};
 use second::line::neighbours::{self, Tally};
+use second::line::rejects::{self, Habit};
 use second::line::runs::{self, Failed};
 use second::options::Options;
 use std::panic;
@@ -10,7 +11,7 @@ use std::process;
 use std::sync::atomic::{AtomicU64, Ordering};
 use std::time::{Duration, Instant};
 
-const USAGE: &str = "line_runs [--seed N|random] [--runs N] [--seconds N] [--calls N] [--hot | --neighbours]
+const USAGE: &str = "line_runs [--seed N|random] [--runs N] [--seconds N] [--calls N] [--hot | --neighbours | --rejects]
   --seed     of the first run; each next run's is one more
   --runs     how many, 10000 if nothing is said; with --seconds no end but the time's
   --seconds  stop after so long
@@ -18,7 +19,9 @@ const USAGE: &str = "line_runs [--seed N|random] [--runs N] [--seconds N] [--cal
   --hot      instead, hot counters: how often the same station is beaten in a row, without and with kept ages;
              100 runs of 20000 calls if nothing is said
   --neighbours  instead, validating heads on neighbouring objects: aborts, messages and bytes for each commit, with versions
-             of pages and of objects; as many runs and calls";
+             of pages and of objects; as many runs and calls
+  --rejects  instead, locking heads that touch three counters of one page: how often they lose, with a request for each counter
+             and with one for the set; as many runs and calls";
 
 /// Of the run being made.
 static SEED: AtomicU64 = AtomicU64::new(0);
@@ -59,15 +62,17 @@ fn settings() -> Settings {
     let options = Options::read(
         USAGE,
         &["--seed", "--runs", "--seconds", "--calls"],
-        &["--hot", "--neighbours"],
+        &["--hot", "--neighbours", "--rejects"],
     );
     let options = options.without_words();
     let timed = options.has("--seconds");
-    let figures: Option<fn(&Settings)> = match (options.has("--hot"), options.has("--neighbours")) {
-        (true, _) => Some(hot_counters),
-        (_, true) => Some(neighbours),
-        _ => None,
-    };
+    let all: [(&str, fn(&Settings)); 3] = [
+        ("--hot", hot_counters),
+        ("--neighbours", neighbours),
+        ("--rejects", rejected_bottles),
+    ];
+    let asked = all.into_iter().find(|(name, _)| options.has(name));
+    let figures = asked.map(|(_, figures)| figures);
     let runs = match (timed, figures.is_some()) {
         (true, _) => u64::MAX,
         (_, true) => 100,
@@ -118,6 +123,25 @@ fn neighbours(settings: &Settings) {
         println!("{heads} heads, {runs} runs of {} calls", settings.calls);
         println!("versions of pages:   {by_page}");
         println!("versions of objects: {by_object}");
+    }
+}
+
+/// The same of two heads, four and eight, each with and without a set.
+fn rejected_bottles(settings: &Settings) {
+    for heads in [2, 4, 8] {
+        for reads in [false, true] {
+            let habit = |as_set: bool| rejects::Tally::of(Habit { reads, as_set });
+            let [mut single, mut sets] = [false, true].map(habit);
+            let runs = each_run(settings, |seed| {
+                single.run(heads, seed, settings.calls);
+                sets.run(heads, seed, settings.calls);
+            });
+            let first = if reads { "read first" } else { "not read" };
+            let calls = settings.calls;
+            println!("{heads} heads, {runs} runs of {calls} calls, counters {first}");
+            println!("a request for each: {single}");
+            println!("one for the set:    {sets}");
+        }
     }
 }
 

@@ -2,7 +2,7 @@
 
 use crate::line::call::Call;
 use crate::line::message::{Commit, Down, Grant, PageMessage, Up};
-use crate::line::sets::{address, page_of, rising, Addresses, PageSet, STATIONS};
+use crate::line::sets::{address, page_of, rising, Addresses, PageSet, OBJECTS, STATIONS};
 use crate::line::{Answer, Kind};
 use crate::record::Record;
 
@@ -14,9 +14,14 @@ pub fn up(message: &Up, kind: Kind) -> String {
             transaction,
         } => format!("1 read {address} (t{transaction})"),
         Up::Write {
-            address,
+            page,
+            objects,
             transaction,
-        } => format!("2 write {address} (t{transaction})"),
+        } => {
+            let mut set = Addresses::default();
+            set.join(*page, *objects);
+            format!("2 write {} (t{transaction})", braces(&set))
+        }
         Up::Commit(commit) => format!("3 {}", committing(commit, kind)),
         Up::Abort { transaction } => format!("4 abort (t{transaction})"),
         Up::Purge { page } => format!("5 purge page {page}"),
@@ -78,7 +83,7 @@ fn page_message(message: &PageMessage, kind: Kind) -> String {
     let page = page_of(message.address);
     let lock = match message.grant {
         Grant::Page => String::new(),
-        Grant::Object => format!(", lock on {}", message.address),
+        Grant::Object => String::from(", object locks"),
         Grant::Whole => String::from(", whole lock"),
     };
     let version = match kind {
@@ -189,6 +194,14 @@ pub fn call(call: &Call) -> String {
         Call::Begin(_) => String::from("begin"),
         Call::Read(_, address) => format!("read {address}"),
         Call::Write(_, address, value) => format!("write {address}={value}"),
+        Call::WriteSet(_, page, set, values) => {
+            let write = |object: u8| {
+                let address = u32::from(object) + page * OBJECTS as u32;
+                format!("{address}={}", values[object as usize])
+            };
+            let writes: Vec<String> = rising(*set).map(write).collect();
+            format!("write {}", writes.join(" "))
+        }
         Call::Commit(_) => String::from("commit"),
         Call::Abort(_) => String::from("abort"),
         Call::Purge(_, page) => format!("purge page {page}"),

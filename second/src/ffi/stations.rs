@@ -60,6 +60,7 @@ lending! {
     fn wax_station_begin();
     fn wax_station_read(address: u32);
     fn wax_station_write(address: u32, value: u64);
+    fn wax_station_write_set(page: u32, set: u32, values: *const u64, values_length: usize);
     fn wax_station_commit();
     fn wax_station_abort();
     fn wax_station_purge(page: u32);
@@ -85,6 +86,12 @@ pub fn read(address: u32, lent: &mut Lent) -> u32 {
 #[inline]
 pub fn write(address: u32, value: u64, lent: &mut Lent) -> u32 {
     unsafe { wax_station_write(address, value, lent) }
+}
+
+#[inline]
+pub fn write_set(page: u32, set: u32, values: &[u64], buffers: &mut Lent) -> u32 {
+    let (values, length) = lent(values);
+    unsafe { wax_station_write_set(page, set, values, length, buffers) }
 }
 
 #[inline]
@@ -115,6 +122,7 @@ pub fn call(operation: &Operation, lent: &mut Lent) -> u32 {
         Operation::Begin => begin(lent),
         Operation::Read(address) => read(*address, lent),
         Operation::Write(address, value) => write(*address, *value, lent),
+        Operation::WriteSet(page, set, values) => write_set(*page, *set, values, lent),
         Operation::Commit => commit(lent),
         Operation::Abort => abort(lent),
         Operation::Purge(page) => purge(*page, lent),

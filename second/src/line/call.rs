@@ -1,7 +1,7 @@
 //! Calls and replies as text: a command a line, exactly one reply line each.
 
 use super::server::Server;
-use super::sets::STATIONS;
+use super::sets::{rising, ObjectSet, OBJECTS, STATIONS};
 use super::station::Station;
 use super::world::{Outcome, Reply, ServerEnd, StationEnd, World};
 use super::{Answer, Kind};
@@ -16,6 +16,8 @@ pub enum Call {
     Begin(u8),
     Read(u8, u8),
     Write(u8, u8, u64),
+    /// Page, set and a value for each object; those outside the set are 0.
+    WriteSet(u8, u32, ObjectSet, [u64; OBJECTS]),
     Commit(u8),
     Abort(u8),
     Purge(u8, u32),
@@ -38,6 +40,10 @@ impl Call {
             ("begin", [s]) => Call::Begin(station(s)?),
             ("read", [s, a]) => Call::Read(station(s)?, number(a)?),
             ("write", [s, a, v]) => Call::Write(station(s)?, number(a)?, number(v)?),
+            ("writes", [s, page, set, values @ ..]) => {
+                let set = number(set)?;
+                Call::WriteSet(station(s)?, number(page)?, set, values_of(set, values)?)
+            }
             ("commit", [s]) => Call::Commit(station(s)?),
             ("abort", [s]) => Call::Abort(station(s)?),
             ("purge", [s, page]) => Call::Purge(station(s)?, number(page)?),
@@ -55,6 +61,7 @@ impl Call {
             Call::Begin(station)
             | Call::Read(station, _)
             | Call::Write(station, _, _)
+            | Call::WriteSet(station, ..)
             | Call::Commit(station)
             | Call::Abort(station)
             | Call::Purge(station, _)
@@ -84,6 +91,19 @@ fn station(word: &str) -> Option<u8> {
 fn latest_numbers(words: &[&str]) -> Option<[u32; STATIONS]> {
     let latest: Option<Vec<u32>> = words.iter().map(|word| number(word)).collect();
     latest?.try_into().ok()
+}
+
+/// "one value for each bit of SET, objects rising"
+fn values_of(set: ObjectSet, words: &[&str]) -> Option<[u64; OBJECTS]> {
+    let mut values = [0; OBJECTS];
+    let objects: Vec<u8> = rising(set).collect();
+    if objects.len() != words.len() {
+        return None;
+    }
+    for (object, word) in objects.into_iter().zip(words) {
+        values[object as usize] = number(word)?;
+    }
+    Some(values)
 }
 
 fn bytes_of(hex: &str) -> Option<Vec<u8>> {
@@ -129,6 +149,10 @@ impl Display for Call {
             Call::Begin(s) => write!(f, "begin {s}"),
             Call::Read(s, address) => write!(f, "read {s} {address}"),
             Call::Write(s, address, value) => write!(f, "write {s} {address} {value}"),
+            Call::WriteSet(s, page, set, values) => {
+                write!(f, "writes {s} {page} {set}")?;
+                rising(*set).try_for_each(|object| write!(f, " {}", values[object as usize]))
+            }
             Call::Commit(s) => write!(f, "commit {s}"),
             Call::Abort(s) => write!(f, "abort {s}"),
             Call::Purge(s, page) => write!(f, "purge {s} {page}"),

@@ -379,6 +379,7 @@ fn may_refuse(call: &Call) -> &'static [u8] {
     match call {
         Call::Begin(_) => &[7, 9, 11],
         Call::Read(..) | Call::Write(..) => &[7, 8, 15],
+        Call::WriteSet(..) => &[4, 7, 8, 15],
         Call::Commit(_) | Call::Abort(_) => &[7, 8],
         Call::Purge(..) => &[4, 7, 10],
         Call::Server(_) | Call::ServerRaw(_) => &[2, 3, 4, 5, 6],

@@ -46,11 +46,68 @@ pub struct Counts {
     pub with_unavailable: u64,
     /// 7s that drop no page.
     pub dropping_nothing: u64,
+    pub sets: Sets,
     pub longest_line: usize,
     pub longest_list: usize,
     pub most_sent_by_server: usize,
     pub most_sent_by_station: usize,
     pub most_records: usize,
+}
+
+/// Document 02, wish 9: what became of sets of several objects.
+#[derive(Clone, Debug, Default, PartialEq, Eq)]
+pub struct Sets {
+    /// Written at the call.
+    pub at_once: u64,
+    /// Asked for, all of them, and those under no lock yet alone.
+    pub whole: u64,
+    pub in_part: u64,
+    /// 20s, 17s and 18s for one; 17s name nothing, so what waits at the station tells.
+    pub called_back: u64,
+    pub granted: [u64; 2],
+    /// Refused for number 15, and for number 4.
+    pub long: u64,
+    pub range: u64,
+}
+
+impl Sets {
+    fn note(&mut self, set: u8, reply: &Reply) {
+        if set.count_ones() < 2 {
+            return;
+        }
+        match reply {
+            Reply::Refused(Number::Long) => self.long += 1,
+            Reply::Refused(Number::Range) => self.range += 1,
+            Reply::Accepted(outcome) => match outcome.sent.first() {
+                None => self.at_once += 1,
+                Some(request) if Field::Sets.byte(request) == set => self.whole += 1,
+                Some(_) => self.in_part += 1,
+            },
+            _ => (),
+        }
+    }
+
+    /// A page to a station whose write of so many objects is out.
+    fn granted(&mut self, kind: u8, objects: u32) {
+        if let (17 | 18, 2..) = (kind, objects) {
+            self.granted[usize::from(kind) - 17] += 1;
+        }
+    }
+
+    fn missing(&self) -> Option<&'static str> {
+        let reached = [
+            (self.at_once, "a set written at once"),
+            (self.whole, "a set asked for"),
+            (self.in_part, "a set asked for in part"),
+            (self.called_back, "a set called back"),
+            (self.granted[0], "a set granted by 17"),
+            (self.granted[1], "a set granted by 18"),
+            (self.long, "a set refused for its length"),
+            (self.range, "a set of a validating station"),
+        ];
+        let missed = reached.into_iter().find(|(count, _)| *count == 0);
+        missed.map(|(_, what)| what)
+    }
 }
 
 impl Counts {
@@ -62,6 +119,9 @@ impl Counts {
     /// A call, the message that it took or was given, and what it came to.
     pub fn note(&mut self, call: &Call, taken: Option<&[u8]>, reply: &Reply, world: &World) {
         self.calls += 1;
+        if let Call::WriteSet(_, _, set, _) = call {
+            self.sets.note(*set, reply);
+        }
         match reply {
             Reply::Refused(number) => self.numbers_of(call)[*number as usize] += 1,
             Reply::Accepted(outcome) => {
@@ -118,7 +178,12 @@ impl Counts {
             22 => self.causes[Field::ObjectOrCause.byte(message) as usize] += 1,
             8 => self.empty_8 += u64::from(Field::Sets.byte(message) == 0),
             7 => self.dropping_nothing += u64::from(Field::Pages.word(message, 0) == 0),
-            16..=18 => self.with_unavailable += u64::from(Field::Sets.byte(message) != 0),
+            16..=18 => {
+                self.with_unavailable += u64::from(Field::Sets.byte(message) != 0);
+                self.sets
+                    .granted(kind, world.stations[station as usize].asks_for());
+            }
+            20 => self.sets.called_back += u64::from(Field::Sets.sets(message, 0).count() > 1),
             _ => (),
         }
         let length = world.up_length(station).max(world.down_length(station));
@@ -140,6 +205,7 @@ impl Counts {
         all.filter(|(count, _, _)| *count == 0)
             .map(|(_, what, n)| format!("{what} {n}"))
             .next()
+            .or_else(|| self.sets.missing().map(String::from))
     }
 }
 
@@ -169,6 +235,19 @@ impl Display for Counts {
             f,
             "ended by 23: {}, 16 ignored: {}, 8 empty: {}, 7 dropping nothing: {}, pages with unavailable objects: {}, raw accepted: {}",
             self.ended_by_23, self.ignored_16, self.empty_8, self.dropping_nothing, self.with_unavailable, self.raw_accepted
+        )?;
+        let Sets {
+            at_once,
+            whole,
+            in_part,
+            called_back,
+            granted: [objects, pages],
+            long,
+            range,
+        } = self.sets;
+        writeln!(
+            f,
+            "sets of several: {at_once} written at once, {whole} asked for, {in_part} in part, {called_back} 20s, {objects} 17s, {pages} 18s, {long} too long, {range} of validating owners"
         )?;
         writeln!(f, "nothing under way: {} times", self.quiet)?;
         row(

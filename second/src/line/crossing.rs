@@ -2,7 +2,7 @@
 
 use super::call::Call;
 use super::damage::{self, Field, History};
-use super::sets::{address, page_of, rising, PAGES, STATIONS};
+use super::sets::{address, object_bit, page_of, rising, ObjectSet, OBJECTS, PAGES, STATIONS};
 use super::world::{Reply, World};
 use super::Kind;
 use crate::random::Random;
@@ -47,6 +47,8 @@ struct Habits {
     purge: usize,
     /// Of ten accesses so many write.
     writes: usize,
+    /// One in so many writes is of a set, mostly of two to four objects.
+    sets: usize,
     /// One in so many calls holds or frees a line, or makes an owner idle or not.
     hold: usize,
     idle: usize,
@@ -261,17 +263,58 @@ impl Crossing {
         } else if self.purges(number, world) {
             self.purge(number, world)
         } else {
-            self.access(number)
+            self.access(number, world)
         }
     }
 
-    fn access(&mut self, number: u8) -> Call {
+    fn access(&mut self, number: u8, world: &World) -> Call {
         let address = self.random.pick(&self.addresses);
-        if self.random.below(10) < self.habits.writes {
-            Call::Write(number, address, self.new_value())
-        } else {
-            Call::Read(number, address)
+        if self.random.below(10) >= self.habits.writes {
+            return Call::Read(number, address);
         }
+        match self.random.one_in(self.habits.sets) {
+            true => self.write_set(number, address, world),
+            false => Call::Write(number, address, self.new_value()),
+        }
+    }
+
+    /// Objects of this one's page, this one among them.
+    fn write_set(&mut self, number: u8, address: u8, world: &World) -> Call {
+        let several = world.kinds[number as usize] == Kind::Locking || self.random.one_in(8);
+        let more = match several {
+            true => 1 + self.random.below(3),
+            false => 0,
+        };
+        let page = page_of(address);
+        let mut set = object_bit(address);
+        for _ in 0..more {
+            set |= self.neighbour(page);
+        }
+        self.writing(number, page.into(), set)
+    }
+
+    /// Mostly one that others write too.
+    fn neighbour(&mut self, page: u8) -> ObjectSet {
+        let address = self.random.pick(&self.addresses);
+        match page_of(address) == page && !self.random.one_in(4) {
+            true => object_bit(address),
+            false => 1 << self.random.below(OBJECTS),
+        }
+    }
+
+    fn writing(&mut self, number: u8, page: u32, set: ObjectSet) -> Call {
+        let mut values = [0; OBJECTS];
+        for object in rising(set) {
+            values[object as usize] = self.new_value();
+        }
+        Call::WriteSet(number, page, set, values)
+    }
+
+    /// Any page and set, no such page and the empty set among them.
+    fn any_set(&mut self, number: u8) -> Call {
+        let page = self.random.pick(&[0, 1, 31, 32, u32::MAX]);
+        let set = self.random.byte() & self.random.pick(&[0, 3, 255]);
+        self.writing(number, page, set)
     }
 
     /// Each value is written once, so that a read tells whose write it saw.
@@ -294,14 +337,15 @@ impl Crossing {
 
     /// A call that may not fit at all.
     fn any_call(&mut self, number: u8, world: &World) -> Call {
-        match self.random.below(8) {
+        match self.random.below(9) {
             0 => Call::Begin(number),
             1 => Call::Commit(number),
             2 => Call::Abort(number),
             3 => self.purge(number, world),
             4 => Call::Server(number),
             5 => Call::Station(number),
-            _ => self.access(number),
+            6 => self.any_set(number),
+            _ => self.access(number, world),
         }
     }
 }
@@ -384,6 +428,7 @@ fn habits(random: &mut Random) -> Habits {
         abort: random.pick(&[8, 20, 60]),
         purge: random.pick(&[2, 4, 12, 40]),
         writes: random.pick(&[2, 4, 6, 8]),
+        sets: random.pick(&[1, 2, 4, 16, 100_000]),
         hold: random.pick(&[6, 12, 40, 100_000]),
         idle: random.pick(&[30, 100, 100_000]),
         raw: random.pick(&[0, 0, 0, 0, 0, 0, 8, 40]),

@@ -4,7 +4,7 @@ use super::call::Call;
 use super::message::{self, Commit, Down, Grant, PageMessage, Up};
 use super::message::{commit_length, record_place, LENGTH, SHORTEST_COMMIT};
 use super::places::Place;
-use super::sets::{page_bit, page_of, Addresses, PAGES, STATIONS};
+use super::sets::{self, object_bit, page_bit, page_of, Addresses, PAGES, STATIONS};
 use super::world::World;
 use super::{Cause, Kind};
 use crate::random::Random;
@@ -184,7 +184,8 @@ fn up(
             transaction,
         },
         1 => Up::Write {
-            address,
+            page,
+            objects: object_bit(address) | random.byte() & random.pick(&[0, 0, 1, 15, 255]),
             transaction,
         },
         2 => {
@@ -250,7 +251,11 @@ fn down(
     match random.below(8) {
         grant @ 0..=2 => Down::Page(PageMessage {
             grant: [Grant::Page, Grant::Object, Grant::Whole][grant],
-            address,
+            // 17 and 18 name no object
+            address: match grant {
+                0 => address,
+                _ => sets::address(page, 0),
+            },
             transaction,
             versions: std::array::from_fn(|_| random.below(4) as u32),
             unavailable: random.byte() & random.byte(),

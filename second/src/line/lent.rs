@@ -2,6 +2,7 @@
 
 use super::call::Call;
 use super::message;
+use super::sets::OBJECTS;
 use super::station::state;
 use super::station::{Done, Station};
 use super::world::World;
@@ -23,6 +24,8 @@ pub enum Operation {
     Begin,
     Read(u32),
     Write(u32, u64),
+    /// Page, set, and values by object.
+    WriteSet(u32, u32, Vec<u64>),
     Commit,
     Abort,
     Purge(u32),
@@ -44,6 +47,9 @@ impl Operation {
             Call::Begin(_) => Operation::Begin,
             Call::Read(_, address) => Operation::Read((*address).into()),
             Call::Write(_, address, value) => Operation::Write((*address).into(), *value),
+            Call::WriteSet(_, page, set, values) => {
+                Operation::WriteSet(*page, (*set).into(), values.to_vec())
+            }
             Call::Commit(_) => Operation::Commit,
             Call::Abort(_) => Operation::Abort,
             Call::Purge(_, page) => Operation::Purge(*page),
@@ -55,12 +61,24 @@ impl Operation {
         })
     }
 
+    /// "WAX_BUFFER ... values is too short"
+    pub fn is_lent_enough(&self) -> bool {
+        match self {
+            Operation::WriteSet(_, _, values) => values.len() >= OBJECTS,
+            _ => true,
+        }
+    }
+
     /// On this implementation's station.
     pub fn on(&self, station: &mut Station) -> Result<Done, Number> {
         match self {
             Operation::Begin => station.begin(),
             Operation::Read(address) => station.read(in_range(*address)?),
             Operation::Write(address, value) => station.write(in_range(*address)?, *value),
+            Operation::WriteSet(page, set, values) => {
+                let values = values.first_chunk().expect("a value for each object");
+                station.write_set(*page, *set, values)
+            }
             Operation::Commit => station.commit(),
             Operation::Abort => station.abort(),
             Operation::Purge(page) => station.purge(*page),
@@ -116,7 +134,7 @@ impl Lent<'_> {
 
     /// The call on a station whose bytes are lent; the number.
     pub fn call(&mut self, operation: &Operation, station: &mut Station) -> u32 {
-        if !self.fits() {
+        if !self.fits() || !operation.is_lent_enough() {
             return BUFFER;
         }
         match operation.on(station) {

@@ -37,7 +37,9 @@ pub enum Up {
         transaction: u32,
     },
     Write {
-        address: u8,
+        page: u8,
+        /// "Let kind 2 carry an object set in byte 16"
+        objects: ObjectSet,
         transaction: u32,
     },
     Commit(Box<Commit>),
@@ -102,6 +104,7 @@ pub enum Down {
 #[derive(Clone, Debug, PartialEq, Eq)]
 pub struct PageMessage {
     pub grant: Grant,
+    /// Of a 17 or 18 the page's first: "byte 3 is then 0, as in its 17 or 18".
     pub address: u8,
     pub transaction: u32,
     pub versions: [u32; OBJECTS],
@@ -164,6 +167,8 @@ enum Sets {
     Unnamed,
     /// "one set of a single page: byte 16"
     One,
+    /// The same; "the empty set ... is number 4".
+    NotEmpty,
     ByPage,
 }
 
@@ -185,9 +190,14 @@ const TRANSACTION: Names = Names {
 /// The list of kinds, up and down, with what each names.
 fn names(kind: u8) -> Option<Names> {
     Some(match kind {
-        1 | 2 => Names {
+        1 => Names {
             byte_2: Second::Page,
             byte_3: Third::Object,
+            ..TRANSACTION
+        },
+        2 => Names {
+            byte_2: Second::Page,
+            sets: Sets::NotEmpty,
             ..TRANSACTION
         },
         3 => Names {
@@ -213,9 +223,15 @@ fn names(kind: u8) -> Option<Names> {
             sets: Sets::One,
             ..TRANSACTION
         },
-        16..=18 => Names {
+        16 => Names {
             byte_2: Second::Page,
             byte_3: Third::Object,
+            sets: Sets::One,
+            page: true,
+            ..TRANSACTION
+        },
+        17 | 18 => Names {
+            byte_2: Second::Page,
             sets: Sets::One,
             page: true,
             ..TRANSACTION
@@ -262,6 +278,7 @@ impl Names {
         let sets = match self.sets {
             Sets::Unnamed => fields.sets == [0; PAGES],
             Sets::One => fields.sets[1..] == [0; PAGES - 1],
+            Sets::NotEmpty => fields.sets[0] != 0 && fields.sets[1..] == [0; PAGES - 1],
             Sets::ByPage => true,
         };
         usize::from(fields.station) < STATIONS
@@ -379,7 +396,8 @@ impl Up {
                 transaction,
             },
             2 => Up::Write {
-                address: fields.address(),
+                page: fields.byte_2,
+                objects: fields.sets[0],
                 transaction,
             },
             COMMIT => {
@@ -427,9 +445,13 @@ impl Up {
                 transaction,
             } => Fields::on_object(1, address, transaction),
             Up::Write {
-                address,
+                page,
+                objects,
                 transaction,
-            } => Fields::on_object(2, address, transaction),
+            } => Fields {
+                sets: Fields::one_set(objects),
+                ..Fields::with_second(2, page, transaction)
+            },
             Up::Commit(ref commit) => Fields {
                 kind: COMMIT,
                 transaction: commit.record.transaction,

@@ -1,6 +1,6 @@
 //! The whole line a second time: messages, stations, server, and the world they make together.
 //!
-//! Written from document 01, document 02's wish 1 and their readings alone; "reading N" in a comment is a point of the readings.
+//! Written from document 01, document 02's wishes and their readings alone; "reading N" in a comment is a point of the readings.
 
 pub mod call;
 pub mod checks;
@@ -15,6 +15,7 @@ pub mod message;
 pub mod neighbours;
 pub mod owner;
 pub mod places;
+pub mod rejects;
 pub mod repeats;
 pub mod runs;
 pub mod scripts;

@@ -1,6 +1,7 @@
 //! What a station's owner asked for and was told: the only witness of demand 3.
 
 use super::call::Call;
+use super::sets::Writing;
 use super::Answer;
 
 /// What an owner asks its station.
@@ -8,7 +9,7 @@ use super::Answer;
 pub enum Asked {
     Begin,
     Read(u8),
-    Write(u8, u64),
+    Write(Writing),
     Commit,
     Abort,
     Purge,
@@ -20,7 +21,11 @@ impl Asked {
         Some(match call {
             Call::Begin(_) => Asked::Begin,
             Call::Read(_, address) => Asked::Read(*address),
-            Call::Write(_, address, value) => Asked::Write(*address, *value),
+            Call::Write(_, address, value) => Asked::Write(Writing::one(*address, *value)),
+            // one that is accepted is a set of objects
+            Call::WriteSet(_, page, set, values) => {
+                Asked::Write(Writing::of(*page, (*set).into(), values)?)
+            }
             Call::Commit(_) => Asked::Commit,
             Call::Abort(_) => Asked::Abort,
             Call::Purge(..) => Asked::Purge,
@@ -78,7 +83,11 @@ impl Owner {
         let told = match (asked, answer) {
             (Some(Asked::Begin), Answer::Begun(transaction)) => Told::Begun(transaction),
             (Some(Asked::Read(address)), Answer::Value(value)) => Told::Read(address, value),
-            (Some(Asked::Write(address, value)), Answer::Written) => Told::Wrote(address, value),
+            // "the serial reading of the archive must cover sets": one told of each object
+            (Some(Asked::Write(writing)), Answer::Written) => {
+                let wrote = writing.entries().map(|(a, value)| Told::Wrote(a, value));
+                return self.told.extend(wrote);
+            }
             (Some(Asked::Commit), Answer::Committed(commit)) => Told::Committed(commit),
             (Some(Asked::Abort), Answer::Dropped) | (_, Answer::Aborted(_)) => Told::Aborted,
             (Some(Asked::Purge), Answer::Purged) => return,

@@ -76,15 +76,15 @@ pub mod message {
     }
 }
 
-/// "A station's state, 8,633 bytes"
+/// "A station's state, 8,690 bytes"
 pub mod station {
-    use super::{ADDRESSES, LONG, PAGES, STATIONS, WORD};
+    use super::{ADDRESSES, LONG, OBJECTS, PAGES, STATIONS, WORD};
 
     fields! {
         Copy: ADDRESSES * LONG,
         ReadValue: ADDRESSES * LONG,
         WrittenValue: ADDRESSES * LONG,
-        WaitingValue: LONG,
+        WaitingValues: OBJECTS * LONG,
         Kept: STATIONS * WORD,
         Version: ADDRESSES * WORD,
         Seen: ADDRESSES * WORD,
@@ -101,6 +101,7 @@ pub mod station {
         Open: 1,
         Wait: 1,
         Address: 1,
+        WaitingSet: 1,
     }
 }
 

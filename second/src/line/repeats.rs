@@ -1,18 +1,20 @@
 //! Owners that count and repeat what was aborted, on a line whose ends move by chance.
 
 use super::call::Call;
-use super::sets::STATIONS;
+use super::sets::{object_bit, object_of, page_of, OBJECTS, STATIONS};
 use super::world::{Outcome, Reply, ServerEnd, StationEnd, World};
 use super::{Answer, Kind};
 use crate::random::Random;
 
-/// What a transaction is to do: to read counters, then to add one to each, or to write their sum.
+/// What a transaction is to do: to read counters, then to add one to each, or to write their sum; or to set them unread.
 #[derive(Clone, Debug, Default)]
 pub struct Plan {
     counters: Vec<u8>,
     total: Option<u8>,
     read: Vec<u64>,
     written: usize,
+    /// All are written by one call; they are of one page.
+    at_once: bool,
 }
 
 impl Plan {
@@ -32,6 +34,31 @@ impl Plan {
         }
     }
 
+    /// Writes 1 to each, and reads none.
+    pub fn sets(counters: Vec<u8>) -> Plan {
+        Plan {
+            read: vec![0; counters.len()],
+            ..Plan::counts(counters)
+        }
+    }
+
+    /// The counters as a set.
+    pub fn at_once(self) -> Plan {
+        Plan {
+            at_once: true,
+            ..self
+        }
+    }
+
+    fn write_set(&self, station: u8) -> Call {
+        let mut values = [0; OBJECTS];
+        for (counter, read) in self.counters.iter().zip(&self.read) {
+            values[object_of(*counter) as usize] = read + 1;
+        }
+        let set = self.counters.iter().fold(0, |set, a| set | object_bit(*a));
+        Call::WriteSet(station, page_of(self.counters[0]).into(), set, values)
+    }
+
     fn next(&self, station: u8) -> Call {
         if let Some(counter) = self.counters.get(self.read.len()) {
             return Call::Read(station, *counter);
@@ -40,7 +67,10 @@ impl Plan {
             (Some(total), _) if self.written == 0 => {
                 Call::Write(station, total, self.read.iter().sum())
             }
-            (None, Some(counter)) => Call::Write(station, *counter, self.read[self.written] + 1),
+            (None, Some(_)) if self.at_once && self.written == 0 => self.write_set(station),
+            (None, Some(counter)) if !self.at_once => {
+                Call::Write(station, *counter, self.read[self.written] + 1)
+            }
             _ => Call::Commit(station),
         }
     }

@@ -79,6 +79,7 @@ struct Waiter {
 #[derive(Clone, Debug, PartialEq, Eq)]
 enum Request {
     Read(u8),
+    /// By its page; the objects are all that it wants.
     Write(u8),
     Commit(Box<Commit>),
 }
@@ -127,11 +128,17 @@ impl Waiter {
         }
     }
 
-    fn write(station: u8, address: u8) -> Waiter {
+    /// "The request waits for all its objects and takes them in one step."
+    fn write(station: u8, page: u8, objects: ObjectSet) -> Waiter {
+        let mut writes = Addresses::default();
+        writes.join(page, objects);
         Waiter {
-            request: Request::Write(address),
-            writes: Addresses::one(address),
-            ..Waiter::read(station, address)
+            station,
+            arrival: 0,
+            request: Request::Write(page),
+            wants: writes,
+            writes,
+            callbacks: None,
         }
     }
 
@@ -301,7 +308,7 @@ impl Server {
                 self.send_page(from, address, Grant::Page, 0, step)
             }
             (Up::Read { address, .. }, _) => self.join(Waiter::read(from, address)),
-            (Up::Write { address, .. }, _) => self.join(Waiter::write(from, address)),
+            (Up::Write { page, objects, .. }, _) => self.join(Waiter::write(from, page, objects)),
             (Up::Commit(commit), Kind::Validating) => self.join(Waiter::commit(from, commit)),
             (Up::Commit(commit), _) => self.locking_commit(from, &commit, step),
             // "every transaction's end frees its locks"
@@ -610,7 +617,7 @@ impl Server {
     /// "Read: send 16."
     fn grant_read(&mut self, at: usize, address: u8, step: &mut Step) {
         let station = self.waiting.remove(at).station;
-        let unavailable = self.unavailable(station, address);
+        let unavailable = self.unavailable(station, page_of(address), object_bit(address));
         self.send_page(station, address, Grant::Page, unavailable, step);
     }
 
@@ -667,38 +674,39 @@ impl Server {
         let waiter = self.waiting.remove(at);
         match waiter.request {
             Request::Commit(commit) => self.install(waiter.station, &commit, step),
-            Request::Read(address) | Request::Write(address) => {
-                self.grant_write(waiter.station, address, step)
+            Request::Write(page) => {
+                self.grant_write(waiter.station, page, waiter.writes.on(page), step)
             }
+            Request::Read(_) => unreachable!("a read locks nothing"),
         }
     }
 
     /// "The whole page is locked (18) if no other locking station is listed and no other station has a lock there or
-    /// waits to write there; else the object (17)."
-    fn grant_write(&mut self, station: u8, address: u8, step: &mut Step) {
-        let page = page_of(address);
+    /// waits to write there; else the object (17)": by document 02 all objects of the request.
+    fn grant_write(&mut self, station: u8, page: u8, objects: ObjectSet, step: &mut Step) {
         let alone = self.other_locking_listed(station, page_bit(page)) == 0
             && self.locked_by_others(station, page) == 0
             && self.awaited_writes(page) == 0;
-        let unavailable = self.unavailable(station, address);
+        let unavailable = self.unavailable(station, page, objects);
+        // "byte 3 is then 0, as in its 17 or 18"
+        let first = address(page, 0);
         if alone {
             self.whole[page as usize] = Some(WholeLock {
                 holder: station,
                 asked: false,
             });
-            self.send_page(station, address, Grant::Whole, unavailable, step);
+            self.send_page(station, first, Grant::Whole, unavailable, step);
         } else {
-            self.locks[station as usize].insert(address);
-            self.send_page(station, address, Grant::Object, unavailable, step);
+            self.locks[station as usize].join(page, objects);
+            self.send_page(station, first, Grant::Object, unavailable, step);
         }
     }
 
-    /// "Unavailable in 16 to 18 are objects that others have locked or wait to write, without the one requested." The
-    /// station's own entry has left the list.
-    fn unavailable(&self, station: u8, address: u8) -> ObjectSet {
-        let page = page_of(address);
+    /// "Unavailable in 16 to 18 are objects that others have locked or wait to write, without the one requested": without
+    /// all that are. The station's own entry has left the list.
+    fn unavailable(&self, station: u8, page: u8, requested: ObjectSet) -> ObjectSet {
         let taken = self.locked_by_others(station, page) | self.awaited_writes(page);
-        taken & !object_bit(address)
+        taken & !requested
     }
 
     fn locked_by_others(&self, station: u8, page: u8) -> ObjectSet {

@@ -113,6 +113,62 @@ impl Addresses {
     }
 }
 
+/// What an owner writes at once: some objects of one page, at least one, with a value for each.
+#[derive(Clone, Copy, Debug, PartialEq, Eq)]
+pub struct Writing {
+    page: u8,
+    objects: ObjectSet,
+    /// 0 for the others.
+    values: [u64; OBJECTS],
+}
+
+impl Writing {
+    /// "The owner's write of one object".
+    pub fn one(address: u8, value: u64) -> Writing {
+        let mut values = [0; OBJECTS];
+        values[object_of(address) as usize] = value;
+        Writing {
+            page: page_of(address),
+            objects: object_bit(address),
+            values,
+        }
+    }
+
+    /// The values of objects outside the set do not count; None where there is no such page, or the set is empty or none.
+    pub fn of(page: u32, objects: u32, values: &[u64; OBJECTS]) -> Option<Writing> {
+        let page = u8::try_from(page).ok()?;
+        let objects = ObjectSet::try_from(objects).ok()?;
+        let counted = |object: usize| match objects >> object & 1 {
+            1 => values[object],
+            _ => 0,
+        };
+        let named = usize::from(page) < PAGES && objects != 0;
+        named.then_some(Writing {
+            page,
+            objects,
+            values: std::array::from_fn(counted),
+        })
+    }
+
+    pub fn page(&self) -> u8 {
+        self.page
+    }
+
+    pub fn objects(&self) -> ObjectSet {
+        self.objects
+    }
+
+    pub fn has(&self, address: u8) -> bool {
+        page_of(address) == self.page && self.objects & object_bit(address) != 0
+    }
+
+    /// Addresses and values, rising.
+    pub fn entries(&self) -> impl Iterator<Item = (u8, u64)> + use<> {
+        let Writing { page, values, .. } = *self;
+        rising(self.objects).map(move |object| (address(page, object), values[object as usize]))
+    }
+}
+
 impl FromIterator<u8> for Addresses {
     fn from_iter<I: IntoIterator<Item = u8>>(addresses: I) -> Addresses {
         let mut set = Addresses::default();

@@ -3,8 +3,8 @@
 pub mod state;
 
 use super::message::{pages_of, Commit, Down, Grant, PageMessage, Up};
-use super::sets::{object_bit, object_of, page_bit, page_of, rising, Addresses};
-use super::sets::{ObjectSet, PageSet, OBJECTS, PAGES};
+use super::sets::{address, object_bit, object_of, page_bit, page_of, rising, Addresses};
+use super::sets::{ObjectSet, PageSet, Writing, OBJECTS, PAGES};
 use super::{Answer, Cause, Kind, Number, LIMIT};
 use crate::record::Record;
 use std::collections::BTreeMap;
@@ -47,7 +47,7 @@ struct Transaction {
 #[derive(Clone, Debug, PartialEq, Eq)]
 enum Out {
     Read(u8),
-    Write(u8, u64),
+    Write(Writing),
     Commit,
 }
 
@@ -93,6 +93,12 @@ impl Transaction {
         own.or_else(|| self.reads.get(&address)).copied()
     }
 
+    /// How many objects it will have written with these.
+    fn written_with(&self, writing: &Writing) -> usize {
+        let new = |(address, _): &(u8, u64)| !self.writes.contains_key(address);
+        self.writes.len() + writing.entries().filter(new).count()
+    }
+
     /// "under its lock on object or page"
     fn may_write(&self, address: u8) -> bool {
         self.locked.has(address) || self.locked_whole & page_bit(page_of(address)) != 0
@@ -100,7 +106,8 @@ impl Transaction {
 
     fn requested_page(&self) -> Option<u8> {
         match self.out {
-            Some(Out::Read(address) | Out::Write(address, _)) => Some(page_of(address)),
+            Some(Out::Read(address)) => Some(page_of(address)),
+            Some(Out::Write(writing)) => Some(writing.page()),
             _ => None,
         }
     }
@@ -170,25 +177,58 @@ impl Station {
         self.request(Out::Read(address))
     }
 
+    /// "But for these bytes a set of one behaves as the single request did".
     pub fn write(&mut self, address: u8, value: u64) -> Answered {
+        self.write_all(Writing::one(address, value))
+    }
+
+    /// "the empty set, or several objects from a validating owner, is number 4": before 7 (document 02, reading 20).
+    pub fn write_set(&mut self, page: u32, set: u32, values: &[u64; OBJECTS]) -> Answered {
+        let writing = Writing::of(page, set, values).ok_or(Number::Range)?;
+        if self.kind == Kind::Validating && writing.objects().count_ones() > 1 {
+            return Err(Number::Range);
+        }
+        self.write_all(writing)
+    }
+
+    /// "the request names those under no lock yet, and all are written when the grant arrives, at once if none is named"
+    fn write_all(&mut self, writing: Writing) -> Answered {
         let transaction = self.acting()?;
         // "49th written object": one written before is none more
-        if !transaction.writes.contains_key(&address) && transaction.writes.len() >= LIMIT {
+        if transaction.written_with(&writing) > LIMIT {
             return Err(Number::Long);
         }
-        let may_write = transaction.may_write(address);
-        let local = match self.kind {
-            Kind::Locking => may_write,
+        if self.to_be_asked(&writing) != 0 {
+            return self.request(Out::Write(writing));
+        }
+        self.write_here(&writing);
+        answered(Answer::Written)
+    }
+
+    /// Of these the objects that cannot be written locally.
+    fn to_be_asked(&self, writing: &Writing) -> ObjectSet {
+        let local = |address: u8| match self.kind {
+            Kind::Locking => self
+                .open
+                .as_ref()
+                .is_some_and(|open| open.may_write(address)),
             // document 02: "It writes locally only on available objects."
             Kind::Validating => self.available(address).is_some(),
         };
-        if !local {
-            return self.request(Out::Write(address, value));
+        let addresses = writing.entries().map(|(address, _)| address);
+        addresses
+            .filter(|address| !local(*address))
+            .fold(0, |set, address| set | object_bit(address))
+    }
+
+    fn write_here(&mut self, writing: &Writing) {
+        for (address, value) in writing.entries() {
+            self.first_use(address);
+            if let Some(transaction) = &mut self.open {
+                transaction.writes.insert(address, value);
+            }
         }
-        self.first_use(address);
-        self.acting()?.writes.insert(address, value);
-        self.lay_own_values(page_of(address));
-        answered(Answer::Written)
+        self.lay_own_values(writing.page());
     }
 
     /// "Commit sends 3 and waits for 21 or 22."
@@ -269,15 +309,22 @@ impl Station {
     /// "is requested (1)", "else sends 2", "else sends 1": only a locking station's write is a 2.
     fn request(&mut self, out: Out) -> Answered {
         let transaction = self.latest;
+        let read = |address: u8| Up::Read {
+            address,
+            transaction,
+        };
         let message = match (self.kind, &out) {
-            (Kind::Locking, &Out::Write(address, _)) => Up::Write {
-                address,
+            (_, Out::Read(address)) => read(*address),
+            (Kind::Locking, Out::Write(writing)) => Up::Write {
+                page: writing.page(),
+                objects: self.to_be_asked(writing),
                 transaction,
             },
-            (_, &Out::Read(address) | &Out::Write(address, _)) => Up::Read {
-                address,
-                transaction,
-            },
+            // one object, so the lowest
+            (Kind::Validating, Out::Write(writing)) => {
+                let object = self.to_be_asked(writing).trailing_zeros() as u8;
+                read(address(writing.page(), object))
+            }
             (_, Out::Commit) => unreachable!("a commit is no request"),
         };
         self.acting()?.out = Some(out);
@@ -305,6 +352,14 @@ impl Station {
     fn send(&self, answer: Answer, message: Up) -> Answered {
         let sent = vec![message.encode(self.number)];
         Ok(Done { answer, sent })
+    }
+}
+
+/// Document 02, reading 21: 17 and 18 fit by their page, for they name no object.
+fn answers(message: &PageMessage, writing: &Writing) -> bool {
+    match message.grant {
+        Grant::Page => writing.has(message.address),
+        Grant::Object | Grant::Whole => writing.page() == page_of(message.address),
     }
 }
 
@@ -357,16 +412,14 @@ impl Station {
         };
         let written = match open.out {
             Some(Out::Read(address)) if address == message.address && !locks => None,
-            Some(Out::Write(address, value))
-                if address == message.address && locks == wants_lock =>
-            {
-                Some(value)
+            Some(Out::Write(writing)) if locks == wants_lock && answers(message, &writing) => {
+                Some(writing)
             }
             _ => return Err(Number::Unexpected),
         };
         self.take_page(message);
         match written {
-            Some(value) => self.write_arrived(message, value),
+            Some(writing) => self.write_arrived(message.grant, &writing),
             None => self.read_arrived(message),
         }
     }
@@ -397,19 +450,18 @@ impl Station {
         answered(Answer::Value(value))
     }
 
-    fn write_arrived(&mut self, message: &PageMessage, value: u64) -> Answered {
-        let page = page_of(message.address);
-        self.first_use(message.address);
+    /// "all are written when the grant arrives": those that were locked before too.
+    fn write_arrived(&mut self, grant: Grant, writing: &Writing) -> Answered {
+        let page = writing.page();
         if let Some(transaction) = &mut self.open {
             transaction.out = None;
-            transaction.writes.insert(message.address, value);
-            match message.grant {
+            match grant {
                 Grant::Page => (),
-                Grant::Object => transaction.locked.insert(message.address),
+                Grant::Object => transaction.locked.join(page, writing.objects()),
                 Grant::Whole => transaction.locked_whole |= page_bit(page),
             }
         }
-        self.lay_own_values(page);
+        self.write_here(writing);
         answered(Answer::Written)
     }
 
@@ -598,6 +650,14 @@ impl Station {
 
     pub fn waits(&self) -> bool {
         self.nothing_out().is_err()
+    }
+
+    /// How many objects the write that is out will write.
+    pub fn asks_for(&self) -> u32 {
+        match self.open.as_ref().and_then(|open| open.out.as_ref()) {
+            Some(Out::Write(writing)) => writing.objects().count_ones(),
+            _ => 0,
+        }
     }
 
     pub fn has_kept(&self) -> bool {

@@ -234,10 +234,17 @@ pub fn read(station: u8, page: u8, object: u8, transaction: u32) -> Message {
     }
 }
 
+/// A write request for one object.
 pub fn write(station: u8, page: u8, object: u8, transaction: u32) -> Message {
+    writes(station, page, 1 << object, transaction)
+}
+
+pub fn writes(station: u8, page: u8, set: u8, transaction: u32) -> Message {
     Message {
-        kind: 2,
-        ..read(station, page, object, transaction)
+        byte_2: page,
+        transaction,
+        sets: one_set(set),
+        ..message(2, station)
     }
 }
 
@@ -298,11 +305,12 @@ pub fn written_set(station: u8, page: u8, transaction: u32, set: u8) -> Message 
     }
 }
 
-/// A 16, 17 or 18 with nothing unavailable, all versions and all values 0.
+/// A 16, 17 or 18 with nothing unavailable, all versions and all values 0; only a 16 names the object.
 pub fn page(kind: u8, station: u8, page: u8, object: u8, transaction: u32) -> Message {
+    let named = if kind == 16 { object } else { 0 };
     Message {
         kind,
-        ..read(station, page, object, transaction)
+        ..read(station, page, named, transaction)
     }
 }
 

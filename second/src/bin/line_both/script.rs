@@ -15,7 +15,7 @@ pub struct Script {
 }
 
 /// Commands that are none, whatever the line.
-const MALFORMED: [&str; 16] = [
+const MALFORMED: [&str; 20] = [
     "",
     " ",
     "begin",
@@ -25,6 +25,10 @@ const MALFORMED: [&str; 16] = [
     "read 0 256",
     "read 0 +1",
     "write 0 0 18446744073709551616",
+    "writes 0 1 3 5",
+    "writes 0 1 0 5",
+    "writes 0 1 256 5",
+    "writes 0 4294967296 1 5",
     "purge 0 4294967296",
     "fresh 0101010",
     "fresh 01010102",

@@ -7,7 +7,7 @@ use second::line::damage;
 use second::line::message::{Commit, Up};
 use second::line::places::Place;
 use second::line::server::state::Field;
-use second::line::sets::{page_of, PAGES, STATIONS};
+use second::line::sets::{object_bit, page_of, PAGES, STATIONS};
 use second::line::spoil;
 use second::line::world::World;
 use second::line::LIMIT;
@@ -52,7 +52,8 @@ fn fitting(random: &mut Random, state: &[u8]) -> Vec<u8> {
             transaction,
         },
         2 | 3 => Up::Write {
-            address,
+            page,
+            objects: object_bit(address) | random.byte() & random.pick(&[0, 0, 7, 255]),
             transaction,
         },
         4..=6 => Up::Commit(Box::new(commit(random, state, from, transaction))),

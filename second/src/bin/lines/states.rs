@@ -5,7 +5,7 @@ use second::buffers::{Agreed, Room};
 use second::line::message::Up;
 use second::line::places::Place;
 use second::line::server::state::{Field, COUNTERS_END, LENGTH};
-use second::line::sets::{page_bit, Addresses};
+use second::line::sets::{address as first_of, page_bit, page_of, Addresses};
 use second::line::sets::{ADDRESSES, OBJECTS, PAGES, STATIONS};
 use second::line::spoil;
 use second::line::LIMIT;
@@ -169,16 +169,23 @@ fn enter(random: &mut Random, station: usize, state: &mut [u8]) {
     let any = random.byte();
     let address = random.pick(&[8, 9, 10, 16, any]);
     let one = Addresses::one(address);
+    let mut set = one;
+    set.join(page_of(address), random.byte() & random.pick(&[0, 3, 255]));
     let nothing = Addresses::default();
     let [reads, writes] = match want {
         0 => [nothing, nothing],
         1 => [one, nothing],
-        2 => [nothing, one],
+        2 => [nothing, set],
         _ => random.pick(&[[one, one], [few, nothing], [few, few], [nothing, one]]),
     };
     Field::ReadSet.put_sets(state, station, &reads);
     Field::WrittenSet.put_sets(state, station, &writes);
-    let requested = if want == 1 || want == 2 { address } else { 0 };
+    let requested = match want {
+        1 => address,
+        // its page's first
+        2 => first_of(page_of(address), 0),
+        _ => 0,
+    };
     Field::Request.put_byte_of(state, station, requested);
     if want == 0 {
         Field::Arrival.put_long(state, station, 0);
@@ -335,7 +342,7 @@ fn many_to_one(random: &mut Random) -> Vec<u8> {
         if station != 2 {
             Field::Want.put_byte_of(&mut state, station, 2);
             Field::Arrival.put_long(&mut state, station, station as u64);
-            Field::Request.put_byte_of(&mut state, station, address);
+            Field::Request.put_byte_of(&mut state, station, (OBJECTS * last) as u8);
         }
     }
     Field::Called.put_byte_of(&mut state, 0, 1);

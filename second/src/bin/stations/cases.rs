@@ -10,7 +10,7 @@ use second::line::call::Call;
 use second::line::crossing::Crossing;
 use second::line::damage;
 use second::line::lent::{Lent, Operation, BUFFER};
-use second::line::sets::STATIONS;
+use second::line::sets::{OBJECTS, STATIONS};
 use second::line::spoil;
 use second::line::station::state::{self, Field, LENGTH};
 use second::line::station::Station;
@@ -20,6 +20,7 @@ use second::random::Random;
 
 const ADDRESSES_OUT: [u32; 7] = [256, 257, 263, 512, 65_536, 1 << 31, u32::MAX];
 const PAGES_OUT: [u32; 8] = [32, 33, 63, 64, 255, 256, 1 << 31, u32::MAX];
+const SETS_OUT: [u32; 5] = [256, 257, 511, 1 << 31, u32::MAX];
 const STATIONS_OUT: [u32; 6] = [8, 9, 255, 256, 263, u32::MAX];
 const KINDS_OUT: [u32; 5] = [2, 255, 256, 257, u32::MAX];
 
@@ -78,13 +79,14 @@ impl Cases {
             true => random.pick(&PAGES_OUT),
             false => random.below(32) as u32,
         };
-        let operation = match random.below(8) {
+        let operation = match random.below(10) {
             0 => Operation::Begin,
             1 => Operation::Commit,
             2 => Operation::Abort,
             3 => Operation::Purge(page),
             4 | 5 => Operation::Read(address),
-            _ => Operation::Write(address, generate::value(random)),
+            6 | 7 => Operation::Write(address, generate::value(random)),
+            _ => write_set(random, page),
         };
         let takes_one = !matches!(
             operation,
@@ -194,7 +196,7 @@ impl Cases {
 /// Compared in full where this implementation can hold the state, else as far as can be said.
 fn compare(operation: &Operation, state: &mut [u8], room: Room, judge: &mut Judge) -> Agreed<()> {
     let number = match state::near(state) {
-        _ if !state::valid(state) || !room.is_enough() => {
+        _ if !state::valid(state) || !room.is_enough() || !operation.is_lent_enough() => {
             judge.call(operation, state, room, &[], |_| BUFFER)
         }
         Some(mut station) => {
@@ -208,6 +210,25 @@ fn compare(operation: &Operation, state: &mut [u8], room: Room, judge: &mut Judg
         None => judge.call_on_any(operation, state, room),
     };
     number.map(|_| ())
+}
+
+/// Any set, mostly with as many values as there are objects.
+fn write_set(random: &mut Random, page: u32) -> Operation {
+    let any: u32 = random.byte().into();
+    let one = 1 << random.below(OBJECTS);
+    let set = match random.below(12) {
+        0 => random.pick(&SETS_OUT),
+        1 => 0,
+        2..=5 => one,
+        6..=8 => any & u32::from(random.byte()) | one,
+        _ => any,
+    };
+    let many = match random.one_in(16) {
+        true => random.below(OBJECTS),
+        false => OBJECTS + random.pick(&[0, 0, 0, 1, 5]),
+    };
+    let values = (0..many).map(|_| generate::value(random)).collect();
+    Operation::WriteSet(page, set, values)
 }
 
 /// Bytes of a raw message, whichever end they were meant for.

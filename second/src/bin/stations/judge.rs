@@ -185,6 +185,8 @@ fn may_answer(operation: &Operation, state: &[u8]) -> &'static [u32] {
         Operation::Begin => &[OK, 7, 9, 11],
         Operation::Read(256..) | Operation::Write(256.., _) | Operation::Purge(32..) => &[4],
         Operation::Read(_) | Operation::Write(..) => &[OK, 7, 8, 15],
+        Operation::WriteSet(32.., ..) | Operation::WriteSet(_, 0 | 256.., _) => &[4],
+        Operation::WriteSet(..) => &[OK, 4, 7, 8, 15],
         Operation::Commit | Operation::Abort => &[OK, 7, 8],
         Operation::Purge(_) => &[OK, 7, 10],
         Operation::Step(message) => match Down::decode(message, Field::Station.byte(state)) {

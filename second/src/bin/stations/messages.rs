@@ -3,7 +3,7 @@
 use second::generate;
 use second::line::message::{Down, Grant, PageMessage};
 use second::line::places::Place;
-use second::line::sets::{page_of, Addresses};
+use second::line::sets::{address, page_of, rising, Addresses};
 use second::line::station::state::Field;
 use second::line::Cause;
 use second::random::Random;
@@ -50,11 +50,25 @@ fn page(random: &mut Random, state: &[u8], transaction: u32) -> PageMessage {
             true => random.pick(&[Grant::Object, Grant::Whole]),
             false => Grant::Page,
         },
-        address: Field::Address.byte(state),
+        address: named(random, state, locks),
         transaction,
         versions: array::from_fn(|_| random.number() as u32 & random.pick(&[0, 3, u32::MAX])),
         unavailable: random.byte() & random.byte(),
         values: array::from_fn(|_| generate::value(random)),
+    }
+}
+
+/// What a page that comes names: 17 and 18 no object, a 16 the one read or one of those that are to be written.
+fn named(random: &mut Random, state: &[u8], locks: bool) -> u8 {
+    let requested = Field::Address.byte(state);
+    let objects: Vec<u8> = rising(Field::WaitingSet.byte(state)).collect();
+    match random.below(16) {
+        0 => requested,
+        _ if locks => address(page_of(requested), 0),
+        _ if Field::Wait.byte(state) == 2 && !objects.is_empty() => {
+            address(page_of(requested), random.pick(&objects))
+        }
+        _ => requested,
     }
 }
 

@@ -2,7 +2,7 @@
 
 use second::line::little::{LONG, WORD};
 use second::line::places::Place;
-use second::line::sets::{object_bit, page_bit, page_of, rising, Addresses};
+use second::line::sets::{address, object_bit, page_bit, page_of, rising, Addresses};
 use second::line::sets::{OBJECTS, PAGES, STATIONS};
 use second::line::spoil;
 use second::line::station::state::{Field, LENGTH};
@@ -73,6 +73,7 @@ fn decoded(random: &mut Random) -> Vec<u8> {
         clear(&Field::OF_LOCKS, &mut state);
     }
     ask_once(&mut state);
+    ask_a_set(random, &mut state);
     let mut cached = random.number() as u32 | random.pick(&[0, 0x5555_5555, u32::MAX]);
     if Field::Kind.byte(&state) == 0 {
         cached |= locked(&state);
@@ -162,6 +163,25 @@ fn ask_once(state: &mut [u8]) {
         }
         field.put_sets(state, 0, &sets);
     }
+}
+
+/// A write that is out is of objects of a page; now and then of too many, or of none.
+fn ask_a_set(random: &mut Random, state: &mut [u8]) {
+    if Field::Wait.byte(state) != 2 {
+        return;
+    }
+    if !random.one_in(20) {
+        let page = page_of(Field::Address.byte(state));
+        Field::Address.put_byte(state, address(page, 0));
+    }
+    let one = 1 << random.below(OBJECTS);
+    let set = match random.below(20) {
+        0 => 0,
+        1..=9 => one,
+        10..=14 => random.byte() & random.byte() | one,
+        _ => random.byte() | one,
+    };
+    Field::WaitingSet.put_byte(state, set);
 }
 
 fn lock_written(state: &mut [u8]) {

@@ -100,6 +100,7 @@ pub fn name(operation: &Operation) -> &'static str {
         Operation::Begin => "begin",
         Operation::Read(_) => "read",
         Operation::Write(..) => "write",
+        Operation::WriteSet(..) => "write set",
         Operation::Commit => "commit",
         Operation::Abort => "abort",
         Operation::Purge(_) => "purge",

@@ -69,6 +69,8 @@ impl Behind {
             Operation::Step(message) => self.step(message, judge),
             // the window has no purge: its host calls the station's own
             Operation::Purge(page) => self.purge(*page, judge),
+            // nor a write of a set
+            Operation::WriteSet(page, set, values) => self.write_set(*page, *set, values, judge),
         }
     }
 
@@ -206,6 +208,24 @@ impl Behind {
         let done = self.station.purge(page);
         if done.as_ref().err().map_or(OK, |number| *number as u32) != number {
             judge.differ(&format!("purge of {page}: {number}"));
+        }
+        done
+    }
+
+    fn write_set(
+        &mut self,
+        page: u32,
+        set: u32,
+        values: &[u64],
+        judge: &mut Judge,
+    ) -> Result<Done, Number> {
+        let mut results = Results::default();
+        let lent = &mut results.lent(&mut self.kept.state);
+        let number = proved::write_set(page, set, values, lent);
+        let values = values.first_chunk().expect("a value for each object");
+        let done = self.station.write_set(page, set, values);
+        if done.as_ref().err().map_or(OK, |number| *number as u32) != number {
+            judge.differ(&format!("a write of set {set} of {page}: {number}"));
         }
         done
     }

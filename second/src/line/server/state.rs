@@ -3,8 +3,8 @@
 use super::{Callbacks, Request, Seen, Server, Waiter, WholeLock};
 use crate::line::message::{pages_of, Commit, Up};
 use crate::line::places::Place;
-use crate::line::sets::{address, object_bit, page_bit, rising, Addresses, ADDRESSES};
-use crate::line::sets::{OBJECTS, PAGES, STATIONS};
+use crate::line::sets::{address, object_bit, object_of, page_bit, page_of, rising};
+use crate::line::sets::{Addresses, ADDRESSES, OBJECTS, PAGES, STATIONS};
 use crate::line::{Kind, LIMIT};
 use crate::record::Record;
 use std::array;
@@ -86,7 +86,7 @@ fn entry_fits(bytes: &[u8], station: usize) -> bool {
     match Field::Want.byte_of(bytes, station) {
         0 => arrival == 0 && request == 0 && nothing(Field::ReadSet) && nothing(Field::WrittenSet),
         1 => asks() && only(Field::ReadSet) && nothing(Field::WrittenSet),
-        2 => asks() && only(Field::WrittenSet) && nothing(Field::ReadSet),
+        2 => asks() && is_write(bytes, station) && nothing(Field::ReadSet),
         _ => {
             waits()
                 && !locks(bytes, station)
@@ -96,6 +96,13 @@ fn entry_fits(bytes: &[u8], station: usize) -> bool {
                 && short(Field::WrittenSet)
         }
     }
+}
+
+/// "of a waiting write objects of the requested page alone, at least one", the request "a multiple of 8 while a write does"
+fn is_write(bytes: &[u8], station: usize) -> bool {
+    let request = Field::Request.byte_of(bytes, station);
+    let writes = Field::WrittenSet.sets(bytes, station);
+    object_of(request) == 0 && writes.pages() == page_bit(page_of(request))
 }
 
 /// Of pend "other, locking stations; 0 unless called is 1", of busy "a part of pend".
@@ -214,7 +221,11 @@ fn waiter(bytes: &[u8], station: usize, kind: Kind) -> Waiter {
     let requested = Field::Request.byte_of(bytes, station);
     let waiter = match Field::Want.byte_of(bytes, station) {
         1 => Waiter::read(number, requested),
-        2 => Waiter::write(number, requested),
+        2 => {
+            let page = page_of(requested);
+            let objects = Field::WrittenSet.sets(bytes, station).on(page);
+            Waiter::write(number, page, objects)
+        }
         _ => Waiter::commit(number, Box::new(commit(bytes, station, kind))),
     };
     let callbacks = Callbacks {
@@ -278,10 +289,11 @@ impl Waiter {
         }
     }
 
-    /// "address of the waiting read or write"
+    /// "address of the waiting read; page × 8 of the waiting write"
     fn requested(&self) -> u8 {
         match self.request {
-            Request::Read(address) | Request::Write(address) => address,
+            Request::Read(address) => address,
+            Request::Write(page) => address(page, 0),
             Request::Commit(_) => 0,
         }
     }

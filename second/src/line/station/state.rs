@@ -3,7 +3,7 @@
 use super::{Callback, Out, Page, Station, Transaction};
 use crate::line::little::WORD;
 use crate::line::places::Place;
-use crate::line::sets::{address, object_of, page_of, rising};
+use crate::line::sets::{address, object_of, page_of, rising, Addresses, Writing};
 use crate::line::sets::{OBJECTS, PAGES, STATIONS};
 use crate::line::{Kind, LIMIT};
 use std::array;
@@ -22,7 +22,7 @@ impl Field {
     pub const OF_COPIES: [Field; 3] = [Field::Copy, Field::Version, Field::Unavailable];
 }
 
-/// Not number 1: "the length is not 8,633, a field is out of the range above ..., or a callback from the station itself
+/// Not number 1: "the length is not 8,690, a field is out of the range above ..., or a callback from the station itself
 /// is kept".
 #[inline]
 pub fn valid(bytes: &[u8]) -> bool {
@@ -38,10 +38,15 @@ fn in_range(bytes: &[u8]) -> bool {
     usize::from(Field::Station.byte(bytes)) < STATIONS
         && Field::Kind.byte(bytes) <= 1
         && open <= 1
-        && Field::Wait.byte(bytes) <= 3
+        && Field::Wait.byte(bytes) <= COMMIT
         // "not 0 while one is open"
         && (open == 0 || Field::Number.word(bytes, 0) != 0)
 }
+
+/// Of the field `Wait`: "1 a read, 2 a write, 3 a commit".
+const READ: u8 = 1;
+const WRITE: u8 = 2;
+const COMMIT: u8 = 3;
 
 fn keeps_its_own(bytes: &[u8]) -> bool {
     let station = Field::Station.byte(bytes);
@@ -75,16 +80,34 @@ fn transaction_fits(bytes: &[u8]) -> bool {
     }
     let requested = Field::Address.byte(bytes);
     let seen = |field: &Field| field.sets(bytes, 0).has(requested);
-    let first =
-        Field::Wait.byte(bytes) != 1 || ![Field::ReadSet, Field::WrittenSet].iter().any(seen);
-    first && is_short(bytes, Field::ReadSet, 1) && is_short(bytes, Field::WrittenSet, 2)
+    let fits = match Field::Wait.byte(bytes) {
+        READ => ![Field::ReadSet, Field::WrittenSet].iter().any(seen),
+        // "a multiple of 8 while a write is out", "not 0 while a write is out"
+        WRITE => object_of(requested) == 0 && Field::WaitingSet.byte(bytes) != 0,
+        _ => true,
+    };
+    fits && is_short(bytes, Field::ReadSet, READ) && is_short(bytes, Field::WrittenSet, WRITE)
 }
 
-/// Document 02, wish 1: "48 distinct reads and 48 distinct writes", a waiting one counted as recorded.
+/// Document 02, wish 1: "48 distinct reads and 48 distinct writes", waiting ones counted as recorded.
 fn is_short(bytes: &[u8], field: Field, wait: u8) -> bool {
     let set = field.sets(bytes, 0);
-    let out = Field::Wait.byte(bytes) == wait && !set.has(Field::Address.byte(bytes));
-    set.count() + usize::from(out) <= LIMIT
+    let out = match Field::Wait.byte(bytes) == wait {
+        true => requested(bytes, wait),
+        false => Addresses::default(),
+    };
+    set.with(&out).count() <= LIMIT
+}
+
+/// What a read or a write that is out is of.
+fn requested(bytes: &[u8], wait: u8) -> Addresses {
+    let address = Field::Address.byte(bytes);
+    let mut requested = Addresses::default();
+    match wait {
+        READ => requested.insert(address),
+        _ => requested.join(page_of(address), Field::WaitingSet.byte(bytes)),
+    }
+    requested
 }
 
 /// "0 while no transaction is open, and at a validating station"
@@ -187,10 +210,16 @@ fn out(bytes: &[u8]) -> Option<Out> {
     let address = Field::Address.byte(bytes);
     match Field::Wait.byte(bytes) {
         0 => None,
-        1 => Some(Out::Read(address)),
-        2 => Some(Out::Write(address, Field::WaitingValue.long(bytes, 0))),
+        READ => Some(Out::Read(address)),
+        WRITE => writing(bytes).map(Out::Write),
         _ => Some(Out::Commit),
     }
+}
+
+fn writing(bytes: &[u8]) -> Option<Writing> {
+    let page = page_of(Field::Address.byte(bytes));
+    let values = array::from_fn(|object| Field::WaitingValues.long(bytes, object));
+    Writing::of(page.into(), Field::WaitingSet.byte(bytes).into(), &values)
 }
 
 fn cached(bytes: &[u8]) -> [Option<Page>; PAGES] {
@@ -275,14 +304,17 @@ fn lay_out(out: Option<&Out>, bytes: &mut [u8]) {
         None => 0,
         Some(Out::Read(address)) => {
             Field::Address.put_byte(bytes, *address);
-            1
+            READ
         }
-        Some(Out::Write(address, value)) => {
-            Field::Address.put_byte(bytes, *address);
-            Field::WaitingValue.put_long(bytes, 0, *value);
-            2
+        Some(Out::Write(writing)) => {
+            Field::Address.put_byte(bytes, address(writing.page(), 0));
+            Field::WaitingSet.put_byte(bytes, writing.objects());
+            for (address, value) in writing.entries() {
+                Field::WaitingValues.put_long(bytes, object_of(address).into(), value);
+            }
+            WRITE
         }
-        Some(Out::Commit) => 3,
+        Some(Out::Commit) => COMMIT,
     };
     Field::Wait.put_byte(bytes, wait);
 }
