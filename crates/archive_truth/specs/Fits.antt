@@ -9,11 +9,12 @@ use lib.Dec.{eqb, ltb}
 use Rattle.sets.specs.Base.{upd, Val, none, some, valOr, noneAt, nowhere, turned, any}
 use Rattle.sets.specs.Laws.{byB, byEq, eqb-yes, eqb-no, ltb-yes}
 use Rattle.line.specs.All.{All, all-append}
+use Rattle.kinds.specs.Kinds.{mostKind}
 use Rattle.line.specs.Messages.{pageOf, lastNumber, locking, Work, Up, ReadRequest, WriteRequest, Commit, Abort, Purge, Busy, Done, WrittenSet, Lock, NoLock, ObjectLock, WholeLock, Down, Page, Deescalate, Callback, Committed, Aborted, Invalidate, Sent, To, Rec, Answer, Nothing, Begun, Value, Waits, Written, CommittedAs, AbortedFor, Purged, Refused, Empty}
 use Rattle.line.specs.Station as S
 use Rattle.line.specs.Station.{Station, Did, unless, Wait, Idle, ForRead, ForWrite, ForCommit, waiting, Kept, NotKept, KeptCall, shown, usedAt, forCommit, live, ended, fits, checkBegin, openThen, checkOpen, longRead, checkPurge, dropPages, recordRead, writeLocal, mark, doCallback, doKept, doAllKept, closed, close, undo, ownBegin, readLocal, readAsk, readAs, ownRead, writeAsk, ownWrite, ownCommit, ownAbort, ownPurge, arrive, takeLock, answerWait, onPage, onDeescalate, onCallback, onCommitted, onAborted, onInvalidate, onDown, stationStep, orVal, someOn, badSet, checkRead, checkWrite, named, writeSet, ofPage}
-use Rattle.line.specs.Server.{Server, Serving, Waiter, noWaiter, Want, NoWant, WantRead, WantWrite, WantCommit, unexpected, notice, finish, join, leave, sendPage, abort, informed, write, archive, inform, informFrom, install, serveNow, joinRead, joinWrite, joinCommit, commitNow, unlist, openCall, markBusy, answered, openAsk, loosen, accept, ask, serveRead, concerned, callsFrom, call, grantPage, grantObject, installWaiter, start, serverStep}
-use Rattle.line.specs.Pass.{Atomic, if-keeps, step-keeps}
+use Rattle.line.specs.Server.{Server, Serving, Waiter, noWaiter, Want, NoWant, WantRead, WantWrite, WantCommit, unexpected, notice, finish, join, leave, sendPage, abort, informed, write, archive, inform, informFrom, install, serveNow, joinRead, joinWrite, joinCommit, commitNow, unlist, openCall, markBusy, answered, openAsk, loosen, accept, ask, serveRead, concerned, callsFrom, call, grantPage, grantObject, installWaiter, start, serverStep, heed}
+use Rattle.line.specs.Pass.{Atomic, if-keeps, step-keeps, met-keeps}
 use Rattle.line.specs.Line.{World, Op, Begin, Read, Write, Commits, Aborts, Purges, Call, Owner, ServerTakes, StationTakes, Broken, fresh, worldDown, tell, sentTo, carryUp, carryDown, perform, ownerActs, stationTakes, serverTakes, act, run, isRefused, WriteSet}
 use Rattle.entries.specs.Entries.{FitVal, Within}
 use Rattle.line.specs.Asks.{set-asks}
@@ -28,7 +29,7 @@ pub record FitMap (f : ℕ → Val) : Type 0 where
 -- a record of the archive
 pub record FitRec (r : Rec) : Type 0 where
   pub station : r .station < 8
-  pub kind : r .kind ≤ 1
+  pub kind : r .kind ≤ mostKind
   pub transaction-least : 1 ≤ r .transaction
   pub transaction-most : r .transaction ≤ 4294967295
   pub number-least : 1 ≤ r .number
@@ -107,7 +108,7 @@ record FitStation (num : ℕ) (opened : Bool) (copy : ℕ → ℕ) (rd wr : ℕ 
   waits : FitWait wait
 
 record FitServer (kind val : ℕ → ℕ) (last : ℕ) (queue : ℕ → Waiter) : Type 0 where
-  kinds : (i : ℕ) → kind i ≤ 1
+  kinds : (i : ℕ) → kind i ≤ mostKind
   values : (a : ℕ) → val a < 2 ^ 64
   most : last ≤ lastNumber
   waiters : (i : ℕ) → FitWaiter (queue i .want) (queue i .work)
@@ -336,7 +337,7 @@ module _ (s : Station) (h : StationFits s) where
   down-fits (Page l a t v u x) k =
       if-did DidFits (ended s t) (λ e. (h, tt))
       (λ e. answer-fits (s .wait) _ (h .waits) (wait-fits Idle (arrive (pageOf a) v u x (takeLock l a s)) tt (arrive-fits (pageOf a) v u x (takeLock l a s) k (lock-fits l a s h))))
-  down-fits (Deescalate p t) k = byB (live s t && s .wl p) (λ e. rw e (h, (tt, tt))) (λ e. rw e (h, (tt, tt)))
+  down-fits (Deescalate p t) k = byB (S.givesUp p t s) (λ e. rw e (h, (tt, tt))) (λ e. rw e (h, (tt, tt)))
   down-fits (Callback r t set) k =
       if-did DidFits (any 256 (λ a. set a && usedAt s a)) (λ e. (h, (tt, tt))) (λ e. callback-fits r t set _ (h, tt))
   down-fits (Committed t n) k = close-fits _ (h, tt)
@@ -460,7 +461,7 @@ commitNow-fits i w x b k h =
     (λ e. install-fits i w x b (omega (arith, h .server .most, eqb-no (x .server .last) lastNumber e)) k h)
 
 accept-fits : (i : ℕ) (m : Up) (x : Serving) → i < 8 → FitUp m → ServingFits x → ServingFits (accept i m x)
-unfolding accept joinRead joinWrite joinCommit join serveNow finish unlist markBusy answered loosen
+unfolding accept joinRead joinWrite joinCommit join serveNow finish unlist markBusy answered loosen heed
 accept-fits i (ReadRequest a t) x b k h =
     let g : ServingFits (notice i t x) = notice-fits i t x h in
     if-keeps ServingFits (locking (x .server .kind i)) (λ e. waits-as i _ tt g) (λ e. page-fits NoLock i a nowhere (notice i t x) g)
@@ -472,7 +473,7 @@ accept-fits i (Abort t) x b k h = notice-fits i t x h
 accept-fits i (Purge p) x b k h = h
 accept-fits i (Busy r t) x b k h = if-keeps ServingFits (openCall (x .server) i r t) (λ e. waits-as r _ (h .server .waiters r) h) (λ e. h)
 accept-fits i (Done r t d) x b k h = if-keeps ServingFits (openCall (x .server) i r t) (λ e. waits-as r _ (h .server .waiters r) h) (λ e. h)
-accept-fits i (WrittenSet p t set) x b k h = if-keeps ServingFits (openAsk (x .server) i p t) (λ e. h) (λ e. h)
+accept-fits i (WrittenSet p t set) x b k h = if-keeps ServingFits (openAsk (x .server) i p t) (λ e. met-keeps ServingFits i t x (notice-fits i t x h) h) (λ e. h)
 
 serves-fit : (i : ℕ) (m : Up) (s : Server) → i < 8 → FitUp m → FitServer (s .kind) (s .val) (s .last) (s .queue) → ServingFits (serverStep i m s)
 serves-fit i m s b k h = step-keeps ServingFits atomic-fits i m s (accept-fits i m (start s) b k (record { server = h; sends = tt; records = tt }))
@@ -560,7 +561,7 @@ unfolding run
 run-fits [] w k h = h
 run-fits (c ∷ cs) w k h = run-fits cs ((act c w) .world) (k .1) (act-fits c w (k .0) h)
 
-fresh-fits : (kinds : ℕ → ℕ) → ((i : ℕ) → kinds i ≤ 1) → LineFits (fresh kinds)
+fresh-fits : (kinds : ℕ → ℕ) → ((i : ℕ) → kinds i ≤ mostKind) → LineFits (fresh kinds)
 fresh-fits kinds k =
     record {
       server = record { kinds = k; values = λ a. omega arith; most = omega arith; waiters = λ i. tt };
@@ -571,5 +572,5 @@ fresh-fits kinds k =
     }
 
 -- every record of every run
-pub fits-run : (kinds : ℕ → ℕ) → ((i : ℕ) → kinds i ≤ 1) → (cs : List Call) → FitCalls cs → All FitRec ((run cs (fresh kinds)) .archive)
+pub fits-run : (kinds : ℕ → ℕ) → ((i : ℕ) → kinds i ≤ mostKind) → (cs : List Call) → FitCalls cs → All FitRec ((run cs (fresh kinds)) .archive)
 fits-run kinds k cs f = run-fits cs (fresh kinds) f (fresh-fits kinds k) .records

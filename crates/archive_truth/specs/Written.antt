@@ -16,6 +16,7 @@ use Rattle.replay.specs.Played.{Played, archivePlayed}
 use Rattle.archive_meaning.specs.Reader.{Parsed, parsed, archiveRead, written-is-read}
 use Rattle.archive_meaning.specs.Replay.{archive-plays}
 use Rattle.archive_meaning.specs.Replay as Playback
+use Rattle.kinds.specs.Kinds.{mostKind}
 use Rattle.line.specs.All.{All, all-map}
 use Rattle.line.specs.Messages.{Rec}
 use Rattle.line.specs.Line.{World, Call, Told, ToldRead, ToldWrite, ToldCommit, ToldAbort, run, fresh}
@@ -201,6 +202,6 @@ archive-of w h f =
       pages = λ a. plays .values a ∙ left-is (w .archive) zeros narrow a ∙ h .pages a;
     }
 
--- for every list of calls whose written values have 8 bytes, at stations of kinds 0 and 1
-pub archive-of-run : (kinds : ℕ → ℕ) → ((i : ℕ) → kinds i ≤ 1) → (cs : List Call) → FitCalls cs → ArchiveOfRun (run cs (fresh kinds))
+-- for every list of calls whose written values have 8 bytes, at stations of the kinds that there are
+pub archive-of-run : (kinds : ℕ → ℕ) → ((i : ℕ) → kinds i ≤ mostKind) → (cs : List Call) → FitCalls cs → ArchiveOfRun (run cs (fresh kinds))
 archive-of-run kinds k cs f = archive-of (run cs (fresh kinds)) (truth kinds cs) (fits-run kinds k cs f)

@@ -18,7 +18,7 @@ use Rattle.line.specs.Messages.{locking, Done}
 use Rattle.line.specs.Station.{Station, Kept, NotKept, KeptCall, Wait, didStation, setWait, setCver, setKept, wrotePage, drops, dropPages, mark, recordRead, writeLocal, doCallback, doKept, doAllKept, closed, close, undo}
 use Rattle.line.specs.Station as Model
 use Rattle.message_meaning.specs.Sent.{Reads, done-sent}
-use Rattle.station_state.specs.Layout.{setRow, keptOf, kind, namedFrom, writtenSetFrom, writtenValue, hasBit, member}
+use Rattle.station_state.specs.Layout.{setRow, keptOf, namedFrom, lockingB, writtenSetFrom, writtenValue, hasBit, member}
 use Rattle.station_pages.specs.Pages.{droppedB, writtenPagesB, markB}
 use Rattle.station_callbacks.specs.Callbacks.{Sends, setsAt, doneB, doCallbackB, notKeptB, doKeptB, keptTo, closeB, undoB}
 use Rattle.station_answer.specs.declared.Answer.{Answer}
@@ -206,7 +206,7 @@ written-named {i} {s} {m} h =
 pub undo-means : {i : ℕ} {s : List ℕ} {m : Station} → Is i s m → Sound i m → Is i (undoB s) (undo m)
 unfolding undoB undo
 undo-means {i} {s} {m} h _ =
-    cond-rel (Is i) (eqb (kind s) 0) (locking (m .kind)) (ap (λ (k : ℕ). eqb k 0) (kind-at h))
+    cond-rel (Is i) (lockingB s) (locking (m .kind)) (ap (λ (k : ℕ). locking k) (kind-at h))
     (subst (λ (f : ℕ → Bool). Is i (markB (setsAt s writtenSetFrom) s) (mark f m)) (written-named h)
     (mark-is h (setsAt s writtenSetFrom) (sets-bytes s writtenSetFrom (h .bytes))))
     (drop-as h (writtenPagesB s) (writtenPages-lt s) (wrotePage m) (λ p. ap (λ (f : ℕ → Bool). f p) (writtenPages-is h)))

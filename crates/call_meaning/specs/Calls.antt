@@ -9,6 +9,7 @@ use native.Mathlib.Omega.{arith}
 use lib.Dec.{eqb, leb}
 use lib.ListN.{length, getD, take, replicate}
 use borrow.Author.Tests.{eq-eqb, le-leb}
+use Rattle.kinds.specs.Kinds.{mostKind}
 use Rattle.lists.specs.Tests.{allTo, and-l}
 use Rattle.sets.specs.Base.{Val}
 use Rattle.entries.specs.Entries.{FitVal}
@@ -254,10 +255,10 @@ step-not-own x s o c r n own = rw (r, n, eqb-diff (stationOf x) (station s) own)
 
 -- A FRESH STATE
 
-module _ (i k : ℕ) (s : List ℕ) (e : length s ≡ stateLength) (l : i < 8) (q : k ≤ 1) where
+module _ (i k : ℕ) (s : List ℕ) (e : length s ≡ stateLength) (l : i < 8) (q : k ≤ mostKind) where
   pub fresh-told : freshOf i k s ≡ freshened (freshState i k) 0
   unfolding freshOf
-  fresh-told = rw (eq-eqb (length s) stateLength e, le-leb i 7 (omega arith), le-leb k 1 q)
+  fresh-told = rw (eq-eqb (length s) stateLength e, le-leb i 7 (omega arith), le-leb k mostKind q)
 
   -- "A fresh line has .. nothing open, cached, .."
   pub fresh-station : Is i ((freshOf i k s) .state) (freshStation k) × (valid ((freshOf i k s) .state) ≡ true)

@@ -66,12 +66,6 @@ unless-lt : (b : Bool) (v : ℕ) → v < 2 ^ 32 → cond b v 0 < 2 ^ 32
 unless-lt true v l = l
 unless-lt false v l = omega arith
 
--- "fixed for life as locking (0) or validating (1)"
-not-locking : (k : ℕ) → k ≤ 1 → not (locking k) ≡ eqb k 1
-not-locking zero l = refl
-not-locking (suc zero) l = refl
-not-locking (suc (suc k)) l = absurd (omega arith)
-
 -- an address of a list of entries has a value there
 listed : (es : List Entry) (j : ℕ) → j < length es → has (valueIn es (getD (addresses es) j 0)) ≡ true
 listed [] j l = absurd (omega arith)
@@ -109,7 +103,7 @@ module _ {i : ℕ} {s : List ℕ} {m : Station} (h : Is i s m) where
   version-is : (f : ℕ → Val) → Within f → (a : ℕ) → has (f a) ≡ true → usedB s a ≡ true → versionSent s a ≡ cond (sentFor f a) (m .seen a) 0
   unfolding versionSent
   version-is f w a t u =
-      rw (kind-at h, t, seen-at h a (below f w a t), u) (byB (eqb (m .kind) 0) (λ e. rw e) (λ e. rw e))
+      rw (kind-at h, t, seen-at h a (below f w a t), u) (byB (locking (m .kind)) (λ e. rw e) (λ e. rw e))
 
   read-used : (a : ℕ) → has (m .rd a) ≡ true → usedB s a ≡ true
   read-used a t = rw (used-at h a (below (m .rd) (read-high h) a t), t)
@@ -162,8 +156,8 @@ module _ {i : ℕ} {s : List ℕ} {m : Station} (h : Is i s m) where
   commit-is = rw (versions-are, record-is, station-at h, number-at h)
 
   -- "from a locking station all are 0"
-  version-none : Sound i m → (f : ℕ → Val) → eqb (m .kind) 1 ≡ false → (a : ℕ) → cond (sentFor f a) (m .seen a) 0 ≡ 0
-  version-none q f e a = unless-used (sentFor f a) (m .seen a) (rw (not-locking (m .kind) (q .kind-is), e))
+  version-none : (f : ℕ → Val) → locking (m .kind) ≡ true → (a : ℕ) → cond (sentFor f a) (m .seen a) 0 ≡ 0
+  version-none f e a = unless-used (sentFor f a) (m .seen a) (rw e)
 
   version-within : (f : ℕ → Val) (a : ℕ) → has (f a) ≡ false → cond (sentFor f a) (m .seen a) 0 ≡ 0
   version-within f a e = unless-used (sentFor f a) (m .seen a) (rw (e, and-false (not (locking (m .kind)))))
@@ -207,7 +201,7 @@ module _ {i : ℕ} {s : List ℕ} {m : Station} (h : Is i s m) where
   pub work-is : Sound i m → LimitedWork (workOf m) → m .opened ≡ true → (kinds : List ℕ) → kindsOk kinds ≡ true → getD kinds i 0 ≡ m .kind
       → Reads kinds i (length (commitBytes s)) (commitBytes s) (Commit (workOf m))
   work-is q f o kinds ok k =
-      let r = work-sent kinds i (m .kind) (usedPagesB s) (workOf m) ok (q .own) k (work-fits q f o) (usedPages-lt s) (λ p l. ap (λ (g : ℕ → Bool). g p) (usedPages-is h)) (λ e b. (version-none q (m .rd) e b, version-none q (m .wr) e b)) in
+      let r = work-sent kinds i (m .kind) (usedPagesB s) (workOf m) ok (q .own) k (work-fits q f o) (usedPages-lt s) (λ p l. ap (λ (g : ℕ → Bool). g p) (usedPages-is h)) (λ e b. (version-none (m .rd) e b, version-none (m .wr) e b)) in
       rw commit-is
       (record { length-is = refl; bytes-are = r .bytes-are; accepted = r .accepted; station-is = r .station-is; meant = r .meant })
 

@@ -1,7 +1,7 @@
 -- The station's step: a message that is delivered means the model's, kind by kind, and any other is refused with its number.
 use Prim.Native.Nat.{ℕ, zero, suc, _+_, _/_, _%_, _≤_, _<_, _^_}
 use mathlib.Core.Path.{_≡_, refl, sym, ap, subst, _∙_, fun-ext}
-use mathlib.Core.Bool.{Bool, true, false, not, _&&_, cond}
+use mathlib.Core.Bool.{Bool, true, false, not, _&&_, _||_, cond}
 use mathlib.Core.List.{List, []}
 use mathlib.Core.Logic.{_≢_}
 use native.Mathlib.Omega.{arith}
@@ -12,9 +12,9 @@ use Rattle.sets.specs.Laws.{byB, byEq, eqb-same, eqb-yes, eqb-no, and-r}
 use Rattle.cells.specs.Num.{AllBytes, bytes-all}
 use Rattle.cells.specs.Bits.{tb, tb-zero, tb-test}
 use Rattle.cells.specs.Upd.{cond-rel, eqb-diff}
-use Rattle.line.specs.Messages.{locking, Lock, NoLock, ObjectLock, WholeLock}
+use Rattle.line.specs.Messages.{locking, keeps, Lock, NoLock, ObjectLock, WholeLock}
 use Rattle.line.specs.Messages as Line
-use Rattle.line.specs.Station.{Station, Idle, KeptCall, setWait, inUse, doCallback, live, ended, waiting, forRead, forWrite, forCommit, writesTo, ofPage, fitsPage, fits, arrive, takeLock, answerWait, onPage, writtenOn, loosen, onDeescalate, onCallback, onCommitted, onAborted, onInvalidate, onDown, stationStep}
+use Rattle.line.specs.Station.{Station, Idle, KeptCall, setWait, inUse, doCallback, live, ended, waiting, forRead, forWrite, forCommit, writesTo, ofPage, fitsPage, fits, arrive, takeLock, answerWait, onPage, writtenOn, answersFor, givesUp, loosen, onDeescalate, onCallback, onCommitted, onAborted, onInvalidate, onDown, stationStep}
 use Rattle.line.specs.Station as Model
 use Rattle.message.specs.Layout.{setsFrom, messageLength, kindOf, stationOf, pageOf, requesterOf, objectOf, causeOf, transactionOf, versionOf, setOf, upMessage}
 use Rattle.message.specs.Number.{downNumber}
@@ -22,19 +22,18 @@ use Rattle.message_meaning.specs.Meant.{objectsOn, objectsIn, setsOf, valuesOn,
 use Rattle.message_meaning.specs.Kinds.{down-16, down-17, down-18, down-19, down-20, down-21, down-22, down-23, sets-at}
 use Rattle.message.specs.Accepted.{DownAccepted, down-accepted, fields-fit}
 use Rattle.message_meaning.specs.Sent.{Reads, busy-sent, written-set-sent}
-use Rattle.station_state.specs.Layout.{writtenValue, station, wait, address, waitingSet, writtenSet, writtenSetFrom, whole, hasBit, member}
+use Rattle.station_state.specs.Layout.{writtenValue, station, wait, address, waitingSet, writtenSet, writtenSetFrom, whole, hasBit, member, lockingB, keepsB}
 use Rattle.station_state.specs.Changes.{waitingValues, loosenB}
 use Rattle.station_pages.specs.Pages.{inUseB}
 use Rattle.station_callbacks.specs.Callbacks.{sends, setsAt}
 use Rattle.station_answer.specs.declared.Answer.{Answer}
 use Rattle.station_answer.specs.declared.Answer.the-variants.{Committed, Aborted, Nothing}
 use Rattle.station_answer.specs.Did.{refuses}
-use Rattle.station_answer.specs.Ask.{lockingB}
-use Rattle.station_delivery.specs.Delivery.{liveB, endedB, forReadOf, forWriteOn, forWriteOf, fitsPageB, fitsLockB, fitsCommittedB, fitsAbortedB, fitsB, addressOf, takeLockB, arrivedB, answerWaitB, onPageB, writtenOnB, loosenedB, onDeescalateB, onCallbackB, onCommittedB, onAbortedB, onInvalidateB, onDownB}
+use Rattle.station_delivery.specs.Delivery.{liveB, endedB, forReadOf, forWriteOn, forWriteOf, fitsPageB, fitsLockB, fitsCommittedB, fitsAbortedB, fitsB, addressOf, takeLockB, arrivedB, answerWaitB, onPageB, answersForB, writtenOnB, givesUpB, loosenedB, onDeescalateB, onCallbackB, onCommittedB, onAbortedB, onInvalidateB, onDownB}
 use Rattle.station.specs.Station.{checkStepB, stationStepB}
 use Rattle.station_meaning.specs.Meant.{given, waitOf, Is}
 use Rattle.station_meaning.specs.Named.{named}
-use Rattle.station_meaning.specs.Tests.{has-if, station-at, kind-at, number-at, open-at, wait-le, address-lt, waitingValue-lt, wait-is, waiting-at, forCommit-at, forRead-at, writesTo-at, forWrite-at, whole-at, wrote-at, copy-at, inUse-at}
+use Rattle.station_meaning.specs.Tests.{has-if, station-at, kind-at, number-at, number-lt, open-at, wait-le, address-lt, waitingValue-lt, wait-is, waiting-at, forCommit-at, forRead-at, writesTo-at, forWrite-at, whole-at, wrote-at, copy-at, inUse-at}
 use Rattle.station_meaning.specs.Changes.{recordRead-is, writeAll-is, idle-is, lockWaiting-is, lockWhole-is, loosen-is, keep-is}
 use Rattle.station_meaning.specs.Pages.{mark-is, arrive-is, versions-is}
 use Rattle.call_meaning.specs.Relation.{answerOf, Sound, ReadAs, Sending, Means}
@@ -196,13 +195,24 @@ module _ {i : ℕ} {s : List ℕ} {m : Station} (h : Is i s m) where
   written-lt : (p t : ℕ) → cond (liveB s t) (writtenSet s p) 0 < 256
   written-lt p t = byB (liveB s t) (λ e. rw e (h .bytes (writtenSetFrom + p))) (λ e. rw e (omega arith))
 
-  -- "if it is open, the whole lock becomes locks on those objects"
-  loosened-is : (p t : ℕ) → p < 32 → Is i (cond (liveB s t && hasBit (whole s) p) (loosenB p s) s) (cond (live m t && m .wl p) (loosen p (writtenOn p t m) m) m)
-  loosened-is p t l = rw (live-at h t, whole-at h p) (either (live m t))
-    where
-      either : (y : Bool) → Is i (cond (y && m .wl p) (loosenB p s) s) (cond (y && m .wl p) (loosen p (λ b. y && eqb (b / 8) p && has (m .wr b)) m) m)
-      either true = cond-rel (Is i) (m .wl p) (m .wl p) refl (loosen-is h p l) h
-      either false = h
+  -- "if it is open, the whole lock becomes locks on those objects"; u is the transaction that the 8 names
+  loosened-is : (p t u : ℕ) → p < 32
+      → Is i (cond ((keepsB s || liveB s t) && hasBit (whole s) p) (loosenB p (cond (liveB s u) (writtenSet s p) 0) s) s) (cond (givesUp p t m) (loosen p (writtenOn p u m) m) m)
+  loosened-is p t u l =
+      let x = cond (liveB s u) (writtenSet s p) 0 in
+      cond-rel (Is i) ((keepsB s || liveB s t) && hasBit (whole s) p) (givesUp p t m) (rw (kind-at h, live-at h t, whole-at h p))
+      (subst (λ (f : ℕ → Bool). Is i (loosenB p x s) (loosen p f m)) (written-is p u l) (loosen-is h p x l (written-lt p u))) h
+
+  -- the transaction that the 8 names is one
+  answers-at : (x : List ℕ) → answersForB x s ≡ answersFor (transactionOf x) m
+  unfolding answersForB
+  answers-at x = rw (kind-at h, open-at h, number-at h)
+
+  answers-named : Sound i m → (t : ℕ) → t ≢ 0 → t < 2 ^ 32 → (answersFor t m ≢ 0) × (answersFor t m < 2 ^ 32)
+  answers-named q t n l =
+      byB (keeps (m .kind) && m .opened)
+      (λ e. rw e (q .counted (and-r (keeps (m .kind)) (m .opened) e), rw (← number-at h) (number-lt h)))
+      (λ e. rw e (n, l))
 
 sound-either : {i : ℕ} {m n : Station} (y : Bool) → Sound i m → Sound i n → Sound i (cond y m n)
 sound-either true q r = q
@@ -244,17 +254,19 @@ module _ {i : ℕ} {s : List ℕ} {m : Station} (h : Is i s m) (q : Sound i m) (
 
   -- "On 19: send 8 .."
   pub deescalate-means : kindOf x ≡ 19 → Means i (onDeescalateB x s) (onDown (downOf x) m)
-  unfolding onDeescalateB writtenOnB loosenedB onDown onDeescalate
+  unfolding onDeescalateB writtenOnB givesUpB loosenedB onDown onDeescalate
   deescalate-means e =
       let f = a .deescalate e in
       let p = pageOf x in
       let t = transactionOf x in
-      rw (down-19 x e)
+      let u = answersFor t m in
+      let named = answers-named h q t (f .transaction-not-0) transaction-lt in
+      rw (down-19 x e, answers-at h x)
       (record {
         answer = refl;
-        state = loosened-is h p t (f .page-is);
-        sound = sound-either (live m t && m .wl p) (sound-loosened p (writtenOn p t m) q) q;
-        sent = (written-set-read h q p t (f .page-is) (f .transaction-not-0) transaction-lt, tt);
+        state = loosened-is h p t u (f .page-is);
+        sound = sound-either (givesUp p t m) (sound-loosened p (writtenOn p u m) q) q;
+        sent = (written-set-read h q p u (f .page-is) (named .0) (named .1), tt);
       })
 
   -- "Locking, on 20: .."

@@ -22,18 +22,17 @@ use Rattle.cells.specs.Loops.{any-same, ones-size}
 use Rattle.cells.specs.Pages.{any-byte}
 use Rattle.line.specs.Messages.{locking, lastNumber, ReadRequest, WriteRequest, Abort}
 use Rattle.line.specs.Messages as Line
-use Rattle.line.specs.Station.{Station, ForRead, ForWrite, waiting, requested, usedPage, shown, mayWrite, unless, checkBegin, openThen, checkOpen, longRead, longWrite, checkRead, someOn, severalOn, lowestFrom, lowestOn, badSet, checkWrite, checkPurge, ownBegin, readLocal, readAsk, readAs, ownRead, writeLocal, writeAsk, writeSet, ofPage, ownWrite, ownAbort, ownPurge}
+use Rattle.line.specs.Station.{Station, ForRead, ForWrite, waiting, requested, usedPage, shown, mayWrite, unless, checkBegin, openThen, checkOpen, longRead, longWrite, checkRead, someOn, severalOn, lowestFrom, lowestOn, badSet, checkWrite, checkPurge, ownBegin, readLocal, readAsk, readAs, ownRead, writeLocal, writeAsk, writeSet, ofPage, ownWrite, ownAbort, ownPurge, keptWhole}
 use Rattle.line.specs.Station as Model
 use Rattle.message_meaning.specs.Meant.{objectsOn}
 use Rattle.message_meaning.specs.Sent.{read-sent, write-sent, abort-sent, purge-sent}
-use Rattle.station_state.specs.Layout.{number, cached, whole, locks, unavailable, member, hasBit, countIn, unavailableFrom, locksFrom, writtenSetFrom, readSetFrom, readValue, writtenValue}
+use Rattle.station_state.specs.Layout.{number, cached, whole, locks, unavailable, member, hasBit, countIn, unavailableFrom, locksFrom, writtenSetFrom, readSetFrom, readValue, writtenValue, lockingB}
 use Rattle.station_answer.specs.declared.Answer.the-variants.{Aborted}
 use Rattle.station_answer.specs.Did.{Did}
-use Rattle.station_answer.specs.Ask.{lockingB}
 use Rattle.station_owner.specs.Owner.{unlessB, checkBeginB, openThenB, checkOpenB, longReadB, longWriteB, checkReadB, badSetB, checkWriteB, checkPurgeB, ownBeginB, readRequestB, writeRequestB, shownB, readLocalB, readAskB, readHereB, readAsB, ownReadB, atHandB, namedB, askB, writeAskB, writeAsB, ownWriteSetB, abortsB, ownAbortB, ownPurgeB}
 use Rattle.station_owner.specs.Facts.{lowest-lt}
 use Rattle.station_meaning.specs.Meant.{given, Is}
-use Rattle.station_meaning.specs.Tests.{has-if, bit-of, given-has, given-at, some-given, station-at, kind-at, number-at, number-lt, open-at, waiting-at, requested-at, cached-at, whole-at, lock-at, unav-at, read-at, wrote-at, copy-at, usedPage-at}
+use Rattle.station_meaning.specs.Tests.{has-if, bit-of, given-has, given-at, some-given, station-at, kind-at, number-at, number-lt, open-at, waiting-at, requested-at, cached-at, whole-at, lock-at, keptWhole-at, unav-at, read-at, wrote-at, copy-at, usedPage-at}
 use Rattle.station_meaning.specs.Counts.{writtenWith-at}
 use Rattle.station_meaning.specs.Changes.{begin-is, recordRead-is, writeAll-is, forRead-is, forWrite-is}
 use Rattle.station_meaning.specs.Pages.{drop-as}
@@ -110,7 +109,7 @@ module _ {i : ℕ} {s : List ℕ} {m : Station} (h : Is i s m) where
   unfolding checkPurgeB
   checkPurge-at p =
       byB (ltb p 32)
-      (λ e. rw (e, requested-at h p, usedPage-at h p (ltb-yes p 32 e), cached-at h p))
+      (λ e. rw (e, requested-at h p, usedPage-at h p (ltb-yes p 32 e), cached-at h p, keptWhole-at h p))
       (λ e. rw e)
 
 -- the lowest of a set of n + 1 objects from a on is its number's lowest bit
@@ -162,7 +161,7 @@ module _ (m : Station) where
 
   purge-passed : (p : ℕ) → checkPurge p m ≡ 0 → p < 32
   purge-passed p e =
-      ltb-yes p 32 (not-no (ltb p 32) ((turned-no (not (ltb p 32)) 4 (turned (requested (m .wait) p) 7 (turned (usedPage m p || not (m .cached p)) 10 0)) (omega arith) e) .0))
+      ltb-yes p 32 (not-no (ltb p 32) ((turned-no (not (ltb p 32)) 4 (turned (requested (m .wait) p) 7 (turned (usedPage m p || not (m .cached p) || keptWhole m p) 10 0)) (omega arith) e) .0))
 
 -- THE OPERATIONS
 

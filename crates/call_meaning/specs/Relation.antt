@@ -5,6 +5,7 @@ use mathlib.Core.Path.{_≡_}
 use mathlib.Core.Bool.{true}
 use mathlib.Core.Logic.{_≢_}
 use mathlib.Core.List.{List, [], _∷_}
+use Rattle.kinds.specs.Kinds.{mostKind}
 use Rattle.sets.specs.Base.{snoc}
 use Rattle.line.specs.Messages.{Up}
 use Rattle.line.specs.Messages as Line
@@ -34,7 +35,7 @@ answerOf Nothing = Line.Nothing
 -- what number 1 asks of a station, in the model's words; the flags of the bytes stand in `Is`
 pub record Sound (i : ℕ) (m : Station) : Type 0 where
   pub own : i < 8
-  pub kind-is : m .kind ≤ 1
+  pub kind-is : m .kind ≤ mostKind
   pub counted : m .opened ≡ true → m .num ≢ 0
   pub not-own : m .kept i ≡ NotKept
 

@@ -8,6 +8,7 @@ use native.Mathlib.Omega.{arith}
 use lib.Dec.{eqb, ltb}
 use lib.ListN.{length, getD, set, replicate, length-replicate}
 use borrow.Author.Tests.{eqb-true, eqb-false, eq-eqb, ne-eqb, lt-ltb, le-leb, not-false, not-true}
+use Rattle.kinds.specs.Kinds.{mostKind}
 use Rattle.lists.specs.Tests.{and-l, and-r}
 use Rattle.sets.specs.Base.{Val, none, has, noneAt, nowhere, zeros}
 use Rattle.sets.specs.Laws.{byB, byEq, eqb-same, eqb-yes, eqb-no, ltb-yes, ltb-no}
@@ -18,13 +19,14 @@ use Rattle.cells.specs.Bits.{tb, tb-zero, tb-test, tb-tells}
 use Rattle.cells.specs.Loops.{any-same}
 use Rattle.cells.specs.Pages.{any-byte}
 use Rattle.cells.specs.Cells.{Cells, view, view-zero, view-col, view-row, cell-lt, upd3, Holds, begin, put8, get8, get32}
-use Rattle.line.specs.Messages.{locking}
+use Rattle.line.specs.Messages.{locking, keeps}
+use Rattle.line.specs.Apart.{keeps-locks}
 use Rattle.line.specs.Station.{Station, Wait, ForRead, ForWrite, waiting, forRead, forWrite, writesTo, ofPage, Kept, NotKept, KeptCall, setCached, setUnav, setRd, setWr, setSeen, setOl, setWl, freshStation}
 use Rattle.line.specs.Station as Model
 use Rattle.line.specs.Asks.{Asks}
 use Rattle.line.specs.Fit.{Works, Locked, KeptFits, Callbacks, LimitedStation, FitStation}
 use Rattle.line.specs.FitCalls.{fit-new}
-use Rattle.station_state.specs.Layout.{keptFrom, wholeFrom, readSetFrom, writtenSetFrom, locksFrom, stationFrom, kindFrom, openFrom, waitFrom, addressFrom, keptCell, wholeCell, locksCell, stationCell, kindCell, openCell, waitCell, addressCell, table, stateLength, keptOf, number, whole, station, kind, opened, wait, address, waitingSet, namedFrom, readValue, writtenValue, hasBit, member, countIn, writtenWith, noneIn}
+use Rattle.station_state.specs.Layout.{keptFrom, wholeFrom, readSetFrom, writtenSetFrom, locksFrom, stationFrom, kindFrom, openFrom, waitFrom, addressFrom, keptCell, wholeCell, locksCell, stationCell, kindCell, openCell, waitCell, addressCell, table, stateLength, keptOf, number, whole, station, kind, opened, wait, address, waitingSet, lockingB, keepsB, passingWhole, namedFrom, readValue, writtenValue, hasBit, member, countIn, writtenWith, noneIn}
 use Rattle.station_state.specs.Valid.{fieldsOk, ownKept, closedOk, firstOk, setOk, outOk, fewIn, fewWritten, limitedOk, worksOk, locklessOk, holdsOk, valid, freshState}
 use Rattle.station_state.specs.Facts.{Lockless, Few, FewWritten, Ranged, valid-ranged}
 use Rattle.station_state.specs.Changes.{waitingValues}
@@ -123,7 +125,7 @@ module _ {i : ℕ} {s : List ℕ} {m : Station} (h : Is i s m) where
   open-not : m .opened ≡ true → opened s ≢ 0
   open-not e = eqb-false (opened s) 0 (not-true (eqb (opened s) 0) (open-at h ∙ e))
 
-  holds-at : (eqb (kind s) 0 && not (eqb (opened s) 0)) ≡ (locking (m .kind) && m .opened)
+  holds-at : (lockingB s && not (eqb (opened s) 0)) ≡ (locking (m .kind) && m .opened)
   holds-at = rw (kind-at h, open-at h)
 
   module _ (r : Ranged s) where
@@ -206,16 +208,20 @@ module _ {i : ℕ} {s : List ℕ} {m : Station} (h : Is i s m) where
     object-free : (a : ℕ) → (locking (m .kind) && m .opened) ≡ false → m .ol a ≡ false
     object-free a e = by-address {G = λ a. m .ol a ≡ false} (λ a l. sym (lock-at h a l) ∙ none-member s (h .bytes) locksFrom (lockless-of e .no-object) a l) lock-high a
 
-    page-free : (p : ℕ) → (locking (m .kind) && m .opened) ≡ false → m .wl p ≡ false
-    page-free p e = sym (whole-at h p) ∙ rw (lockless-of e .no-page) (none-bit p)
+    page-free : (p : ℕ) → keeps (m .kind) ≡ false → (locking (m .kind) && m .opened) ≡ false → m .wl p ≡ false
+    unfolding passingWhole
+    page-free p k e =
+        let passing = lockless-of e .no-page in
+        let none : whole s ≡ 0 = rw (kind-at h, k) at passing in
+        sym (whole-at h p) ∙ rw none (none-bit p)
 
     locked-of : Locked (m .kind) (m .opened) (m .ol) (m .wl)
     locked-of =
         record {
           object-opened = λ a e. and-r (locking (m .kind)) _ (holding (object-free a) e);
           object-locks = λ a e. and-l (locking (m .kind)) _ (holding (object-free a) e);
-          whole-opened = λ p e. and-r (locking (m .kind)) _ (holding (page-free p) e);
-          whole-locks = λ p e. and-l (locking (m .kind)) _ (holding (page-free p) e);
+          whole-opened = λ p e k. and-r (locking (m .kind)) _ (holding (page-free p k) e);
+          whole-locks = λ p e. byB (keeps (m .kind)) (keeps-locks (m .kind)) (λ k. and-l (locking (m .kind)) _ (holding (page-free p k) e));
         }
 
     -- a callback that is kept
@@ -322,11 +328,15 @@ module _ {i : ℕ} {s : List ℕ} {m : Station} (h : Is i s m) (q : Sound i m) (
     neither : {b : Bool} → (b ≡ true → m .opened ≡ true) → (b ≡ true → locking (m .kind) ≡ true) → b ≡ false
     neither {b} o k = byB b (λ t. absurd (false≢true (sym e ∙ rw (k t, o t) refl))) (λ t. t)
 
-    no-page : whole s ≡ 0
-    unfolding hasBit
+    no-page : passingWhole s ≡ 0
+    unfolding hasBit passingWhole
     no-page =
-        tb-tells 32 (whole s) 0 (whole-lt h) (omega arith)
-        (λ p l. sym (tb-test p (whole s)) ∙ whole-at h p ∙ neither (f .locked .whole-opened p) (f .locked .whole-locks p) ∙ sym (tb-zero p))
+        byB (keepsB s) (λ k. rw k)
+        (λ k.
+        let own : keeps (m .kind) ≡ false = rw (kind-at h) at k in
+        rw k
+        (tb-tells 32 (whole s) 0 (whole-lt h) (omega arith)
+        (λ p l. sym (tb-test p (whole s)) ∙ whole-at h p ∙ neither (λ t. f .locked .whole-opened p t own) (f .locked .whole-locks p) ∙ sym (tb-zero p))))
 
     no-object : noneIn s locksFrom ≡ true
     no-object = members-none s (h .bytes) locksFrom (λ a l. lock-at h a l ∙ neither (f .locked .object-opened a) (f .locked .object-locks a))
@@ -348,7 +358,7 @@ module _ {i : ℕ} {s : List ℕ} {m : Station} (h : Is i s m) (q : Sound i m) (
   unfolding holdsOk locklessOk
   holds-ok =
       byB (locking (m .kind) && m .opened) (λ e. rw (holds-at h, e))
-      (λ e. rw (holds-at h, e, eq-eqb (whole s) 0 (no-page e), no-object e, nothing-kept e))
+      (λ e. rw (holds-at h, e, eq-eqb (passingWhole s) 0 (no-page e), no-object e, nothing-kept e))
 
   -- number 1 lets it pass
   pub valid-kept : valid s ≡ true
@@ -357,7 +367,7 @@ module _ {i : ℕ} {s : List ℕ} {m : Station} (h : Is i s m) (q : Sound i m) (
       rw (
         eq-eqb (length s) stateLength (h .len),
         le-leb (station s) 7 (omega (arith, station-at h, q .own)),
-        le-leb (kind s) 1 (rw (kind-at h) (q .kind-is)),
+        le-leb (kind s) mostKind (rw (kind-at h) (q .kind-is)),
         le-leb (opened s) 1 (open-le h),
         le-leb (wait s) 3 (wait-le h),
         counted,
@@ -403,7 +413,7 @@ fresh-cells i k =
     (pages t)
 
 -- n is the state's length: a variable, so that nothing computes the zeros
-fresh-is : (n i k : ℕ) → n ≡ stateLength → i < 8 → k ≤ 1 → Is i (set (set (replicate n 0) stationFrom i) kindFrom k) (freshStation k)
+fresh-is : (n i k : ℕ) → n ≡ stateLength → i < 8 → k ≤ mostKind → Is i (set (set (replicate n 0) stationFrom i) kindFrom k) (freshStation k)
 fresh-is n i k e l q =
     let z : List ℕ = replicate n 0 in
     let size : length z ≡ stateLength = length-replicate n 0 ∙ e in
@@ -422,12 +432,12 @@ fresh-is n i k e l q =
       is = ap meantC (h .is) ∙ fresh-cells i k;
     }
 
-pub fresh-means : (i k : ℕ) → i < 8 → k ≤ 1 → Is i (freshState i k) (freshStation k)
+pub fresh-means : (i k : ℕ) → i < 8 → k ≤ mostKind → Is i (freshState i k) (freshStation k)
 unfolding freshState
 fresh-means i k l q = fresh-is stateLength i k refl l q
 
-pub fresh-sound : (i k : ℕ) → i < 8 → k ≤ 1 → Sound i (freshStation k)
+pub fresh-sound : (i k : ℕ) → i < 8 → k ≤ mostKind → Sound i (freshStation k)
 fresh-sound i k l q = record { own = l; kind-is = q; counted = λ e. absurd (false≢true e); not-own = refl }
 
-pub fresh-valid : (i k : ℕ) → i < 8 → k ≤ 1 → valid (freshState i k) ≡ true
+pub fresh-valid : (i k : ℕ) → i < 8 → k ≤ mostKind → valid (freshState i k) ≡ true
 fresh-valid i k l q = valid-kept (fresh-means i k l q) (fresh-sound i k l q) (fit-new i k)

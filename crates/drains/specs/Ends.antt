@@ -11,7 +11,7 @@ use Rattle.sets.specs.Base.{upd}
 use Rattle.sets.specs.Laws.{byB, byEq, eqb-yes, and-l, and-r}
 use Rattle.line.specs.All.{All}
 use Rattle.line.specs.Messages.{locking, Lock, NoLock, ObjectLock, WholeLock, Up, Down, Answer, Nothing, Begun, Value, Waits, Written, CommittedAs, AbortedFor, Purged, Refused, Empty}
-use Rattle.line.specs.Station.{Station, Did, does, didStation, setKept, setWait, Wait, Idle, ForRead, ForWrite, ForCommit, waiting, forCommit, NotKept, KeptCall, recordRead, writeLocal, arrive, takeLock, loosen, live, dropPages, mark, doCallback, closed, close, undo, readLocal, readAsk, writeAsk, ownCommit, ownAbort, onDeescalate, onCommitted, onAborted, stationStep}
+use Rattle.line.specs.Station.{Station, Did, does, didStation, setKept, setWait, Wait, Idle, ForRead, ForWrite, ForCommit, waiting, forCommit, NotKept, KeptCall, recordRead, writeLocal, arrive, takeLock, loosen, live, dropPages, mark, doCallback, closed, close, undo, readLocal, readAsk, writeAsk, ownCommit, ownAbort, onDeescalate, onCommitted, onAborted, stationStep, givesUp}
 use Rattle.line.specs.Server.{unexpected}
 use Rattle.line.specs.Truth.{count}
 use Rattle.line.specs.Line.{World, worldDown, Op, Begin, Read, WriteSet, Commits, Aborts, Purges, Call, Owner, ServerTakes, StationTakes, Broken, perform, tell, carryUp, carryDown, isRefused, ownerActs, stationTakes, serverTakes, act, run}
@@ -92,7 +92,7 @@ step-ended m s =
       old-page = λ a t v u x e h. h;
       page-read = λ a t v u x e w h. not-ended s t e (ap forCommit w) h;
       page-write = λ l a t v u x p y e w o c h. not-ended s t e (ap forCommit w) h;
-      deescalates = λ p t o h. same-ended (loosen-opened (live s t && s .wl p) p _ s) (loosen-wait (live s t && s .wl p) p _ s) h;
+      deescalates = λ p t o h. same-ended (loosen-opened (givesUp p t s) p _ s) (loosen-wait (givesUp p t s) p _ s) h;
       keeps = λ r t set o f h. h;
       dones = λ r t set o f h. same-ended (done-opened r t set _) (done-wait r t set _) h;
       commits = λ t n e w h. inl (close-closed _);
@@ -127,7 +127,7 @@ step-still m s =
       old-page = λ a t v u x e h. (refl, refl);
       page-read = λ a t v u x e w h. no-wait s (ForRead a) refl w h;
       page-write = λ l a t v u x p y e w o c h. no-wait s (ForWrite p y) refl w h;
-      deescalates = λ p t o h. (loosen-opened (live s t && s .wl p) p _ s, loosen-wait (live s t && s .wl p) p _ s);
+      deescalates = λ p t o h. (loosen-opened (givesUp p t s) p _ s, loosen-wait (givesUp p t s) p _ s);
       keeps = λ r t set o f h. (refl, refl);
       dones = λ r t set o f h. (done-opened r t set _, done-wait r t set _);
       commits = λ t n e w h. no-wait s ForCommit refl w h;
@@ -158,7 +158,7 @@ step-closed m s =
       old-page = λ a t v u x e h. h;
       page-read = λ a t v u x e w h. absurd (false≢true (sym h ∙ live-open s t e));
       page-write = λ l a t v u x p y e w o c h. absurd (false≢true (sym h ∙ live-open s t e));
-      deescalates = λ p t o h. loosen-opened (live s t && s .wl p) p _ s ∙ h;
+      deescalates = λ p t o h. loosen-opened (givesUp p t s) p _ s ∙ h;
       keeps = λ r t set o f h. h;
       dones = λ r t set o f h. done-opened r t set _ ∙ h;
       commits = λ t n e w h. close-closed _;
@@ -185,7 +185,7 @@ module _ (s : Station) (P : Did → Type 0) (same : (n : ℕ) → P (does (Refus
         writes-ask = λ p v b c f e. absurd (false≢true e);
         commits = λ c e. asked _;
         aborts = λ c e. over _;
-        purges = λ p b c f g e. absurd (false≢true e);
+        purges = λ p b c f g k e. absurd (false≢true e);
       })
 
 pub end-ended : (op : Op) (s : Station) → isEnding op ≡ true → Ended s → Ended ((perform op s) .station)

@@ -9,8 +9,8 @@ use lib.ListN.{length, length-append}
 use Rattle.sets.specs.Base.{upd}
 use Rattle.sets.specs.Laws.{byB, byEq, eqb-same, eqb-yes, eqb-no}
 use Rattle.line.specs.Messages.{lastNumber, locking, Work, Up, ReadRequest, WriteRequest, Commit, Abort, Purge, Busy, Done, WrittenSet}
-use Rattle.line.specs.Server.{End, ByMessage, Server, Serving, Waiter, waiterBusy, waiterPend, readWaiter, writeWaiter, commitWaiter, isWant, unexpected, notice, finish, join, sendPage, serveNow, joinRead, joinWrite, joinCommit, commitNow, abort, install, unlist, openCall, markBusy, answered, openAsk, loosen, accept, start, serverStep}
-use Rattle.line.specs.Pass.{step-keeps}
+use Rattle.line.specs.Server.{End, ByMessage, Server, Serving, Waiter, waiterBusy, waiterPend, readWaiter, writeWaiter, commitWaiter, isWant, unexpected, notice, finish, join, sendPage, serveNow, joinRead, joinWrite, joinCommit, commitNow, abort, install, unlist, openCall, markBusy, answered, openAsk, loosen, accept, start, serverStep, heeded, heed}
+use Rattle.line.specs.Pass.{step-keeps, met-keeps}
 use Rattle.line.specs.Fuel.{sumTo, sum-le, sum-at, nb, frees, looseAt}
 use Rattle.line.specs.Bounds.{left, room, total, both-n, left-9, abort-sent, abort-room, install-sent, install-room, atomic-total, notice-sent}
 use Rattle.line.specs.Line.{World, worldUp, carryDown, sentTo}
@@ -84,7 +84,7 @@ answered-room i r x =
 
 finish-room : (i : ℕ) (e : End) (x : Serving) → room ((finish i e x) .server) ≤ room (x .server)
 unfolding finish
-finish-room i e x = omega (arith, frees (x .server .wl) (x .server .asked) i)
+finish-room i e x = omega (arith, frees (x .server .kind i) (x .server .wl) (x .server .asked) i)
 
 loosen-room : (i p : ℕ) (set : ℕ → Bool) (x : Serving) → room ((loosen i p set x) .server) ≤ room (x .server)
 unfolding loosen
@@ -96,7 +96,7 @@ loosen-room i p set x =
     )
 
 accept-share : (i : ℕ) (m : Up) (s : Server) → i < 8 → total (accept i m (start s)) ≤ room s + share m
-unfolding accept joinRead joinWrite joinCommit join unlist finish markBusy answered loosen
+unfolding accept joinRead joinWrite joinCommit join unlist finish markBusy answered loosen heed
 accept-share i (ReadRequest a t) s b =
     let x : Serving = notice i t (start s) in
     let n = ap length (notice-sent i t (start s)) in
@@ -121,7 +121,14 @@ accept-share i (Busy r t) s b = byB (openCall s i r t) (λ e. rw e (omega (arith
 accept-share i (Done r t d) s b =
     byB (openCall s i r t) (λ e. rw e (omega (arith, answered-room i r (unlist i d (start s))))) (λ e. rw e (omega arith))
 accept-share i (WrittenSet p t set) s b =
-    byB (openAsk s i p t) (λ e. rw e (omega (arith, loosen-room i p set (start s)))) (λ e. rw e (omega arith))
+    byB (openAsk s i p t)
+    (λ e. rw e (met-keeps (λ y. total (loosen i p (heeded (y .server) i t set) y) ≤ room s + 0) i t (start s)
+    (loosened (notice i t (start s)) (omega (arith, ap length (notice-sent i t (start s)), notice-room i t (start s))))
+    (loosened (start s) (omega arith))))
+    (λ e. rw e (omega arith))
+  where
+    loosened : (y : Serving) → total y ≤ room s → total (loosen i p (heeded (y .server) i t set) y) ≤ room s + 0
+    loosened y h = omega (arith, h, loosen-room i p (heeded (y .server) i t set) y)
 
 step-share : (i : ℕ) (m : Up) (s : Server) → i < 8 → total (serverStep i m s) ≤ room s + share m
 step-share i m s b = step-keeps (λ x. total x ≤ room s + share m) (atomic-total (room s + share m)) i m s (accept-share i m s b)

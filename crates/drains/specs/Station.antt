@@ -8,7 +8,7 @@ use lib.Dec.{eqb}
 use Rattle.sets.specs.Base.{upd, snoc, any, turned, has}
 use Rattle.sets.specs.Laws.{byB, byEq, eqb-same, eqb-yes, eqb-no}
 use Rattle.line.specs.Messages.{locking, Up, Done, Lock, NoLock, ObjectLock, WholeLock, Down, Page, Deescalate, Callback, Committed, Aborted, Invalidate, Nothing, CommittedAs, AbortedFor, pageOf}
-use Rattle.line.specs.Station.{Station, Did, didStation, does, unless, setKept, setCver, Wait, Idle, ForRead, ForWrite, ForCommit, forCommit, Kept, NotKept, KeptCall, dropPages, mark, doCallback, doKept, doAllKept, closed, close, undo, ended, fits, recordRead, writeLocal, arrive, takeLock, answerWait, onPage, loosen, live, onDeescalate, inUse, onCallback, onCommitted, onAborted, onInvalidate, onDown, stationStep}
+use Rattle.line.specs.Station.{Station, Did, didStation, does, unless, setKept, setCver, Wait, Idle, ForRead, ForWrite, ForCommit, forCommit, Kept, NotKept, KeptCall, dropPages, mark, doCallback, doKept, doAllKept, closed, close, undo, ended, fits, recordRead, writeLocal, arrive, takeLock, answerWait, onPage, loosen, live, onDeescalate, inUse, onCallback, onCommitted, onAborted, onInvalidate, onDown, stationStep, givesUp}
 use Rattle.line.specs.Fuel.{sumTo, sum-at, nb}
 use Rattle.line.specs.Bounds.{undo-kept}
 use Rattle.progress.specs.Clauses.{isKept}
@@ -61,7 +61,7 @@ arrive-kept WholeLock a p v u x s = refl
 
 deescalate-weighs : (p t : ℕ) (s : Station) → weighDid (onDeescalate p t s) ≡ weighKept (s .kept) + 1
 unfolding onDeescalate loosen
-deescalate-weighs p t s = byB (live s t && s .wl p) (λ e. rw e (omega arith)) (λ e. rw e (omega arith))
+deescalate-weighs p t s = byB (givesUp p t s) (λ e. rw e (omega arith)) (λ e. rw e (omega arith))
 
 down-weighs : (m : Down) (s : Station) → weighDid (onDown m s) ≤ weighKept (s .kept) + 2
 unfolding onDown onPage onCallback onCommitted onAborted onInvalidate mark

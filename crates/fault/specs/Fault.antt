@@ -11,6 +11,7 @@ use Rattle.replay.specs.Replay.{addressAt, valueFrom, valueAt, readAgrees, read
 use Rattle.fault.specs.First.{first}
 use Rattle.fault.specs.declared.Fault.{Fault}
 use Rattle.fault.specs.declared.Fault.the-variants.{Nothing, Cut, Header, Sizes, Reads, Writes, Transaction, Station, Kind, Zero, Order, Sequence, Read}
+use Rattle.kinds.specs.Kinds.{mostKind}
 
 -- the table's column "number"
 abbrev pub numberOf : Fault → ℕ
@@ -62,11 +63,11 @@ countFault t =
 abbrev pub lastZeroFrom : ℕ
 lastZeroFrom = zeroBytesFrom + 1
 
--- "station 9", "kind 2", "14 or 15, the first of them that is not 0"
+-- "station 9", "kind 3", "14 or 15, the first of them that is not 0"
 unfoldable pub byteFault : List ℕ → Fault
 byteFault t =
     unless (leb (stationNumber t) 7) (Station (stationNumber t))
-    (unless (leb (stationKind t) 1) (Kind (stationKind t))
+    (unless (leb (stationKind t) mostKind) (Kind (stationKind t))
     (unless (eqb (getD t zeroBytesFrom 0) 0) (Zero zeroBytesFrom (getD t zeroBytesFrom 0))
     (unless (eqb (getD t lastZeroFrom 0) 0) (Zero lastZeroFrom (getD t lastZeroFrom 0)) Nothing)))
 

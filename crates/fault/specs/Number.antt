@@ -19,6 +19,7 @@ use Rattle.fault.specs.declared.Fault.{Fault}
 use Rattle.fault.specs.declared.Fault.the-variants.{Nothing, Cut, Header, Sizes, Reads, Writes, Transaction, Station, Kind, Zero, Sequence}
 use Rattle.fault.specs.First.{first}
 use Rattle.fault.specs.Fault.{numberOf, orElse, unless, countFault, lastZeroFrom, byteFault, fall, orderFault, addressFault, sequenceFault, differs, readFault, wholeFault, cutFault, faultOf}
+use Rattle.kinds.specs.Kinds.{mostKind}
 
 -- the answer of replay that a fault stands for: f are the record's fields
 abbrev pub answerOf : Fields → Fault → Answer
@@ -41,7 +42,7 @@ head-number : (t : List ℕ) → numberOf (orElse (countFault t) (byteFault t)) 
 unfolding headAt headOk orElse countFault byteFault
 head-number t =
     by-tests (leb (readCount t) mostEntries) (leb (writeCount t) mostEntries) (not (eqb (transactionNumber t) 0))
-    (leb (stationNumber t) 7) (leb (stationKind t) 1) (eqb (getD t zeroBytesFrom 0) 0) (eqb (getD t lastZeroFrom 0) 0)
+    (leb (stationNumber t) 7) (leb (stationKind t) mostKind) (eqb (getD t zeroBytesFrom 0) 0) (eqb (getD t lastZeroFrom 0) 0)
   where
     by-tests : (a b d f g y z : Bool)
         → numberOf

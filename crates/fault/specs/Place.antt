@@ -16,6 +16,7 @@ use Rattle.fault.specs.declared.Fault.{Fault}
 use Rattle.fault.specs.declared.Fault.the-variants.{Nothing, Cut, Header, Sizes, Reads, Writes, Transaction, Station, Kind, Zero, Order, Sequence, Read}
 use Rattle.fault.specs.First.{first, first-is}
 use Rattle.fault.specs.Fault.{numberOf, orElse, unless, countFault, lastZeroFrom, byteFault, fall, orderFault, addressFault, sequenceFault, differs, readFault, wholeFault, cutFault, faultOf}
+use Rattle.kinds.specs.Kinds.{mostKind}
 
 -- of the n addresses from a, the one at `at` is the first that is not above the one before it
 pub record Falls (t : List ℕ) (a n at before is : ℕ) : Type 0 where
@@ -47,7 +48,7 @@ Right t last v (Reads n) = (n ≡ readCount t) × (mostEntries < n)
 Right t last v (Writes m) = (m ≡ writeCount t) × (mostEntries < m)
 Right t last v Transaction = transactionNumber t ≡ 0
 Right t last v (Station s) = (s ≡ stationNumber t) × (7 < s)
-Right t last v (Kind k) = (k ≡ stationKind t) × (1 < k)
+Right t last v (Kind k) = (k ≡ stationKind t) × (mostKind < k)
 Right t last v (Zero at is) = (is ≡ getD t at 0) × (is ≡ 0 → ⊥)
 Right t last v (Order at before is) =
     Falls t headerLength (readCount t) at before is ⊎ ((rises t headerLength (readCount t) ≡ true) × Falls t (headerLength + readCount t) (writeCount t) at before is)
@@ -81,9 +82,9 @@ module _ (t : List ℕ) (last : ℕ) (v : List ℕ) where
   right-byte =
       let last-zero = unless (eqb (getD t lastZeroFrom 0) 0) (Zero lastZeroFrom (getD t lastZeroFrom 0)) Nothing in
       let zeros = unless (eqb (getD t zeroBytesFrom 0) 0) (Zero zeroBytesFrom (getD t zeroBytesFrom 0)) last-zero in
-      let kind = unless (leb (stationKind t) 1) (Kind (stationKind t)) zeros in
+      let kind = unless (leb (stationKind t) mostKind) (Kind (stationKind t)) zeros in
       right-row (leb (stationNumber t) 7) (Station (stationNumber t)) kind (λ e. (refl, leb-false _ _ e))
-      (right-row (leb (stationKind t) 1) (Kind (stationKind t)) zeros (λ e. (refl, leb-false _ _ e))
+      (right-row (leb (stationKind t) mostKind) (Kind (stationKind t)) zeros (λ e. (refl, leb-false _ _ e))
       (right-row (eqb (getD t zeroBytesFrom 0) 0) (Zero zeroBytesFrom (getD t zeroBytesFrom 0)) last-zero (λ e. (refl, eqb-false _ _ e))
       (right-row (eqb (getD t lastZeroFrom 0) 0) (Zero lastZeroFrom (getD t lastZeroFrom 0)) Nothing (λ e. (refl, eqb-false _ _ e)) tt)))
 

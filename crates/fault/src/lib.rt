@@ -132,7 +132,7 @@ fn byte_fault(t: &[u8]) -> Fault
     if t[record::STATION] > 7 {
         return Fault::Station(le::wide(t[record::STATION]));
     }
-    if t[record::KIND] > 1 {
+    if t[record::KIND] > kinds::MOST {
         return Fault::Kind(le::wide(t[record::KIND]));
     }
     if t[record::ZEROS] != 0 {

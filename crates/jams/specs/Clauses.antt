@@ -8,7 +8,7 @@ use Prim.Native.Nat.{ℕ, suc, _+_, _≤_, _<_}
 use lib.Dec.{eqb}
 use Rattle.sets.specs.Base.{Val, has, any}
 use Rattle.line.specs.All.{All}
-use Rattle.line.specs.Messages.{pageOf, address, locking, Up, ReadRequest, WriteRequest, Commit, Abort, Purge, Busy, Done, WrittenSet, Lock, NoLock, ObjectLock, WholeLock, Down, Page, Deescalate, Callback, Committed, Aborted, Invalidate}
+use Rattle.line.specs.Messages.{pageOf, address, locking, keeps, Up, ReadRequest, WriteRequest, Commit, Abort, Purge, Busy, Done, WrittenSet, Lock, NoLock, ObjectLock, WholeLock, Down, Page, Deescalate, Callback, Committed, Aborted, Invalidate}
 use Rattle.line.specs.Station.{Station, NotKept, Wait, forWrite, writesTo, someOn}
 use Rattle.line.specs.Server.{Server, Want, WantWrite, lockOn, Waiter}
 use Rattle.line.specs.Line.{World}
@@ -113,6 +113,35 @@ Latest num opened latest fin (Committed t n) = (t ≡ latest) × (fin ≡ true)
 Latest num opened latest fin (Aborted t c) = (t ≡ latest) × (fin ≡ true)
 Latest num opened latest fin (Invalidate d) = Unit {0}
 
+-- what a 19 names is not above t
+abbrev pub AskBelow : ℕ → Down → Type 0
+AskBelow t (Page l a u v x y) = Unit {0}
+AskBelow t (Deescalate q u) = u ≤ t
+AskBelow t (Callback r u set) = Unit {0}
+AskBelow t (Committed u n) = Unit {0}
+AskBelow t (Aborted u c) = Unit {0}
+AskBelow t (Invalidate d) = Unit {0}
+
+-- the transaction that an 8 names
+abbrev pub answerNumber : Up → ℕ
+answerNumber (ReadRequest a t) = 0
+answerNumber (WriteRequest p t set) = 0
+answerNumber (Commit w) = 0
+answerNumber (Abort t) = 0
+answerNumber (Purge p) = 0
+answerNumber (Busy r t) = 0
+answerNumber (Done r t d) = 0
+answerNumber (WrittenSet p t set) = t
+
+-- kinds 1 to 4 behind an 8 name nothing below it
+abbrev pub AnswersFirst : List Up → Type 0
+AnswersFirst [] = Unit {0}
+AnswersFirst (m ∷ l) = All (λ x. numbered x ≡ true → answerNumber m ≤ named x) l × AnswersFirst l
+
+-- an 8 names a transaction that the server has met, or the open one, or one whose 4 is under way
+abbrev pub Met : ℕ → Bool → ℕ → List Up → Up → Type 0
+Met num opened latest U m = latest < answerNumber m → ((opened ≡ true) × (answerNumber m ≡ num)) ⊎ (1 ≤ count (abortOf (answerNumber m)) U)
+
 pub record Numbers (kind num : ℕ) (opened : Bool) (latest : ℕ) (fin : Bool) (U : List Up) (D : List Down) : Type 0 where
   pub N1-up : All (KindUp kind) U
   pub N1-down : All (KindDown kind) D
@@ -123,6 +152,10 @@ pub record Numbers (kind num : ℕ) (opened : Bool) (latest : ℕ) (fin : Bool) 
   pub N6 : latest ≤ num
   pub N7 : All (AbortOver num opened) U
   pub N8 : All (Latest num opened latest fin) D
+  pub N2s : AnswersFirst U
+  pub N10 : All (Met num opened latest U) U
+  pub N10a : All (λ m. answerNumber m ≤ num) U
+  pub K6a : All (AskBelow latest) D
 
 abbrev pub NumbersAt : Server → (ℕ → Station) → (ℕ → List Up) → (ℕ → List Down) → ℕ → Type 0
 NumbersAt s t u d i = Numbers (t i .kind) (t i .num) (t i .opened) (s .latest i) (s .fin i) (u i) (d i)
@@ -185,38 +218,34 @@ Granted i OL WL due ol (Committed t n) = Unit {0}
 Granted i OL WL due ol (Aborted t c) = Unit {0}
 Granted i OL WL due ol (Invalidate d) = Unit {0}
 
+-- a lock that the station has for whole stands: it keeps it, or its transaction is not ended
+abbrev pub Stands : ℕ → Bool → List Down → Type 0
+Stands kind opened D = (keeps kind ≡ true) ⊎ ((locking kind ≡ true) × (opened ≡ true) × (count isEnd D ≡ 0))
+
 pub record Locks (i kind num : ℕ) (opened : Bool) (wr : ℕ → Val) (ol wl due : ℕ → Bool) (OL WL : ℕ → ℕ) (latest : ℕ) (U : List Up) (D : List Down) : Type 0 where
   -- an object lock: its 4 is under way, or the object is written, or it is to be written and a 17 for its page is under way
   pub K1a : (a : ℕ) → OL a ≡ suc i → (1 ≤ count (abortOf latest) U) ⊎ ((opened ≡ true) × (has (wr a) ≡ true)) ⊎ ((1 ≤ count (grantsObject (pageOf a)) D) × (due a ≡ true))
   -- a whole lock: its 4 is under way, or the page is written and the station has it whole or its 8 is under way, or its 18 is under way
-  pub K1b : (p : ℕ) → WL p ≡ suc i → (1 ≤ count (abortOf latest) U) ⊎ ((opened ≡ true) × (meets wr p ≡ true) × ((wl p ≡ true) ⊎ (1 ≤ count (setOf p latest) U))) ⊎ (1 ≤ count (grantsWhole p) D)
+  pub K1b : keeps kind ≡ false → (p : ℕ) → WL p ≡ suc i → (1 ≤ count (abortOf latest) U) ⊎ ((opened ≡ true) × (meets wr p ≡ true) × ((wl p ≡ true) ⊎ (1 ≤ count (setOf p latest) U))) ⊎ (1 ≤ count (grantsWhole p) D)
   -- what is written and not ended is locked at the server
   pub K2a : locking kind ≡ true → opened ≡ true → count isEnd D ≡ 0 → (a : ℕ) → has (wr a) ≡ true → (OL a ≡ suc i) ⊎ (WL (pageOf a) ≡ suc i)
-  pub K2b : locking kind ≡ true → opened ≡ true → count isEnd D ≡ 0 → (p : ℕ) → wl p ≡ true → WL p ≡ suc i
+  pub K2b : (p : ℕ) → wl p ≡ true → Stands kind opened D → WL p ≡ suc i
   -- own locks are on what is written
   pub K3a : (a : ℕ) → ol a ≡ true → has (wr a) ≡ true
-  pub K3b : (p : ℕ) → wl p ≡ true → meets wr p ≡ true
+  pub K3b : keeps kind ≡ false → (p : ℕ) → wl p ≡ true → meets wr p ≡ true
   pub K7 : All (Granted i OL WL due ol) D
-  -- who has written under a lock is known to the server
-  pub K9 : locking kind ≡ true → opened ≡ true → (a : ℕ) → has (wr a) ≡ true → latest ≡ num
+  -- who has written under a lock is known to the server, or keeps the page
+  pub K9 : locking kind ≡ true → opened ≡ true → (a : ℕ) → has (wr a) ≡ true → (latest ≡ num) ⊎ ((keeps kind ≡ true) × (WL (pageOf a) ≡ suc i))
   -- a drop of a page with a lock of its own comes behind the 4
-  pub N9 : (p : ℕ) → ((a : ℕ) → pageOf a ≡ p → OL a ≡ suc i → NoneUntil (abortOf latest) (dropped p) U) × (WL p ≡ suc i → NoneUntil (abortOf latest) (dropped p) U)
+  pub N9 : (p : ℕ) → ((a : ℕ) → pageOf a ≡ p → OL a ≡ suc i → NoneUntil (abortOf latest) (dropped p) U) × (keeps kind ≡ false → WL p ≡ suc i → NoneUntil (abortOf latest) (dropped p) U)
 
 abbrev pub LocksAt : Server → (ℕ → Station) → (ℕ → List Up) → (ℕ → List Down) → ℕ → Type 0
 LocksAt s t u d i =
     Locks i (t i .kind) (t i .num) (t i .opened) (t i .wr) (t i .ol) (t i .wl) (forWrite (t i .wait)) (s .ol) (s .wl) (s .latest i) (u i) (d i)
 
--- 3. DE-ESCALATION of page p at station i; WL and asked are the server's for p, OL its object locks, wl the station's own
+-- 3. DE-ESCALATION of page p at station i that keeps nothing; WL and asked are the server's for p, OL its object locks, wl the station's own
 
--- what a token for any page names is not above t
-abbrev pub AskBelow : ℕ → Down → Type 0
-AskBelow t (Page l a u v x y) = Unit {0}
-AskBelow t (Deescalate q u) = u ≤ t
-AskBelow t (Callback r u set) = Unit {0}
-AskBelow t (Committed u n) = Unit {0}
-AskBelow t (Aborted u c) = Unit {0}
-AskBelow t (Invalidate d) = Unit {0}
-
+-- what an 8 names is not above t
 abbrev pub SetBelow : ℕ → Up → Type 0
 SetBelow t (ReadRequest a u) = Unit {0}
 SetBelow t (WriteRequest q u set) = Unit {0}
@@ -274,6 +303,80 @@ abbrev pub DeescalationAt : Server → (ℕ → Station) → (ℕ → List Up) �
 DeescalationAt s t u d i p =
     Deescalation i p (t i .kind) (t i .num) (t i .opened) (t i .wr) (t i .wl p) (s .ol) (s .wl p) (s .asked p) (s .queue i .want) (s .queue i .req) (s .latest i) (s .fin i) (u i) (d i)
 
+-- 3k. KEEPING of page p at station i of kind 2: its tokens need no transaction
+
+-- an 8 for the page, a 19 for it
+abbrev pub setFor : ℕ → Up → Bool
+setFor p (ReadRequest a t) = false
+setFor p (WriteRequest q t set) = false
+setFor p (Commit w) = false
+setFor p (Abort t) = false
+setFor p (Purge q) = false
+setFor p (Busy r t) = false
+setFor p (Done r t d) = false
+setFor p (WrittenSet q t set) = eqb q p
+
+abbrev pub askFor : ℕ → Down → Bool
+askFor p (Page l a t v u x) = false
+askFor p (Deescalate q t) = eqb q p
+askFor p (Callback r t set) = false
+askFor p (Committed t n) = false
+askFor p (Aborted t c) = false
+askFor p (Invalidate d) = false
+
+-- an 8 for the page has every object that the open transaction has written there, or that is locked by itself for it
+abbrev pub KeptFull : ℕ → ℕ → ℕ → ℕ → (ℕ → Val) → (ℕ → ℕ) → Up → Type 0
+KeptFull i p num latest wr OL (ReadRequest a u) = Unit {0}
+KeptFull i p num latest wr OL (WriteRequest q u set) = Unit {0}
+KeptFull i p num latest wr OL (Commit w) = Unit {0}
+KeptFull i p num latest wr OL (Abort u) = Unit {0}
+KeptFull i p num latest wr OL (Purge q) = Unit {0}
+KeptFull i p num latest wr OL (Busy r u) = Unit {0}
+KeptFull i p num latest wr OL (Done r u d) = Unit {0}
+KeptFull i p num latest wr OL (WrittenSet q u set) = q ≡ p → (a : ℕ) → pageOf a ≡ p → has (wr a) ≡ true → ((u ≡ num) × (set a ≡ true)) ⊎ ((OL a ≡ suc i) × (latest ≡ num))
+
+-- behind a 19 for the page no 18 for it
+abbrev pub NoWholeAfter : ℕ → List Down → Type 0
+NoWholeAfter p [] = Unit {0}
+NoWholeAfter p (m ∷ l) = (askFor p m ≡ true → count (grantsWhole p) l ≡ 0) × NoWholeAfter p l
+
+-- a transaction that the server has not met, or has not finished
+abbrev pub Unended : ℕ → Bool → ℕ → Type 0
+Unended latest fin u = (latest < u) ⊎ ((u ≡ latest) × (fin ≡ false))
+
+-- behind an 8 that will lock an object of the page: no drop of it but behind the transaction's 4, which is there unless it is open
+abbrev pub SetClear : ℕ → ℕ → Bool → ℕ → Bool → List Up → Up → Type 0
+SetClear p num opened latest fin l (ReadRequest a u) = Unit {0}
+SetClear p num opened latest fin l (WriteRequest q u set) = Unit {0}
+SetClear p num opened latest fin l (Commit w) = Unit {0}
+SetClear p num opened latest fin l (Abort u) = Unit {0}
+SetClear p num opened latest fin l (Purge q) = Unit {0}
+SetClear p num opened latest fin l (Busy r u) = Unit {0}
+SetClear p num opened latest fin l (Done r u d) = Unit {0}
+SetClear p num opened latest fin l (WrittenSet q u set) =
+    q ≡ p → Unended latest fin u → (a : ℕ) → pageOf a ≡ p → set a ≡ true → NoneUntil (abortOf u) (dropped p) l × (((opened ≡ true) × (u ≡ num)) ⊎ (1 ≤ count (abortOf u) l))
+
+abbrev pub SetsClear : ℕ → ℕ → Bool → ℕ → Bool → List Up → Type 0
+SetsClear p num opened latest fin [] = Unit {0}
+SetsClear p num opened latest fin (m ∷ l) = SetClear p num opened latest fin l m × SetsClear p num opened latest fin l
+
+pub record Keeping (i p num : ℕ) (opened : Bool) (wr : ℕ → Val) (wl : Bool) (OL : ℕ → ℕ) (WL : ℕ) (asked : Bool) (want : Want) (req latest : ℕ) (fin : Bool) (U : List Up) (D : List Down) : Type 0 where
+  pub K1 : WL ≡ suc i → (wl ≡ true) ⊎ (1 ≤ count (setFor p) U) ⊎ (1 ≤ count (grantsWhole p) D)  -- the station has the page whole, or its 8 or its 18 is under way
+  pub K4 : opened ≡ true → count isEnd D ≡ 0 → WL ≡ suc i → All (KeptFull i p num latest wr OL) U
+  pub K4b : opened ≡ true → All (SetWritten p num wr) U
+  pub K6b : 1 ≤ count (askFor p) D + count (setFor p) U → (WL ≡ suc i) × (asked ≡ true)  -- a token for the page: the lock stands and is asked for
+  pub K6c : count (askFor p) D + count (setFor p) U ≤ 1  -- .. and there is one only
+  pub K6d-up : 1 ≤ count (setFor p) U → (wl ≡ false) × (count (grantsWhole p) D ≡ 0)  -- the 8 is under way: the station has the page whole no more
+  pub K6d-down : NoWholeAfter p D
+  pub K10 : want ≡ WantWrite → pageOf req ≡ p → WL ≢ suc i  -- who waits for a lock on the page has not got it whole
+  pub K10-up : WL ≡ suc i → NoneUntil (setFor p) (asksLock p) U  -- .. nor who asks, but behind the 8
+  pub N9 : WL ≡ suc i → NoneUntil (setFor p) (dropped p) U  -- a drop of the page comes behind the 8
+  pub N12 : SetsClear p num opened latest fin U
+
+abbrev pub KeepingAt : Server → (ℕ → Station) → (ℕ → List Up) → (ℕ → List Down) → ℕ → ℕ → Type 0
+KeepingAt s t u d i p =
+    Keeping i p (t i .num) (t i .opened) (t i .wr) (t i .wl p) (s .ol) (s .wl p) (s .asked p) (s .queue i .want) (s .queue i .req) (s .latest i) (s .fin i) (u i) (d i)
+
 -- 4. SETS: what a 2, or the waiter that it became, names is what the owner waits to write and has no lock on yet
 
 abbrev pub NamesSet : Wait → (ℕ → Bool) → ℕ → (ℕ → Bool) → Type 0
@@ -311,7 +414,10 @@ abbrev pub LocksOf : World → Type 0
 LocksOf w = (i : ℕ) → i < 8 → LocksAt (w .server) (w .station) (w .up) (w .down) i
 
 abbrev pub DeescalationOf : World → Type 0
-DeescalationOf w = (i p : ℕ) → i < 8 → p < 32 → DeescalationAt (w .server) (w .station) (w .up) (w .down) i p
+DeescalationOf w = (i p : ℕ) → i < 8 → p < 32 → keeps (w .station i .kind) ≡ false → DeescalationAt (w .server) (w .station) (w .up) (w .down) i p
+
+abbrev pub KeepingOf : World → Type 0
+KeepingOf w = (i p : ℕ) → i < 8 → keeps (w .station i .kind) ≡ true → KeepingAt (w .server) (w .station) (w .up) (w .down) i p
 
 pub record Orderly (w : World) : Type 0 where
   pub inv : Inv w
@@ -319,4 +425,5 @@ pub record Orderly (w : World) : Type 0 where
   pub kept : KeptOf w
   pub locks : LocksOf w
   pub deescalation : DeescalationOf w
+  pub keeping : KeepingOf w
   pub sets : SetsOf w

@@ -131,7 +131,7 @@ full-keeps i p L wr wr′ OL OL′ l w (Done r u d) c = tt
 full-keeps i p L wr wr′ OL OL′ l w (WrittenSet q u set) c =
     λ e f a g h. either (w a g h) (λ x. either (c e f a g x) (λ y. inl y) (λ y. inr (l a g y))) (λ x. inr x)
 
-written-keeps : (p L : ℕ) (wr wr′ : ℕ → Val) → ((a : ℕ) → has (wr a) ≡ true → has (wr′ a) ≡ true) → (m : Up) → SetWritten p L wr m → SetWritten p L wr′ m
+pub written-keeps : (p L : ℕ) (wr wr′ : ℕ → Val) → ((a : ℕ) → has (wr a) ≡ true → has (wr′ a) ≡ true) → (m : Up) → SetWritten p L wr m → SetWritten p L wr′ m
 written-keeps p L wr wr′ w (ReadRequest a u) c = tt
 written-keeps p L wr wr′ w (WriteRequest p′ u set) c = tt
 written-keeps p L wr wr′ w (Commit k) c = tt

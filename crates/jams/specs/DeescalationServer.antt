@@ -9,7 +9,7 @@ use native.Mathlib.Omega.{arith}
 use lib.Dec.{eqb}
 use Rattle.sets.specs.Base.{upd, upd2, snoc, has}
 use Rattle.sets.specs.Laws.{byB, byEq, eqb-yes, eqb-no}
-use Rattle.line.specs.Messages.{pageOf, lastNumber, Work, Up, WrittenSet, Lock, NoLock, ObjectLock, WholeLock, Down, Page, Deescalate, Callback, Committed, Aborted, Invalidate}
+use Rattle.line.specs.Messages.{pageOf, lastNumber, keeps, Work, Up, WrittenSet, Lock, NoLock, ObjectLock, WholeLock, Down, Page, Deescalate, Callback, Committed, Aborted, Invalidate}
 use Rattle.line.specs.Station.{Station}
 use Rattle.line.specs.Server.{Server, Serving, onServer, send, setListed, setOl, setQueue, valuesOn, unavailable, Waiter, waiterPend, waiterCalled, NoWant, WantWrite, waits, badNumber, notice, finish, join, leave, sendPage, abort, write, archive, install, commitNow, markBusy, answered, loosen, ask, serveRead, concerned, call, grantObject, grantPage, End, ByCommit, ByCause}
 use Rattle.line.specs.Apart.{Apart, GoodNumber, good-number}
@@ -19,21 +19,21 @@ use Rattle.truth.specs.Clauses.{askOf}
 use Rattle.truth.specs.Frame.{if-serving, installs, call-own, call-far, noticed-latest, noticed-fin, noticed-queue, noticed-ol, noticed-wl, noticed-sent}
 use Rattle.truth.specs.CallbacksServer.{send-to, send-past}
 use Rattle.truth.specs.ExclusionFields.{eqb-off}
-use Rattle.jams.specs.Freed.{freed-none, freed-back, freed-fore, not-own, new-free}
+use Rattle.jams.specs.Freed.{freed-fore, released-none, released-back, released-not, new-whole}
 use Rattle.jams.specs.Clauses.{grantsWhole, asksLock, AskBelow, givesUp, DeescalationAt}
 use Rattle.jams.specs.Deescalation.{isWrite, pop-up, push-down, waits-for, others, begun, over, asks, grants, loosens}
 
 abbrev pub DeIn : (ℕ → Station) → (ℕ → List Up) → (ℕ → List Down) → ℕ → ℕ → Serving → Type 0
 DeIn t u d j p x = DeescalationAt (x .server) t u (λ k. d k ++ sentTo k (x .sent)) j p
 
-noticed-asked : (i T : ℕ) (x : Serving) → (notice i T x) .server .asked ≡ x .server .asked
+pub noticed-asked : (i T : ℕ) (x : Serving) → (notice i T x) .server .asked ≡ x .server .asked
 unfolding notice
 noticed-asked i T x = byEq T (x .server .latest i) (λ q. rw q refl) (λ q. rw q refl)
 
--- who is finished holds no page
-pub finished-free : (i j p : ℕ) (n : End) (x : Serving) → eqb j i ≡ true → (finish i n x) .server .wl p ≢ suc j
+-- who is finished and keeps nothing holds no page
+pub finished-free : (i j p : ℕ) (n : End) (x : Serving) → keeps (x .server .kind j) ≡ false → eqb j i ≡ true → (finish i n x) .server .wl p ≢ suc j
 unfolding finish
-finished-free i j p n x e = rw (eqb-yes j i e) (freed-none i (x .server .wl) p)
+finished-free i j p n x v e = rw (eqb-yes j i e) (released-none (x .server .kind i) i (x .server .wl) p (rw (eqb-yes j i e) at v))
 
 module _ (t : ℕ → Station) (u : ℕ → List Up) (d : ℕ → List Down) (j p : ℕ) where
   -- THE PARTS OF THE ACTIONS
@@ -46,24 +46,24 @@ module _ (t : ℕ → Station) (u : ℕ → List Up) (d : ℕ → List Down) (j 
   unfolding leave
   leave-de i x h = byEq j i (λ e. rw e (waits-for h NoWant 0 (λ q. absurd (false≢true (ap isWrite q))))) (λ e. rw e h)
 
-  pub finish-de : (i : ℕ) (n : End) (x : Serving) → DeIn t u d j p x → DeIn t u d j p (finish i n x)
+  pub finish-de : (i : ℕ) (n : End) (x : Serving) → keeps (x .server .kind j) ≡ false → DeIn t u d j p x → DeIn t u d j p (finish i n x)
   unfolding finish
-  finish-de i n x h =
+  finish-de i n x v h =
       let s : Server = x .server in
       byEq j i
-      (λ e. rw e (over h _ _ _ (rw (eqb-yes j i e) (freed-none i (s .wl) p))))
+      (λ e. rw e (over h _ _ _ (rw (eqb-yes j i e) (released-none (s .kind i) i (s .wl) p (rw (eqb-yes j i e) at v)))))
       (λ e.
       rw e
-      (others h _ _ _ (freed-back i j (s .wl) p)
-      (λ w a. rw (not-own i j (s .wl) p e w) (w, a))
+      (others h _ _ _ (released-back (s .kind i) i j (s .wl) p)
+      (λ w a. rw (released-not (s .kind i) i j (s .wl) p e w) (w, a))
       (λ w a g q. freed-fore i j (s .ol) a e q)))
 
   pub join-de : (i : ℕ) (q : Waiter) (x : Serving) → (eqb j i ≡ true → q .want ≡ WantWrite → pageOf (q .req) ≡ p → x .server .wl p ≢ suc j) → DeIn t u d j p x → DeIn t u d j p (join i q x)
   unfolding join
   join-de i q x n h = byEq j i (λ e. rw e (waits-for h (q .want) (q .req) (n e))) (λ e. rw e h)
 
-  pub notice-de : (i T : ℕ) (x : Serving) → badNumber (x .server) i T ≡ false → Apart (x .server) → DeIn t u d j p x → DeIn t u d j p (notice i T x)
-  notice-de i T x n a h =
+  pub notice-de : (i T : ℕ) (x : Serving) → badNumber (x .server) i T ≡ false → Apart (x .server) → keeps (x .server .kind j) ≡ false → DeIn t u d j p x → DeIn t u d j p (notice i T x)
+  notice-de i T x n a v h =
       let s : Server = x .server in
       let g : GoodNumber T (s .latest i) (s .fin i) (waits s i) = good-number s i T n in
       rw (noticed-ol i T x, noticed-wl i T x, noticed-asked i T x, noticed-queue i T x, noticed-sent i T x, noticed-latest i T x j, noticed-fin i T x n j)
@@ -78,7 +78,7 @@ module _ (t : ℕ → Station) (u : ℕ → List Up) (d : ℕ → List Down) (j 
       rw (l, f) at h)
       (λ z.
       let b : s .latest i < T = omega (arith, eqb-no T (s .latest i) z, g .next) in
-      begun h T (rw q b) (rw q (λ w. new-free s i T n b (a .locks .whole-open i p w))))))
+      begun h T (rw q b) (rw q (λ w. new-whole s i T n b (a .locks .whole-open i p w) (rw q at v))))))
       (λ e. rw e h))
 
   -- the message is taken: it gives up no page that is held
@@ -90,23 +90,27 @@ module _ (t : ℕ → Station) (u : ℕ → List Up) (d : ℕ → List Down) (j 
 
   -- THE PASS, and the ends of a transaction
 
-  pub abort-de : (i c : ℕ) (x : Serving) → DeIn t u d j p x → DeIn t u d j p (abort i c x)
+  left-kind : (i : ℕ) (x : Serving) → keeps (x .server .kind j) ≡ false → keeps ((leave i x) .server .kind j) ≡ false
+  unfolding leave
+  left-kind i x v = v
+
+  pub abort-de : (i c : ℕ) (x : Serving) → keeps (x .server .kind j) ≡ false → DeIn t u d j p x → DeIn t u d j p (abort i c x)
   unfolding abort
-  abort-de i c x h = send-de i (Aborted _ c) (finish i (ByCause c) (leave i x)) refl tt refl (finish-de i (ByCause c) (leave i x) (leave-de i x h))
+  abort-de i c x v h = send-de i (Aborted _ c) (finish i (ByCause c) (leave i x)) refl tt refl (finish-de i (ByCause c) (leave i x) (left-kind i x v) (leave-de i x h))
 
-  installed-de : (i : ℕ) (w : Work) (x : Serving) → DeIn t u d j p x → DeIn t u d j p (finish i ByCommit (archive i w (write w (leave i x))))
+  installed-de : (i : ℕ) (w : Work) (x : Serving) → keeps (x .server .kind j) ≡ false → DeIn t u d j p x → DeIn t u d j p (finish i ByCommit (archive i w (write w (leave i x))))
   unfolding archive write
-  installed-de i w x h = finish-de i ByCommit (archive i w (write w (leave i x))) (leave-de i x h)
+  installed-de i w x v h = finish-de i ByCommit (archive i w (write w (leave i x))) (left-kind i x v) (leave-de i x h)
 
-  pub install-de : (i : ℕ) (w : Work) (x : Serving) → DeIn t u d j p x → DeIn t u d j p (install i w x)
-  install-de i w x h =
+  pub install-de : (i : ℕ) (w : Work) (x : Serving) → keeps (x .server .kind j) ≡ false → DeIn t u d j p x → DeIn t u d j p (install i w x)
+  install-de i w x v h =
       installs (DeIn t u d j p) i w
       (λ k y e g. send-de k (Invalidate (λ a. has (w .writes a))) y refl tt refl g)
-      x (send-de i (Committed (w .transaction) _) (finish i ByCommit (archive i w (write w (leave i x)))) refl tt refl (installed-de i w x h))
+      x (send-de i (Committed (w .transaction) _) (finish i ByCommit (archive i w (write w (leave i x)))) refl tt refl (installed-de i w x v h))
 
-  pub commit-de : (i : ℕ) (w : Work) (x : Serving) → DeIn t u d j p x → DeIn t u d j p (commitNow i w x)
+  pub commit-de : (i : ℕ) (w : Work) (x : Serving) → keeps (x .server .kind j) ≡ false → DeIn t u d j p x → DeIn t u d j p (commitNow i w x)
   unfolding commitNow
-  commit-de i w x h = if-serving (DeIn t u d j p) (eqb (x .server .last) lastNumber) (λ e. abort-de i 4 x h) (λ e. install-de i w x h)
+  commit-de i w x v h = if-serving (DeIn t u d j p) (eqb (x .server .last) lastNumber) (λ e. abort-de i 4 x v h) (λ e. install-de i w x v h)
 
   -- a page that brings no whole lock
   pub page-de : (l : Lock) (i a : ℕ) (v : ℕ → Bool) (x : Serving) → ((b T : ℕ) (n y : ℕ → ℕ) → grantsWhole p (Page l b T n v y) ≡ false) → DeIn t u d j p x → DeIn t u d j p (sendPage l i a v x)
@@ -159,15 +163,15 @@ module _ (t : ℕ → Station) (u : ℕ → List Up) (d : ℕ → List Down) (j 
       (λ e. rw (send-past i j (d j) (x .sent) m e, q, e) h))
 
   -- 19, to the holder k of page q
-  pub ask-de : (k q : ℕ) (x : Serving) → x .server .wl q ≡ suc k → x .server .asked q ≡ false → DeIn t u d j p x → DeIn t u d j p (ask k q x)
+  pub ask-de : (k q : ℕ) (x : Serving) → x .server .wl q ≡ suc k → x .server .asked q ≡ false → (eqb j k ≡ true → x .server .wholeFor q ≡ x .server .latest k) → DeIn t u d j p x → DeIn t u d j p (ask k q x)
   unfolding ask
-  ask-de k q x w n h =
+  ask-de k q x w n g h =
       let s : Server = x .server in
-      let m : Down = Deescalate q (s .latest k) in
+      let m : Down = Deescalate q (s .wholeFor q) in
       byEq j k
       (λ e.
       let z : j ≡ k = eqb-yes j k e in
-      rw (send-to k j (d j) (x .sent) m e)
+      rw (send-to k j (d j) (x .sent) m e, g e)
       (byEq p q
       (λ f. rw (f, ← z, ← eqb-yes p q f) (asks h (rw (eqb-yes p q f, z) w) (rw (eqb-yes p q f) n)))
       (λ f.
@@ -202,9 +206,9 @@ module _ (t : ℕ → Station) (u : ℕ → List Up) (d : ℕ → List Down) (j 
   answered-de i k x h = byEq j k (λ e. rw (e, ← eqb-yes j k e) h) (λ e. rw e h)
 
   -- 8: it is taken, and was the only token
-  pub loosen-de : (i q T : ℕ) (set : ℕ → Bool) (l : List Up) (x : Serving) → u i ≡ WrittenSet q T set ∷ l → x .server .wl q ≡ suc i → T ≡ x .server .latest i → DeIn t u d j p x → DeIn t (upd u i l) d j p (loosen i q set x)
+  pub loosen-de : (i q T : ℕ) (said set : ℕ → Bool) (l : List Up) (x : Serving) → u i ≡ WrittenSet q T said ∷ l → x .server .wl q ≡ suc i → (eqb j i ≡ true → T ≡ x .server .latest i) → DeIn t u d j p x → DeIn t (upd u i l) d j p (loosen i q set x)
   unfolding loosen
-  loosen-de i q T set l x k w y h =
+  loosen-de i q T said set l x k w y h =
       let s : Server = x .server in
       byEq p q
       (λ f.
@@ -212,11 +216,11 @@ module _ (t : ℕ → Station) (u : ℕ → List Up) (d : ℕ → List Down) (j 
       byEq j i
       (λ e.
       let o : j ≡ i = eqb-yes j i e in
-      let head : u j ≡ WrittenSet p T set ∷ l = rw (o, z) k in
-      rw (f, e) (loosens T set _ (rw o y) (rw head at h)))
+      let head : u j ≡ WrittenSet p T said ∷ l = rw (o, z) k in
+      rw (f, e) (loosens T said _ (rw o (y e)) (rw head at h)))
       (λ e. rw (f, e) (others h _ 0 false (λ g. absurd (omega arith)) (λ g a. absurd (eqb-no j i e (omega (arith, rw z at g)))) (λ g. absurd (omega arith)))))
       (λ f.
       let far : eqb q p ≡ false = eqb-off p q f in
       rw f
-      (others (taken-de i (WrittenSet q T set) l x k (λ e g. rw far refl) h) _ (s .wl p) (s .asked p) (λ g. g) (λ g a. (g, a))
+      (others (taken-de i (WrittenSet q T said) l x k (λ e g. rw far refl) h) _ (s .wl p) (s .asked p) (λ g. g) (λ g a. (g, a))
       (λ g a e b. rw (e, f) b)))

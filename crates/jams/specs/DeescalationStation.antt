@@ -10,13 +10,14 @@ use lib.Dec.{eqb}
 use Rattle.sets.specs.Base.{upd, Val, none, has}
 use Rattle.sets.specs.Laws.{byB, byEq, eqb-same, eqb-yes, and-r, or-yes, or-no, any-some, not-yes}
 use Rattle.line.specs.All.{all-map}
-use Rattle.line.specs.Messages.{pageOf, address, locking, Up, ReadRequest, WriteRequest, Commit, Abort, Purge, Busy, Done, WrittenSet, Lock, NoLock, ObjectLock, WholeLock, Down, Page, Deescalate, Callback, Committed, Aborted, Invalidate, Written}
-use Rattle.line.specs.Station.{Station, Did, does, didStation, setKept, NotKept, KeptCall, workOf, live, mayWrite, drops, mark, dropPages, recordRead, writeLocal, doCallback, closed, close, readLocal, readAsk, writeAsk, arrive, takeLock, writtenOn, loosen, onDeescalate, onCommitted, onAborted, stationStep, ForWrite, forWrite, someOn, lowestOn, named, ofPage}
+use Rattle.line.specs.Messages.{pageOf, address, locking, keeps, Up, ReadRequest, WriteRequest, Commit, Abort, Purge, Busy, Done, WrittenSet, Lock, NoLock, ObjectLock, WholeLock, Down, Page, Deescalate, Callback, Committed, Aborted, Invalidate, Written}
+use Rattle.line.specs.Station as St
+use Rattle.line.specs.Station.{Station, Did, does, didStation, setKept, NotKept, KeptCall, workOf, live, mayWrite, drops, mark, dropPages, recordRead, writeLocal, doCallback, closed, close, readLocal, readAsk, writeAsk, arrive, takeLock, writtenOn, loosen, onDeescalate, onCommitted, onAborted, stationStep, ForWrite, forWrite, someOn, lowestOn, named, ofPage, answersFor}
 use Rattle.line.specs.Server.{Server}
 use Rattle.line.specs.Line.{Op, perform}
 use Rattle.line.specs.Truth.{count}
 use Rattle.truth.specs.Clauses.{stale, tokenDown, setOf, Tokens}
-use Rattle.truth.specs.Tokens.{idle-quiet, of-page}
+use Rattle.truth.specs.Tokens.{idle-quiet, of-page, undo-kind}
 use Rattle.truth.specs.Frame.{none-count, count-less, append-nil, append-assoc, Active, Owns, performs, closes, isLock, arrived, Takes, takes, ForPage}
 use Rattle.truth.specs.GoalsLists.{either}
 use Rattle.jams.specs.Clauses.{KindUp, Numbers, Locks, abortOf, grantsWhole, givesUp, Deescalation, Sets}
@@ -36,7 +37,7 @@ set-kind kind p t e (Done r u d) k = refl
 set-kind kind p t e (WrittenSet q u set) k = absurd (false≢true (sym e ∙ k))
 
 -- an 18 is a token
-whole-token : (old : ℕ → Bool) (p : ℕ) (m : Down) → grantsWhole p m ≡ true → tokenDown old m ≡ true
+pub whole-token : (old : ℕ → Bool) (p : ℕ) (m : Down) → grantsWhole p m ≡ true → tokenDown old m ≡ true
 whole-token old p (Page NoLock a t v u x) e = absurd (false≢true e)
 whole-token old p (Page ObjectLock a t v u x) e = refl
 whole-token old p (Page WholeLock a t v u x) e = refl
@@ -69,8 +70,8 @@ module _ (S : Server) (i p : ℕ) (s : Station) (U : List Up) (D : List Down) (k
       omega arith
 
   -- who asks for a lock on a page that it holds gave it up before [K1b, S1b]
-  given-up : (pg : ℕ) (f : ℕ → Val) → Active s → locking (s .kind) ≡ true → someOn pg (named f s) ≡ true → eqb p pg ≡ true → S .wl p ≡ suc i → 1 ≤ count (givesUp p (S .latest i)) U
-  given-up pg f c e m q w =
+  given-up : (pg : ℕ) (f : ℕ → Val) → Active s → locking (s .kind) ≡ true → keeps (s .kind) ≡ false → someOn pg (named f s) ≡ true → eqb p pg ≡ true → S .wl p ≡ suc i → 1 ≤ count (givesUp p (S .latest i)) U
+  given-up pg f c e v m q w =
       let L : ℕ = S .latest i in
       let r = any-some 8 (λ o. named f s (address pg o)) m in
       let a : ℕ = address pg (r .0) in
@@ -82,7 +83,7 @@ module _ (S : Server) (i p : ℕ) (s : Station) (U : List Up) (D : List Down) (k
       let old : ℕ → Bool = stale (s .kind) (s .num) (s .opened) in
       let none18 : count (tokenDown old) D ≡ 0 = idle-quiet (c .idle) (k .tokens) .no-down in
       let no18 : count (grantsWhole p) D ≤ count (tokenDown old) D = count-less (grantsWhole p) (tokenDown old) (whole-token old p) D in
-      either (k .locks .K1b p w) (λ x. omega arith)
+      either (k .locks .K1b v p w) (λ x. omega arith)
       (λ x.
       either x (λ y. either (y .2) (λ t. absurd (false≢true (sym free ∙ t))) (λ t. omega arith))
       (λ y. absurd (omega arith)))
@@ -98,14 +99,15 @@ module _ (S : Server) (i p : ℕ) (s : Station) (U : List Up) (D : List Down) (k
       (λ e. absurd (unset e n))
 
   -- who has a page whole at the server's latest transaction has it open [K3, S6, K9]
-  whole-live : (t : ℕ) → locking (s .kind) ≡ true → s .wl p ≡ true → t ≡ S .latest i → live s t ≡ true
-  whole-live t e w q =
-      let u = any-some 8 (λ o. has (s .wr (address p o))) (k .locks .K3b p w) in
+  whole-live : (t : ℕ) → locking (s .kind) ≡ true → keeps (s .kind) ≡ false → s .wl p ≡ true → t ≡ S .latest i → live s t ≡ true
+  whole-live t e v w q =
+      let u = any-some 8 (λ o. has (s .wr (address p o))) (k .locks .K3b v p w) in
       let a : ℕ = address p (u .0) in
       let x : has (s .wr a) ≡ true = u .2 in
       let o : s .opened ≡ true =
       byB (s .opened) (λ z. z) (λ z. let y : s .wr a ≡ none = k .tokens .S6 z .0 a .1 in absurd (false≢true (rw y at x))) in
-      rw (o, q, k .locks .K9 e o a x, eqb-same (s .num)) refl
+      let n : S .latest i ≡ s .num = either (k .locks .K9 e o a x) (λ y. y) (λ y. absurd (false≢true (sym v ∙ y .0))) in
+      rw (o, q, n, eqb-same (s .num)) refl
 
 module _ (S : Server) (i p : ℕ) (U : List Up) (D : List Down) where
   -- nothing sent
@@ -121,18 +123,18 @@ module _ (S : Server) (i p : ℕ) (U : List Up) (D : List Down) where
       (push-up (Done r t _) refl tt (λ q. absurd (false≢true q)) h)
 
   -- the transaction ends
-  close-de : (d : Did) {kind num : ℕ} {o : Bool} {wr : ℕ → Val} {wl : Bool} → Deescalation i p kind num o wr wl (S .ol) (S .wl p) (S .asked p) (S .queue i .want) (S .queue i .req) (S .latest i) (S .fin i) (U ++ d .sent) D → DeDid S i p U D (close d)
+  close-de : (d : Did) → keeps (d .station .kind) ≡ false → {kind num : ℕ} {o : Bool} {wr : ℕ → Val} {wl : Bool} → Deescalation i p kind num o wr wl (S .ol) (S .wl p) (S .asked p) (S .queue i .want) (S .queue i .req) (S .latest i) (S .fin i) (U ++ d .sent) D → DeDid S i p U D (close d)
   unfolding closed
-  close-de d h = closes (DeDid S i p U D) kept-de d (ends h (d .station .kind) (d .station .num))
+  close-de d v h = closes (DeDid S i p U D) kept-de d (rw v (ends h (d .station .kind) (d .station .num)))
 
   -- THE OWNER'S MOVES
-  module _ (s : Station) (k : Known S i s U D) (h : DeAt S i p s U D) where
+  module _ (s : Station) (v : keeps (s .kind) ≡ false) (k : Known S i s U D) (h : DeAt S i p s U D) where
     asked : (q : ℕ) (f : ℕ → Val) → Active s → someOn q (named f s) ≡ true → DeDid S i p U D (writeAsk q f s)
     unfolding writeAsk
     asked q f c e = by-kind (locking (s .kind)) refl
       where
         by-kind : (b : Bool) → locking (s .kind) ≡ b → DeAt S i p s (U ++ (cond b (WriteRequest q (s .num) (named f s)) (ReadRequest (lowestOn q (named f s)) (s .num)) ∷ [])) D
-        by-kind true z = push-up (WriteRequest q (s .num) (named f s)) refl tt (λ g w. given-up S i p s U D k q f c z e g w) h
+        by-kind true z = push-up (WriteRequest q (s .num) (named f s)) refl tt (λ g w. given-up S i p s U D k q f c z v e g w) h
         by-kind false z = push-up (ReadRequest (lowestOn q (named f s)) (s .num)) refl tt (λ g. absurd (false≢true g)) h
 
     owns-de : Owns s (λ op d. DeDid S i p U D d)
@@ -150,16 +152,16 @@ module _ (S : Server) (i p : ℕ) (U : List Up) (D : List Down) where
           commits = λ a. push-up (Commit (workOf s)) refl tt (λ q. absurd (false≢true q)) h;
           aborts = λ a.
               byB (locking (s .kind))
-              (λ z. rw z (close-de _ (push-up (Abort (s .num)) refl tt (λ q. absurd (false≢true q)) h)))
-              (λ z. rw z (close-de _ (still s h)));
-          purges = λ q a b c e. push-up (Purge q) refl tt (λ q. absurd (false≢true q)) h;
+              (λ z. rw z (close-de _ (rw (undo-kind s) v) (push-up (Abort (s .num)) refl tt (λ q. absurd (false≢true q)) h)))
+              (λ z. rw z (close-de _ (rw (undo-kind s) v) (still s h)));
+          purges = λ q a b c e n. push-up (Purge q) refl tt (λ q. absurd (false≢true q)) h;
         }
 
     pub owner-de : (op : Op) → DeDid S i p U D (perform op s)
     owner-de op = performs s (λ o d. DeDid S i p U D d) owns-de op
 
   -- THE STATION'S MOVES: m is taken from the down line
-  module _ (s : Station) where
+  module _ (s : Station) (v : keeps (s .kind) ≡ false) where
     abbrev Took : Down → Did → Type 0
     Took m d = Known S i s U (m ∷ D) → DeAt S i p s U (m ∷ D) → DeDid S i p U D d
 
@@ -180,16 +182,18 @@ module _ (S : Server) (i p : ℕ) (U : List Up) (D : List Down) where
     unfolding onDeescalate loosen
     asked-de q t e k h =
         let set : ℕ → Bool = writtenOn q t s in
+        let same : answersFor t s ≡ t = rw v refl in
         let full : q ≡ p → t ≡ S .latest i → s .opened ≡ true → S .latest i ≡ s .num → (a : ℕ) → pageOf a ≡ p → has (s .wr a) ≡ true → set a ≡ true =
         λ x y o n a g w. rw (o, y, n, eqb-same (s .num), g, x, eqb-same p, w) refl in
         let only : (a : ℕ) → set a ≡ true → has (s .wr a) ≡ true = λ a g. and-r (live s t && eqb (pageOf a) q) (has (s .wr a)) g in
-        byB (live s t && s .wl q)
+        rw same
+        (byB (St.givesUp q t s)
         (λ z. rw z (answers q t set (upd (s .wl) q false p) full only (λ g. byEq p q (λ y. rw y refl) (λ y. rw y g)) (λ x y. rw (x, eqb-same p) refl) h))
         (λ z.
         rw z
         (answers q t set (s .wl p) full only (λ g. g)
-        (λ x y. byB (s .wl p) (λ w. absurd (false≢true (sym z ∙ (rw (whole-live S i p s U _ k t e w y, x, w) refl)))) (λ w. w))
-        h))
+        (λ x y. byB (s .wl p) (λ w. absurd (false≢true (sym z ∙ (rw (v, whole-live S i p s U _ k t e v w y, x, w) refl)))) (λ w. w))
+        h)))
 
     takes-de : Takes s Took
     unfolding recordRead arrive takeLock doCallback mark dropPages onCommitted onAborted
@@ -202,9 +206,9 @@ module _ (S : Server) (i p : ℕ) (U : List Up) (D : List Down) where
           deescalates = λ q t e k h. asked-de q t e k h;
           keeps = λ r t set e f k h. push-up (Busy r t) refl tt (λ q. absurd (false≢true q)) (pop-down _ h);
           dones = λ r t set e f k h. push-up (Done r t _) refl tt (λ q. absurd (false≢true q)) (pop-down _ h);
-          commits = λ t n e f k h. close-de _ (still s (pop-down _ h));
-          aborts = λ t c e f k h. close-de _ (still s (pop-down _ h));
-          invalid-ends = λ d e f g k h. close-de _ (still s (pop-down _ h));
+          commits = λ t n e f k h. close-de _ v (still s (pop-down _ h));
+          aborts = λ t c e f k h. close-de _ (rw (undo-kind s) v) (still s (pop-down _ h));
+          invalid-ends = λ d e f g k h. close-de _ (rw (undo-kind (mark d s)) v) (still s (pop-down _ h));
           invalid = λ d e f k h. still s (pop-down _ h);
         }
 

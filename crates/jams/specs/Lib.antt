@@ -17,6 +17,11 @@ pub mod Deescalation
 pub mod DeescalationStation
 pub mod DeescalationServer
 pub mod DeescalationLayer
+-- a station that keeps its pages
+pub mod Keeping
+pub mod KeepingStation
+pub mod KeepingServer
+pub mod KeepingLayer
 -- the layer of locks
 pub mod Locks
 pub mod LocksHeld

@@ -9,13 +9,13 @@ use lib.Dec.{eqb}
 use Rattle.sets.specs.Base.{upd, snoc, nowhere, Val, none, some, has, noneAt}
 use Rattle.sets.specs.Laws.{byB, byEq, eqb-same, eqb-yes, or-yes, any-yes, any-some}
 use Rattle.line.specs.All.{All, all-map}
-use Rattle.line.specs.Messages.{pageOf, address, locking, Up, Abort, WrittenSet, NoLock, ObjectLock, WholeLock, Down, Page, Deescalate, Callback, Committed, Aborted, Invalidate}
+use Rattle.line.specs.Messages.{pageOf, address, locking, keeps, Up, Abort, WrittenSet, NoLock, ObjectLock, WholeLock, Down, Page, Deescalate, Callback, Committed, Aborted, Invalidate}
 use Rattle.line.specs.Truth.{count}
 use Rattle.truth.specs.Clauses.{dropped, setOf, brings, stale, tokenDown}
 use Rattle.truth.specs.Frame.{count-snoc, count-less, all-snoc, count-none}
 use Rattle.truth.specs.Coverage.{on-page}
 use Rattle.truth.specs.GoalsLists.{either}
-use Rattle.jams.specs.Clauses.{abortOf, isEnd, grantsObject, grantsWhole, meets, NoneUntil, Granted, Locks}
+use Rattle.jams.specs.Clauses.{abortOf, isEnd, grantsObject, grantsWhole, meets, NoneUntil, Granted, Stands, Locks}
 use Rattle.jams.specs.Until.{until-ended, until-snoc, until-pop}
 use Rattle.line.specs.Station.{orVal}
 use Rattle.truth.specs.Tokens.{Quiet}
@@ -59,96 +59,115 @@ meets-more f wr p e = let r = meets-some wr p e in meets-yes (over f wr) p (r .0
 -- WHO HAS NO LOCK
 
 module _ {i kind num : ℕ} {opened : Bool} {wr : ℕ → Val} {ol wl due : ℕ → Bool} {OL WL : ℕ → ℕ} {latest : ℕ} {U : List Up} {D : List Down} where
-  -- .. and has ended at the server or written nothing
-  pub bare : ((a : ℕ) → ol a ≡ true → has (wr a) ≡ true) → ((p : ℕ) → wl p ≡ true → meets wr p ≡ true)
-      → ((a : ℕ) → OL a ≢ suc i) → ((p : ℕ) → WL p ≢ suc i)
-      → (locking kind ≡ true → opened ≡ true → count isEnd D ≡ 0 → (a : ℕ) → has (wr a) ≡ true → ⊥)
-      → (locking kind ≡ true → opened ≡ true → (a : ℕ) → has (wr a) ≡ true → latest ≡ num)
+  -- .. but pages that it keeps, and has ended at the server or written nothing elsewhere
+  pub bare : ((a : ℕ) → ol a ≡ true → has (wr a) ≡ true) → (keeps kind ≡ false → (p : ℕ) → wl p ≡ true → meets wr p ≡ true)
+      → ((a : ℕ) → OL a ≢ suc i) → (keeps kind ≡ false → (p : ℕ) → WL p ≢ suc i)
+      → (locking kind ≡ true → opened ≡ true → count isEnd D ≡ 0 → (a : ℕ) → has (wr a) ≡ true → (keeps kind ≡ true) × (WL (pageOf a) ≡ suc i))
+      → (keeps kind ≡ true → (p : ℕ) → wl p ≡ true → WL p ≡ suc i)
+      → (locking kind ≡ true → opened ≡ true → (a : ℕ) → has (wr a) ≡ true → (latest ≡ num) ⊎ ((keeps kind ≡ true) × (WL (pageOf a) ≡ suc i)))
       → All (Granted i OL WL due ol) D → Locks i kind num opened wr ol wl due OL WL latest U D
-  bare x y no-object no-whole over known g =
+  bare x y no-object no-whole over own known g =
       record {
         K1a = λ a e. absurd (no-object a e);
-        K1b = λ p e. absurd (no-whole p e);
-        K2a = λ k o n a e. absurd (over k o n a e);
-        K2b = λ k o n p e. let r = meets-some wr p (y p e) in absurd (over k o n (r .0) (r .2));
+        K1b = λ v p e. absurd (no-whole v p e);
+        K2a = λ k o n a e. inr (over k o n a e .1);
+        K2b = λ p e s.
+            byB (keeps kind) (λ v. own v p e)
+            (λ v.
+            either s (λ t. absurd (false≢true (sym v ∙ t)))
+            (λ t. let r = meets-some wr p (y v p e) in absurd (false≢true (sym v ∙ over (t .0) (t .1) (t .2) (r .0) (r .2) .0))));
         K3a = x;
         K3b = y;
         K7 = g;
         K9 = known;
-        N9 = λ p. (λ a f e. absurd (no-object a e), λ e. absurd (no-whole p e));
+        N9 = λ p. (λ a f e. absurd (no-object a e), λ v e. absurd (no-whole v p e));
       }
 
--- the server notices transaction T: the latest already, or no lock is left of the one before
+-- the server notices transaction T: the latest already, or no lock is left of the one before but pages that are kept
 pub renumbered : {i kind num : ℕ} {opened : Bool} {wr : ℕ → Val} {ol wl due : ℕ → Bool} {OL WL : ℕ → ℕ} {latest : ℕ} {U : List Up} {D : List Down} (T : ℕ)
-    → (eqb T latest ≡ false → ((a : ℕ) → OL a ≢ suc i) × ((p : ℕ) → WL p ≢ suc i)) → (locking kind ≡ true → T ≡ num)
+    → (eqb T latest ≡ false → ((a : ℕ) → OL a ≢ suc i) × (keeps kind ≡ false → (p : ℕ) → WL p ≢ suc i))
+    → (locking kind ≡ true → opened ≡ true → (a : ℕ) → has (wr a) ≡ true → (T ≡ num) ⊎ ((keeps kind ≡ true) × (WL (pageOf a) ≡ suc i)))
     → Locks i kind num opened wr ol wl due OL WL latest U D → Locks i kind num opened wr ol wl due OL WL T U D
 renumbered {latest = latest} T n k h =
     byEq T latest (λ e. rw (eqb-yes T latest e) h)
     (λ e.
     let z = n e in
-    bare (h .K3a) (h .K3b) (z .0) (z .1) (λ g o c a f. either (h .K2a g o c a f) (λ x. z .0 a x) (λ x. z .1 (pageOf a) x)) (λ g o a f. k g) (h .K7))
+    record {
+      K1a = λ a x. absurd (z .0 a x);
+      K1b = λ v p x. absurd (z .1 v p x);
+      K2a = h .K2a;
+      K2b = h .K2b;
+      K3a = h .K3a;
+      K3b = h .K3b;
+      K7 = h .K7;
+      K9 = k;
+      N9 = λ p. (λ a f x. absurd (z .0 a x), λ v x. absurd (z .1 v p x));
+    })
 
 -- EVERY LOCK HAS ITS 4 UNDER WAY: then the transaction may be closed, and anything sent
 
-pub record Settled (i : ℕ) (OL WL : ℕ → ℕ) (latest : ℕ) (U : List Up) (D : List Down) : Type 0 where
+pub record Settled (i kind : ℕ) (wl : ℕ → Bool) (OL WL : ℕ → ℕ) (latest : ℕ) (U : List Up) (D : List Down) : Type 0 where
   pub object : (a : ℕ) → OL a ≡ suc i → 1 ≤ count (abortOf latest) U
-  pub whole : (p : ℕ) → WL p ≡ suc i → 1 ≤ count (abortOf latest) U
+  pub whole : keeps kind ≡ false → (p : ℕ) → WL p ≡ suc i → 1 ≤ count (abortOf latest) U
   pub granted : All (Granted i OL WL nowhere nowhere) D
   pub behind-object : (a : ℕ) → OL a ≡ suc i → NoneUntil (abortOf latest) (dropped (pageOf a)) U
-  pub behind-whole : (p : ℕ) → WL p ≡ suc i → NoneUntil (abortOf latest) (dropped p) U
+  pub behind-whole : keeps kind ≡ false → (p : ℕ) → WL p ≡ suc i → NoneUntil (abortOf latest) (dropped p) U
+  pub stands : (p : ℕ) → wl p ≡ true → (keeps kind ≡ true) × (WL p ≡ suc i)  -- what is left are pages that are kept
 
--- who has no lock may close
-pub free : {i : ℕ} {OL WL : ℕ → ℕ} {latest : ℕ} {U : List Up} {D : List Down} → ((a : ℕ) → OL a ≢ suc i) → ((p : ℕ) → WL p ≢ suc i) → All (Granted i OL WL nowhere nowhere) D → Settled i OL WL latest U D
-free x y g =
+-- who has no lock but those may close
+pub free : {i kind : ℕ} {wl : ℕ → Bool} {OL WL : ℕ → ℕ} {latest : ℕ} {U : List Up} {D : List Down} → ((a : ℕ) → OL a ≢ suc i) → (keeps kind ≡ false → (p : ℕ) → WL p ≢ suc i) → ((p : ℕ) → wl p ≡ true → (keeps kind ≡ true) × (WL p ≡ suc i)) → All (Granted i OL WL nowhere nowhere) D → Settled i kind wl OL WL latest U D
+free x y z g =
     record {
       object = λ a e. absurd (x a e);
-      whole = λ p e. absurd (y p e);
+      whole = λ v p e. absurd (y v p e);
       granted = g;
       behind-object = λ a e. absurd (x a e);
-      behind-whole = λ p e. absurd (y p e);
+      behind-whole = λ v p e. absurd (y v p e);
+      stands = z;
     }
 
-module _ {i : ℕ} {OL WL : ℕ → ℕ} {latest : ℕ} {U : List Up} {D : List Down} (h : Settled i OL WL latest U D) where
-  pub settled-add : (m : Up) → Settled i OL WL latest (snoc U m) D
+module _ {i kind : ℕ} {wl : ℕ → Bool} {OL WL : ℕ → ℕ} {latest : ℕ} {U : List Up} {D : List Down} (h : Settled i kind wl OL WL latest U D) where
+  pub settled-add : (m : Up) → Settled i kind wl OL WL latest (snoc U m) D
   settled-add m =
       let more = count-snoc (abortOf latest) U m in
       record {
         object = λ a e. omega (arith, h .object a e);
-        whole = λ p e. omega (arith, h .whole p e);
+        whole = λ v p e. omega (arith, h .whole v p e);
         granted = h .granted;
         behind-object = λ a e. until-ended (abortOf latest) (dropped (pageOf a)) U (m ∷ []) (h .object a e) (h .behind-object a e);
-        behind-whole = λ p e. until-ended (abortOf latest) (dropped p) U (m ∷ []) (h .whole p e) (h .behind-whole p e);
+        behind-whole = λ v p e. until-ended (abortOf latest) (dropped p) U (m ∷ []) (h .whole v p e) (h .behind-whole v p e);
+        stands = h .stands;
       }
 
-  pub settled-locks : (kind num : ℕ) → Locks i kind num false noneAt nowhere nowhere nowhere OL WL latest U D
-  settled-locks kind num =
+  pub settled-locks : (num : ℕ) → Locks i kind num false noneAt nowhere wl nowhere OL WL latest U D
+  settled-locks num =
       record {
         K1a = λ a e. inl (h .object a e);
-        K1b = λ p e. inl (h .whole p e);
+        K1b = λ v p e. inl (h .whole v p e);
         K2a = λ k o n a e. absurd (false≢true e);
-        K2b = λ k o n p e. absurd (false≢true e);
+        K2b = λ p e s. h .stands p e .1;
         K3a = λ a e. absurd (false≢true e);
-        K3b = λ p e. absurd (false≢true e);
+        K3b = λ v p e. absurd (false≢true (sym v ∙ h .stands p e .0));
         K7 = h .granted;
         K9 = λ k o a e. absurd (false≢true e);
-        N9 = λ p. (λ a f e. rw (← f) (h .behind-object a e), λ e. h .behind-whole p e);
+        N9 = λ p. (λ a f e. rw (← f) (h .behind-object a e), λ v e. h .behind-whole v p e);
       }
 
 -- THE LINES
 
 -- a lock on the page has its 4 under way
-abbrev pub Leaving : ℕ → (ℕ → ℕ) → (ℕ → ℕ) → ℕ → List Up → ℕ → Type 0
-Leaving i OL WL latest U p = ((a : ℕ) → pageOf a ≡ p → OL a ≡ suc i → 1 ≤ count (abortOf latest) U) × (WL p ≡ suc i → 1 ≤ count (abortOf latest) U)
+abbrev pub Leaving : ℕ → ℕ → (ℕ → ℕ) → (ℕ → ℕ) → ℕ → List Up → ℕ → Type 0
+Leaving i kind OL WL latest U p = ((a : ℕ) → pageOf a ≡ p → OL a ≡ suc i → 1 ≤ count (abortOf latest) U) × (keeps kind ≡ false → WL p ≡ suc i → 1 ≤ count (abortOf latest) U)
 
 module _ {i kind num : ℕ} {opened : Bool} {wr : ℕ → Val} {ol wl due : ℕ → Bool} {OL WL : ℕ → ℕ} {latest : ℕ} {U : List Up} {D : List Down} where
   -- a message goes up; a drop of a page that is locked comes behind the 4
-  pub push-up : (m : Up) → ((p : ℕ) → dropped p m ≡ true → Leaving i OL WL latest U p) → Locks i kind num opened wr ol wl due OL WL latest U D → Locks i kind num opened wr ol wl due OL WL latest (snoc U m) D
+  pub push-up : (m : Up) → ((p : ℕ) → dropped p m ≡ true → Leaving i kind OL WL latest U p) → Locks i kind num opened wr ol wl due OL WL latest U D → Locks i kind num opened wr ol wl due OL WL latest (snoc U m) D
   push-up m k h =
       let more : (f : Up → Bool) → count f U ≤ count f (snoc U m) = λ f. omega (arith, count-snoc f U m) in
       record {
         K1a = λ a e. either (h .K1a a e) (λ x. inl (omega (arith, more (abortOf latest)))) (λ x. inr x);
-        K1b = λ p e.
-            either (h .K1b p e) (λ x. inl (omega (arith, more (abortOf latest))))
+        K1b = λ v p e.
+            either (h .K1b v p e) (λ x. inl (omega (arith, more (abortOf latest))))
             (λ x. inr (either x (λ y. inl (y .0, y .1, either (y .2) (λ z. inl z) (λ z. inr (omega (arith, more (setOf p latest)))))) (λ y. inr y)));
         K2a = h .K2a;
         K2b = h .K2b;
@@ -158,7 +177,7 @@ module _ {i kind num : ℕ} {opened : Bool} {wr : ℕ → Val} {ol wl due : ℕ 
         K9 = h .K9;
         N9 = λ p. (
           λ a f g. until-snoc (abortOf latest) (dropped p) U m (λ e. k p e .0 a f g) (h .N9 p .0 a f g),
-          λ g. until-snoc (abortOf latest) (dropped p) U m (λ e. k p e .1 g) (h .N9 p .1 g),
+          λ v g. until-snoc (abortOf latest) (dropped p) U m (λ e. k p e .1 v g) (h .N9 p .1 v g),
         );
       }
 
@@ -167,21 +186,21 @@ module _ {i kind num : ℕ} {opened : Bool} {wr : ℕ → Val} {ol wl due : ℕ 
   plain-up m e h = push-up m (λ p f. absurd (false≢true (sym (e p) ∙ f))) h
 
   -- the server takes a message: no 4 of the latest, no 8 that a whole lock needs
-  pub pop-up : (m : Up) → abortOf latest m ≡ false → ((p : ℕ) → WL p ≡ suc i → meets wr p ≡ true → setOf p latest m ≡ false)
+  pub pop-up : (m : Up) → abortOf latest m ≡ false → (keeps kind ≡ false → (p : ℕ) → WL p ≡ suc i → meets wr p ≡ true → setOf p latest m ≡ false)
       → Locks i kind num opened wr ol wl due OL WL latest (m ∷ U) D → Locks i kind num opened wr ol wl due OL WL latest U D
   pop-up m e f h =
       record {
         K1a = λ a g. either (h .K1a a g) (λ x. inl (omega (arith, rw e at x))) (λ x. inr x);
-        K1b = λ p g.
-            either (h .K1b p g) (λ x. inl (omega (arith, rw e at x)))
-            (λ x. inr (either x (λ y. inl (y .0, y .1, either (y .2) (λ z. inl z) (λ z. inr (omega (arith, rw (f p g (y .1)) at z))))) (λ y. inr y)));
+        K1b = λ v p g.
+            either (h .K1b v p g) (λ x. inl (omega (arith, rw e at x)))
+            (λ x. inr (either x (λ y. inl (y .0, y .1, either (y .2) (λ z. inl z) (λ z. inr (omega (arith, rw (f v p g (y .1)) at z))))) (λ y. inr y)));
         K2a = h .K2a;
         K2b = h .K2b;
         K3a = h .K3a;
         K3b = h .K3b;
         K7 = h .K7;
         K9 = h .K9;
-        N9 = λ p. (λ a g x. until-pop (abortOf latest) (dropped p) m U e (h .N9 p .0 a g x), λ x. until-pop (abortOf latest) (dropped p) m U e (h .N9 p .1 x));
+        N9 = λ p. (λ a g x. until-pop (abortOf latest) (dropped p) m U e (h .N9 p .0 a g x), λ v x. until-pop (abortOf latest) (dropped p) m U e (h .N9 p .1 v x));
       }
 
   -- a message comes down; the lock that it brings stands at the server
@@ -190,9 +209,9 @@ module _ {i kind num : ℕ} {opened : Bool} {wr : ℕ → Val} {ol wl due : ℕ 
       let more : (f : Down → Bool) → count f D ≤ count f (snoc D m) = λ f. omega (arith, count-snoc f D m) in
       record {
         K1a = λ a e. either (h .K1a a e) (λ x. inl x) (λ x. inr (either x (λ y. inl y) (λ y. inr (omega (arith, y .0, more (grantsObject (pageOf a))), y .1))));
-        K1b = λ p e. either (h .K1b p e) (λ x. inl x) (λ x. inr (either x (λ y. inl y) (λ y. inr (omega (arith, more (grantsWhole p))))));
+        K1b = λ v p e. either (h .K1b v p e) (λ x. inl x) (λ x. inr (either x (λ y. inl y) (λ y. inr (omega (arith, more (grantsWhole p))))));
         K2a = λ k o n. h .K2a k o (omega (arith, more isEnd));
-        K2b = λ k o n. h .K2b k o (omega (arith, more isEnd));
+        K2b = λ p e s. h .K2b p e (either s (λ x. inl x) (λ x. inr (x .0, x .1, omega (arith, x .2, more isEnd))));
         K3a = h .K3a;
         K3b = h .K3b;
         K7 = all-snoc (Granted i OL WL due ol) D m (h .K7) g;
@@ -209,11 +228,11 @@ module _ {i kind num : ℕ} {opened : Bool} {wr : ℕ → Val} {ol wl due : ℕ 
         K1a = λ a x.
             either (h .K1a a x) (λ y. inl y)
             (λ y. inr (either y (λ z. inl z) (λ z. byB (grantsObject (pageOf a) m) (λ t. inl (f a t (z .1))) (λ t. inr (omega (arith, rw t at (z .0)), z .1)))));
-        K1b = λ p x.
-            either (h .K1b p x) (λ y. inl y)
+        K1b = λ v p x.
+            either (h .K1b v p x) (λ y. inl y)
             (λ y. inr (either y (λ z. inl z) (λ z. byB (grantsWhole p m) (λ t. let w = g p t in inl (w .0, w .1, inl (w .2))) (λ t. inr (omega (arith, rw t at z))))));
         K2a = λ k o n. h .K2a k o (rw e (omega arith));
-        K2b = λ k o n. h .K2b k o (rw e (omega arith));
+        K2b = λ p x s. h .K2b p x (either s (λ y. inl y) (λ y. inr (y .0, y .1, rw e (omega (arith, y .2)))));
         K3a = h .K3a;
         K3b = h .K3b;
         K7 = h .K7 .1;
@@ -293,7 +312,7 @@ object-brings p (Committed t n) e = absurd (false≢true e)
 object-brings p (Aborted t c) e = absurd (false≢true e)
 object-brings p (Invalidate d) e = absurd (false≢true e)
 
-whole-brings : (p : ℕ) (m : Down) → grantsWhole p m ≡ true → brings p m ≡ true
+pub whole-brings : (p : ℕ) (m : Down) → grantsWhole p m ≡ true → brings p m ≡ true
 whole-brings p (Page NoLock b t v u x) e = absurd (false≢true e)
 whole-brings p (Page ObjectLock b t v u x) e = absurd (false≢true e)
 whole-brings p (Page WholeLock b t v u x) e = e
@@ -307,10 +326,10 @@ whole-brings p (Invalidate d) e = absurd (false≢true e)
 
 module _ {i kind num : ℕ} {opened : Bool} {wr : ℕ → Val} {ol wl due : ℕ → Bool} {OL WL : ℕ → ℕ} {latest : ℕ} {U : List Up} {D : List Down} (h : Locks i kind num opened wr ol wl due OL WL latest U D) where
   -- a lock on a page where nothing is written and for which nothing is under way has its 4 under way
-  pub unused-leaving : (p : ℕ) → meets wr p ≡ false → count (brings p) D ≡ 0 → Leaving i OL WL latest U p
+  pub unused-leaving : (p : ℕ) → meets wr p ≡ false → count (brings p) D ≡ 0 → Leaving i kind OL WL latest U p
   unused-leaving p n z = (
     λ a f e. either (h .K1a a e) (λ x. x) (λ x. absurd (either x (λ y. unmet (meets-yes wr p a f (y .1))) (λ y. brought (grantsObject p) (object-brings p) (rw f at (y .0))))),
-    λ e. either (h .K1b p e) (λ x. x) (λ x. absurd (either x (λ y. unmet (y .1)) (λ y. brought (grantsWhole p) (whole-brings p) y))),
+    λ v e. either (h .K1b v p e) (λ x. x) (λ x. absurd (either x (λ y. unmet (y .1)) (λ y. brought (grantsWhole p) (whole-brings p) y))),
   )
     where
       unmet : meets wr p ≡ true → ⊥
@@ -324,9 +343,9 @@ module _ {i kind num : ℕ} {opened : Bool} {wr : ℕ → Val} {ol wl due : ℕ 
   began num′ o n =
       record {
         K1a = λ a e. either (h .K1a a e) (λ x. inl x) (λ x. inr (either x (λ y. absurd (false≢true (sym o ∙ y .0))) (λ y. inr y)));
-        K1b = λ p e. either (h .K1b p e) (λ x. inl x) (λ x. inr (either x (λ y. absurd (false≢true (sym o ∙ y .0))) (λ y. inr y)));
+        K1b = λ v p e. either (h .K1b v p e) (λ x. inl x) (λ x. inr (either x (λ y. absurd (false≢true (sym o ∙ y .0))) (λ y. inr y)));
         K2a = λ k t z a e. absurd (unwritten a e);
-        K2b = λ k t z p e. let r = meets-some wr p (h .K3b p e) in absurd (unwritten (r .0) (r .2));
+        K2b = λ p e s. byB (keeps kind) (λ v. h .K2b p e (inl v)) (λ v. let r = meets-some wr p (h .K3b v p e) in absurd (unwritten (r .0) (r .2)));
         K3a = h .K3a;
         K3b = h .K3b;
         K7 = h .K7;
@@ -341,17 +360,17 @@ module _ {i kind num : ℕ} {opened : Bool} {wr : ℕ → Val} {ol wl due : ℕ 
   pub writes : (f : ℕ → Val) (ol′ wl′ : ℕ → Bool) → ((b : ℕ) → ol b ≡ true → ol′ b ≡ true) → ((b : ℕ) → ol′ b ≡ true → (ol b ≡ true) ⊎ (has (f b) ≡ true))
       → ((p : ℕ) → wl′ p ≡ true → (wl p ≡ true) ⊎ ((meets f p ≡ true) × (WL p ≡ suc i))) → ((p : ℕ) → wl p ≡ true → wl′ p ≡ true)
       → (locking kind ≡ true → opened ≡ true → count isEnd D ≡ 0 → (a : ℕ) → has (f a) ≡ true → (OL a ≡ suc i) ⊎ (WL (pageOf a) ≡ suc i))
-      → (locking kind ≡ true → opened ≡ true → (a : ℕ) → has (f a) ≡ true → latest ≡ num) → Locks i kind num opened (over f wr) ol′ wl′ due OL WL latest U D
+      → (locking kind ≡ true → opened ≡ true → (a : ℕ) → has (f a) ≡ true → (latest ≡ num) ⊎ ((keeps kind ≡ true) × (WL (pageOf a) ≡ suc i))) → Locks i kind num opened (over f wr) ol′ wl′ due OL WL latest U D
   writes f ol′ wl′ w x y z l n =
       record {
         K1a = λ b e. either (h .K1a b e) (λ u. inl u) (λ u. inr (either u (λ v. inl (v .0, wrote-more f wr b (v .1))) (λ v. inr v)));
-        K1b = λ p e.
-            either (h .K1b p e) (λ u. inl u)
+        K1b = λ x p e.
+            either (h .K1b x p e) (λ u. inl u)
             (λ u. inr (either u (λ v. inl (v .0, meets-more f wr p (v .1), either (v .2) (λ t. inl (z p t)) (λ t. inr t))) (λ v. inr v)));
         K2a = λ k o c b e. either (has-either (f b) (wr b) e) (λ g. l k o c b g) (λ g. h .K2a k o c b g);
-        K2b = λ k o c p e. either (y p e) (λ u. h .K2b k o c p u) (λ u. u .1);
+        K2b = λ p e s. either (y p e) (λ u. h .K2b p u s) (λ u. u .1);
         K3a = λ b e. either (x b e) (λ u. wrote-more f wr b (h .K3a b u)) (λ u. wrote-now f wr b u);
-        K3b = λ p e. either (y p e) (λ u. meets-more f wr p (h .K3b p u)) (λ u. let r = meets-some f p (u .0) in meets-yes (over f wr) p (r .0) (r .1) (wrote-now f wr (r .0) (r .2)));
+        K3b = λ v p e. either (y p e) (λ u. meets-more f wr p (h .K3b v p u)) (λ u. let r = meets-some f p (u .0) in meets-yes (over f wr) p (r .0) (r .1) (wrote-now f wr (r .0) (r .2)));
         K7 = all-map (Granted i OL WL due ol) (Granted i OL WL due ol′) (more-granted i OL WL due due ol ol′ (λ b e. e) w) D (h .K7);
         K9 = λ k o b e. either (has-either (f b) (wr b) e) (λ g. n k o b g) (λ g. h .K9 k o b g);
         N9 = h .N9;
@@ -373,23 +392,23 @@ module _ {i kind num : ℕ} {opened : Bool} {wr : ℕ → Val} {ol wl due : ℕ 
       }
 
   -- 19: the whole lock becomes locks on what is written, and the 8 goes up
-  pub splits : (p t : ℕ) (set : ℕ → Bool) → ((a : ℕ) → set a ≡ true → has (wr a) ≡ true) → (WL p ≡ suc i → opened ≡ true → meets wr p ≡ true → t ≡ latest)
+  pub splits : (p t : ℕ) (set : ℕ → Bool) → ((a : ℕ) → set a ≡ true → has (wr a) ≡ true) → (keeps kind ≡ false → WL p ≡ suc i → opened ≡ true → meets wr p ≡ true → t ≡ latest)
       → Locks i kind num opened wr (λ a. ol a || set a) (upd wl p false) due OL WL latest (snoc U (WrittenSet p t set)) D
   splits p t set w n =
       let m : Up = WrittenSet p t set in
       let g : Locks i kind num opened wr ol wl due OL WL latest (snoc U m) D = plain-up m (λ q. refl) h in
       record {
         K1a = g .K1a;
-        K1b = λ q e.
-            either (g .K1b q e) (λ x. inl x)
+        K1b = λ v q e.
+            either (g .K1b v q e) (λ x. inl x)
             (λ x.
             inr (either x
-            (λ y. inl (y .0, y .1, byEq q p (λ f. inr (sent q f (n (rw (eqb-yes q p f) at e) (y .0) (rw (eqb-yes q p f) at (y .1))))) (λ f. either (y .2) (λ z. inl (rw f z)) (λ z. inr z))))
+            (λ y. inl (y .0, y .1, byEq q p (λ f. inr (sent q f (n v (rw (eqb-yes q p f) at e) (y .0) (rw (eqb-yes q p f) at (y .1))))) (λ f. either (y .2) (λ z. inl (rw f z)) (λ z. inr z))))
             (λ y. inr y)));
         K2a = g .K2a;
-        K2b = λ k o c q e. g .K2b k o c q (before q e);
+        K2b = λ q e s. g .K2b q (before q e) s;
         K3a = λ a e. or-yes (ol a) (set a) e (λ f. h .K3a a f) (λ f. w a f);
-        K3b = λ q e. h .K3b q (before q e);
+        K3b = λ v q e. h .K3b v q (before q e);
         K7 = all-map (Granted i OL WL due ol) (Granted i OL WL due (λ a. ol a || set a)) (more-granted i OL WL due due ol _ (λ b e. e) (λ b e. rw e refl)) D (g .K7);
         K9 = g .K9;
         N9 = g .N9;
@@ -403,29 +422,25 @@ module _ {i kind num : ℕ} {opened : Bool} {wr : ℕ → Val} {ol wl due : ℕ 
           let y : cond {A = ℕ} (eqb p q && eqb t latest) 1 0 ≡ 1 = rw (eqb-yes q p f, e, eqb-same p, eqb-same latest) refl in
           omega (arith, count-snoc (setOf q latest) U (WrittenSet p t set))
 
-  -- the owner aborts, and the 4 goes up; no lock is under way
-  pub aborts : ((p : ℕ) → count (brings p) D ≡ 0) → locking kind ≡ true → Settled i OL WL latest (snoc U (Abort num)) D
-  aborts z k =
+  -- the owner aborts, and the 4 goes up; whose lock it is, is the latest, or has its 4 under way
+  pub aborts : (wl′ : ℕ → Bool) → ((p : ℕ) → wl′ p ≡ true → (keeps kind ≡ true) × (wl p ≡ true))
+      → ((a : ℕ) → OL a ≡ suc i → (latest ≡ num) ⊎ (1 ≤ count (abortOf latest) U)) → (keeps kind ≡ false → (p : ℕ) → WL p ≡ suc i → (latest ≡ num) ⊎ (1 ≤ count (abortOf latest) U))
+      → Settled i kind wl′ OL WL latest (snoc U (Abort num)) D
+  aborts wl′ left object whole =
       record {
-        object = object;
-        whole = whole;
+        object = λ a e. four (object a e);
+        whole = λ v p e. four (whole v p e);
         granted = none-due i OL WL due ol nowhere D (h .K7);
         behind-object = λ a e. g .N9 (pageOf a) .0 a refl e;
-        behind-whole = λ p e. g .N9 p .1 e;
+        behind-whole = λ v p e. g .N9 p .1 v e;
+        stands = λ p e. let z = left p e in (z .0, h .K2b p (z .1) (inl (z .0)));
       }
     where
       g : Locks i kind num opened wr ol wl due OL WL latest (snoc U (Abort num)) D
       g = plain-up (Abort num) (λ p. refl) h
 
-      four : latest ≡ num → 1 ≤ count (abortOf latest) (snoc U (Abort num))
-      four e =
+      four : (latest ≡ num) ⊎ (1 ≤ count (abortOf latest) U) → 1 ≤ count (abortOf latest) (snoc U (Abort num))
+      four (inl e) =
           let z : cond {A = ℕ} (eqb num latest) 1 0 ≡ 1 = rw (e, eqb-same num) refl in
           omega (arith, count-snoc (abortOf latest) U (Abort num))
-
-      object : (a : ℕ) → OL a ≡ suc i → 1 ≤ count (abortOf latest) (snoc U (Abort num))
-      object a e = either (g .K1a a e) (λ u. u) (λ u. either u (λ w. four (h .K9 k (w .0) a (w .1))) (λ w. absurd (omega (arith, w .0, z (pageOf a), count-less (grantsObject (pageOf a)) (brings (pageOf a)) (object-brings (pageOf a)) D))))
-
-      whole : (p : ℕ) → WL p ≡ suc i → 1 ≤ count (abortOf latest) (snoc U (Abort num))
-      whole p e =
-          either (g .K1b p e) (λ u. u)
-          (λ u. either u (λ w. let r = meets-some wr p (w .1) in four (h .K9 k (w .0) (r .0) (r .2))) (λ w. absurd (omega (arith, z p, count-less (grantsWhole p) (brings p) (whole-brings p) D))))
+      four (inr e) = omega (arith, count-snoc (abortOf latest) U (Abort num))

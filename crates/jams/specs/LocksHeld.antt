@@ -17,7 +17,7 @@ use Rattle.line.specs.Truth.{count}
 use Rattle.truth.specs.Clauses.{dropped, Fit, lockWait, FitDown, Tokens}
 use Rattle.truth.specs.Frame.{count-snoc, all-snoc, all-both, count-none, none-count}
 use Rattle.truth.specs.GoalsLists.{either}
-use Rattle.jams.specs.Clauses.{abortOf, isEnd, grantsObject, grantsWhole, meets, Granted, Locks}
+use Rattle.jams.specs.Clauses.{abortOf, isEnd, grantsObject, grantsWhole, meets, NoneUntil, Granted, Stands, Locks}
 use Rattle.jams.specs.Until.{until-none, until-pop}
 use Rattle.jams.specs.Locks.{meets-some}
 
@@ -93,20 +93,24 @@ module _ {wr : ℕ → Val} {due : ℕ → Bool} {D : List Down} (k : Ranged wr 
   regranted i OL WL OL′ WL′ ol x y g = all-both InRange (Granted i OL WL due ol) (Granted i OL′ WL′ due ol) (λ m. regrant i OL WL OL′ WL′ due ol (λ a e. x a (k .to-write a e)) m (λ p e. y p)) D (k .granted) g
 
   module _ {i kind num : ℕ} {opened : Bool} {ol wl : ℕ → Bool} {OL WL : ℕ → ℕ} {latest : ℕ} {U : List Up} (h : Locks i kind num opened wr ol wl due OL WL latest U D) where
+    -- one message more in the down line
+    stood : (m : Down) → Stands kind opened (snoc D m) → Stands kind opened D
+    stood m s = either s (λ x. inl x) (λ x. inr (x .0, x .1, omega (arith, x .2, count-snoc isEnd D m)))
+
     -- the station's own locks stay as they are
     pub relocked : (OL′ WL′ : ℕ → ℕ) → ((a : ℕ) → OL′ a ≡ suc i → OL a ≡ suc i) → ((p : ℕ) → WL′ p ≡ suc i → WL p ≡ suc i)
         → ((a : ℕ) → a < 256 → OL a ≡ suc i → OL′ a ≡ suc i) → ((p : ℕ) → WL p ≡ suc i → WL′ p ≡ suc i) → Locks i kind num opened wr ol wl due OL′ WL′ latest U D
     relocked OL′ WL′ b c x y =
         record {
           K1a = λ a e. h .K1a a (b a e);
-          K1b = λ p e. h .K1b p (c p e);
+          K1b = λ v p e. h .K1b v p (c p e);
           K2a = λ l o n a e. either (h .K2a l o n a e) (λ z. inl (x a (k .written a e) z)) (λ z. inr (y (pageOf a) z));
-          K2b = λ l o n p e. y p (h .K2b l o n p e);
+          K2b = λ p e s. y p (h .K2b p e s);
           K3a = h .K3a;
           K3b = h .K3b;
           K7 = regranted i OL WL OL′ WL′ ol x y (h .K7);
-          K9 = h .K9;
-          N9 = λ p. (λ a f e. h .N9 p .0 a f (b a e), λ e. h .N9 p .1 (c p e));
+          K9 = λ l o a e. either (h .K9 l o a e) (λ z. inl z) (λ z. inr (z .0, y (pageOf a) (z .1)));
+          N9 = λ p. (λ a f e. h .N9 p .0 a f (b a e), λ v e. h .N9 p .1 v (c p e));
         }
 
     -- 17 for the page of a: no drop of it is on its way up. What is locked is what is due there and not locked yet [S7, S8]
@@ -125,16 +129,16 @@ module _ {wr : ℕ → Val} {due : ℕ → Bool} {D : List Down} (k : Ranged wr 
               let q : eqb (pageOf b) (pageOf a) ≡ true = rw (page b f) (eqb-same (pageOf a)) in
               inr (inr (omega (arith, rw q at (count-snoc (grantsObject (pageOf b)) D m)), named b f)))
               (λ f. either (h .K1a b (rw f at e)) (λ x. inl x) (λ x. inr (either x (λ y. inl y) (λ y. inr (omega (arith, y .0, count-snoc (grantsObject (pageOf b)) D m), y .1)))));
-          K1b = λ p e. either (h .K1b p e) (λ x. inl x) (λ x. inr (either x (λ y. inl y) (λ y. inr (omega (arith, count-snoc (grantsWhole p) D m)))));
+          K1b = λ v p e. either (h .K1b v p e) (λ x. inl x) (λ x. inr (either x (λ y. inl y) (λ y. inr (omega (arith, count-snoc (grantsWhole p) D m)))));
           K2a = λ l o c b e. either (h .K2a l o (omega (arith, count-snoc isEnd D m)) b e) (λ x. inl (own b x)) (λ x. inr x);
-          K2b = λ l o c. h .K2b l o (omega (arith, count-snoc isEnd D m));
+          K2b = λ p e s. h .K2b p e (stood m s);
           K3a = h .K3a;
           K3b = h .K3b;
           K7 = all-snoc (Granted i OL′ WL due ol) D m (regranted i OL WL OL′ WL ol (λ b c. own b) (λ p e. e) (h .K7)) (λ b e. either (full b e) (λ f. inl (rw f refl)) (λ f. inr f));
           K9 = h .K9;
           N9 = λ p. (
             λ b f e. byB (set b) (λ g. until-none (abortOf latest) (dropped p) U (rw (← f, page b g) none)) (λ g. h .N9 p .0 b f (rw g at e)),
-            λ e. h .N9 p .1 e,
+            λ v e. h .N9 p .1 v e,
           );
         }
 
@@ -147,54 +151,59 @@ module _ {wr : ℕ → Val} {due : ℕ → Bool} {D : List Down} (k : Ranged wr 
         let none = count-none (dropped (pageOf a)) U n in
         record {
           K1a = λ b e. either (h .K1a b e) (λ x. inl x) (λ x. inr (either x (λ y. inl y) (λ y. inr (omega (arith, y .0, count-snoc (grantsObject (pageOf b)) D m), y .1))));
-          K1b = λ p e.
+          K1b = λ v p e.
               byEq p (pageOf a) (λ f. inr (inr (omega (arith, rw f at (count-snoc (grantsWhole p) D m)))))
-              (λ f. either (h .K1b p (rw f at e)) (λ x. inl x) (λ x. inr (either x (λ y. inl y) (λ y. inr (omega (arith, count-snoc (grantsWhole p) D m))))));
+              (λ f. either (h .K1b v p (rw f at e)) (λ x. inl x) (λ x. inr (either x (λ y. inl y) (λ y. inr (omega (arith, count-snoc (grantsWhole p) D m))))));
           K2a = λ l o c b e. either (h .K2a l o (omega (arith, count-snoc isEnd D m)) b e) (λ x. inl x) (λ x. inr (own (pageOf b) x));
-          K2b = λ l o c p e. own p (h .K2b l o (omega (arith, count-snoc isEnd D m)) p e);
+          K2b = λ p e s. own p (h .K2b p e (stood m s));
           K3a = h .K3a;
           K3b = h .K3b;
           K7 = all-snoc (Granted i OL (upd WL (pageOf a) (suc i)) due ol) D m (regranted i OL WL OL (upd WL (pageOf a) (suc i)) ol (λ b c e. e) own (h .K7)) (rw (eqb-same (pageOf a)) refl);
-          K9 = h .K9;
+          K9 = λ l o b e. either (h .K9 l o b e) (λ x. inl x) (λ x. inr (x .0, own (pageOf b) (x .1)));
           N9 = λ p. (
             λ b f e. h .N9 p .0 b f e,
-            λ e. byEq p (pageOf a) (λ g. until-none (abortOf latest) (dropped p) U (rw (eqb-yes p (pageOf a) g) none)) (λ g. h .N9 p .1 (rw g at e)),
+            λ v e. byEq p (pageOf a) (λ g. until-none (abortOf latest) (dropped p) U (rw (eqb-yes p (pageOf a) g) none)) (λ g. h .N9 p .1 v (rw g at e)),
           );
         }
 
--- 8 of page p: its set is written, or the 4 is under way; what is written on the page is in it or locked already
-pub loosened : {i kind num : ℕ} {opened : Bool} {wr : ℕ → Val} {ol wl due : ℕ → Bool} {OL WL : ℕ → ℕ} {latest : ℕ} {U : List Up} {D : List Down} (p t : ℕ) (set : ℕ → Bool)
-    → Ranged wr due D → Locks i kind num opened wr ol wl due OL WL latest (WrittenSet p t set ∷ U) D
+-- 8 of page p: its set is written, or the 4 is under way; what is written on the page is in it or locked already, and known to the server
+pub loosened : {i kind num : ℕ} {opened : Bool} {wr : ℕ → Val} {ol wl due : ℕ → Bool} {OL WL : ℕ → ℕ} {latest : ℕ} {U : List Up} {D : List Down} (p t : ℕ) (said set : ℕ → Bool)
+    → Ranged wr due D → Locks i kind num opened wr ol wl due OL WL latest (WrittenSet p t said ∷ U) D
     → WL p ≡ suc i → wl p ≡ false → count (grantsWhole p) D ≡ 0
-    → (1 ≤ count (abortOf latest) U) ⊎ ((opened ≡ true) × ((a : ℕ) → set a ≡ true → has (wr a) ≡ true))
-    → (locking kind ≡ true → opened ≡ true → (a : ℕ) → pageOf a ≡ p → has (wr a) ≡ true → (set a ≡ true) ⊎ (OL a ≡ suc i))
+    → ((a : ℕ) → set a ≡ true → (1 ≤ count (abortOf latest) U) ⊎ ((opened ≡ true) × (has (wr a) ≡ true)))
+    → ((a : ℕ) → set a ≡ true → pageOf a ≡ p → NoneUntil (abortOf latest) (dropped p) U)
+    → (locking kind ≡ true → opened ≡ true → count isEnd D ≡ 0 → (a : ℕ) → pageOf a ≡ p → has (wr a) ≡ true → (set a ≡ true) ⊎ (OL a ≡ suc i))
+    → (locking kind ≡ true → opened ≡ true → (a : ℕ) → pageOf a ≡ p → has (wr a) ≡ true → latest ≡ num)
     → Locks i kind num opened wr ol wl due (λ a. cond (eqb (pageOf a) p && set a) (suc i) (OL a)) (upd WL p 0) latest U D
-loosened {i = i} {ol = ol} {due = due} {OL = OL} {WL = WL} {latest = latest} {U = U} {D = D} p t set k h e unheld none sub full =
-    let m : Up = WrittenSet p t set in
+loosened {i = i} {ol = ol} {due = due} {OL = OL} {WL = WL} {latest = latest} {U = U} {D = D} p t said set k h e unheld none sub clear full known =
+    let m : Up = WrittenSet p t said in
     record {
       K1a = λ a x.
-          byB (eqb (pageOf a) p && set a) (λ f. either sub (λ y. inl y) (λ y. inr (inl (y .0, y .1 a (and-r (eqb (pageOf a) p) _ f)))))
+          byB (eqb (pageOf a) p && set a) (λ f. either (sub a (and-r (eqb (pageOf a) p) _ f)) (λ y. inl y) (λ y. inr (inl y)))
           (λ f. either (h .K1a a (rw f at x)) (λ y. inl (omega arith)) (λ y. inr y));
-      K1b = λ r x.
+      K1b = λ v r x.
           let g = gone r x in
-          either (h .K1b r (g .1)) (λ y. inl (omega arith))
+          either (h .K1b v r (g .1)) (λ y. inl (omega arith))
           (λ y. inr (either y (λ z. inl (z .0, z .1, either (z .2) (λ v. inl v) (λ v. inr (omega (arith, rw (far r (g .0)) at v))))) (λ z. inr z)));
       K2a = λ l o c a x.
-          byEq (pageOf a) p (λ f. inl (either (full l o a (eqb-yes (pageOf a) p f) x) (λ y. rw (f, y) refl) (λ y. own a y)))
+          byEq (pageOf a) p (λ f. inl (either (full l o c a (eqb-yes (pageOf a) p f) x) (λ y. rw (f, y) refl) (λ y. own a y)))
           (λ f. either (h .K2a l o c a x) (λ y. inl (own a y)) (λ y. inr (rw f y)));
-      K2b = λ l o c r x. byEq r p (λ f. absurd (false≢true (sym unheld ∙ (rw (← eqb-yes r p f) x)))) (λ f. rw f (h .K2b l o c r x));
+      K2b = λ r x s. byEq r p (λ f. absurd (false≢true (sym unheld ∙ (rw (← eqb-yes r p f) x)))) (λ f. rw f (h .K2b r x s));
       K3a = h .K3a;
       K3b = h .K3b;
       K7 =
           all-both (λ n. InRange n × (grantsWhole p n ≡ false)) (Granted i OL WL due ol) (Granted i (λ a. cond (eqb (pageOf a) p && set a) (suc i) (OL a)) (upd WL p 0) due ol)
           (λ n x g. regrant i OL WL _ _ due ol (λ a b. own a) n (λ r u v. byEq r p (λ f. absurd (false≢true (sym (x .1) ∙ (rw (← eqb-yes r p f) u)))) (λ f. rw f v)) (x .0) g)
           D (all-both InRange (λ n. grantsWhole p n ≡ false) (λ n. InRange n × (grantsWhole p n ≡ false)) (λ n x y. (x, y)) D (k .granted) (count-none (grantsWhole p) D none)) (h .K7);
-      K9 = h .K9;
+      K9 = λ l o a x. byEq (pageOf a) p (λ f. inl (known l o a (eqb-yes (pageOf a) p f) x)) (λ f. either (h .K9 l o a x) (λ y. inl y) (λ y. inr (y .0, rw f (y .1))));
       N9 = λ r. (
         λ a f x.
-            until-pop (abortOf latest) (dropped r) m U refl
-            (byB (eqb (pageOf a) p && set a) (λ g. h .N9 r .1 (rw (← f, eqb-yes (pageOf a) p (and-l (eqb (pageOf a) p) _ g)) e)) (λ g. h .N9 r .0 a f (rw g at x))),
-        λ x. until-pop (abortOf latest) (dropped r) m U refl (h .N9 r .1 (gone r x .1)),
+            byB (eqb (pageOf a) p && set a)
+            (λ g.
+            let page : pageOf a ≡ p = eqb-yes (pageOf a) p (and-l (eqb (pageOf a) p) _ g) in
+            rw (sym f ∙ page) (clear a (and-r (eqb (pageOf a) p) _ g) page))
+            (λ g. until-pop (abortOf latest) (dropped r) m U refl (h .N9 r .0 a f (rw g at x))),
+        λ v x. until-pop (abortOf latest) (dropped r) m U refl (h .N9 r .1 v (gone r x .1)),
       );
     }
   where

@@ -34,14 +34,14 @@ locks-fresh : (kinds : ℕ → ℕ) → LocksOf (fresh kinds)
 locks-fresh kinds i b =
     record {
       K1a = λ a e. absurd (omega arith);
-      K1b = λ p e. absurd (omega arith);
+      K1b = λ v p e. absurd (omega arith);
       K2a = λ k o n a e. absurd (false≢true e);
-      K2b = λ k o n p e. absurd (false≢true e);
+      K2b = λ p e s. absurd (false≢true e);
       K3a = λ a e. absurd (false≢true e);
-      K3b = λ p e. absurd (false≢true e);
+      K3b = λ v p e. absurd (false≢true e);
       K7 = tt;
       K9 = λ k o a e. absurd (false≢true e);
-      N9 = λ p. (λ a f e. tt, λ e. tt);
+      N9 = λ p. (λ a f e. tt, λ v e. tt);
     }
 
 -- OWNER AND STATION
@@ -81,6 +81,10 @@ module _ (w : World) (x : Serving) (h : Orderly (carryDown x w)) where
   range : (j : ℕ) → RangedIn (w .station) (w .up) (w .down) j x
   unfolding carryDown
   range j = ranged (h .inv .tokens j)
+
+  kind-in : (j : ℕ) → x .server .kind j ≡ w .station j .kind
+  unfolding carryDown
+  kind-in j = h .inv .tokens j .kinds
 
   -- who waits has its only token with the server
   waiter-quiet : (i : ℕ) → waits (x .server) i ≡ true → NoGrants i (LineTo (w .station) (w .up) (w .down) i x)
@@ -136,7 +140,7 @@ locks-acts w =
     let u = w .up in
     let d = w .down in
     record {
-      aborts = λ i c x b e h j a. abort-locks t u d j i c x (range w x h j) (λ q. rw (eqb-yes j i q) (waiter-quiet w x h i e)) (under w x h j a);
+      aborts = λ i c x b e h j a. abort-locks t u d j i c x (range w x h j) (kind-in w x h j) (λ q. rw (eqb-yes j i q) (waiter-quiet w x h i e)) (under w x h j a);
       asks = λ i g p x b e f h j a. ask-locks t u d j g p x (under w x h j a);
       reads = λ i x b e c h j a. read-locks t u d j i x (under w x h j a);
       calls = λ i x b e f n c h j a. call-locks t u d j i x (under w x h j a);
@@ -145,7 +149,7 @@ locks-acts w =
           object-locks t u d j i x (range w x h j) (undropped w x h i b e) (open-objects w x h i b e (c .clear) j)
           (one-page w x h i b e) (λ k v. q .0 k (one-page w x h i b e k v) v) (q .1) (under w x h j a);
       pages = λ i x b e c f h j a. whole-locks t u d j i x (range w x h j) (undropped w x h i b e) (open-page w x h i b e (c .clear) j) (under w x h j a);
-      installs = λ i x b e f c h j a. install-locks t u d j i (x .server .queue i .work) x (range w x h j) (λ q. rw (eqb-yes j i q) (waiter-quiet w x h i (rw e refl))) (under w x h j a);
+      installs = λ i x b e f c h j a. install-locks t u d j i (x .server .queue i .work) x (range w x h j) (kind-in w x h j) (λ q. rw (eqb-yes j i q) (waiter-quiet w x h i (rw e refl))) (under w x h j a);
     }
 
 -- THE LAYER

@@ -3,14 +3,14 @@
 use mathlib.Core.Path.{_≡_, refl, sym, ap, _∙_}
 use mathlib.Core.Bool.{Bool, true, false, _&&_, cond, false≢true}
 use mathlib.Core.List.{List, _++_}
-use mathlib.Core.Logic.{_≢_, _⊎_}
+use mathlib.Core.Logic.{_≢_, _⊎_, inl, inr}
 use Prim.Native.Nat.{ℕ, suc, _+_, _<_}
 use native.Mathlib.Omega.{arith}
 use lib.Dec.{eqb}
 use Rattle.sets.specs.Base.{upd, upd2, has}
 use Rattle.sets.specs.Laws.{byB, byEq, eqb-yes, eqb-no, and-l}
 use Rattle.line.specs.All.{All, all-map}
-use Rattle.line.specs.Messages.{pageOf, lastNumber, Work, Up, NoLock, ObjectLock, WholeLock, Down, Page, Deescalate, Callback, Committed, Aborted, Invalidate}
+use Rattle.line.specs.Messages.{pageOf, lastNumber, keeps, Work, Up, NoLock, ObjectLock, WholeLock, Down, Page, Deescalate, Callback, Committed, Aborted, Invalidate}
 use Rattle.line.specs.Station.{Station, forWrite}
 use Rattle.line.specs.Server.{Server, Serving, onServer, send, setListed, setAsked, Waiter, valuesOn, unavailable, notice, finish, leave, sendPage, abort, write, archive, install, commitNow, loosen, ask, serveRead, concerned, call, grantObject, grantPage, End, ByCommit, ByCause, wrotePage}
 use Rattle.line.specs.Line.{sentTo}
@@ -21,7 +21,9 @@ use Rattle.truth.specs.Tokens.{Quiet}
 use Rattle.truth.specs.CallbacksServer.{send-to, send-past}
 use Rattle.jams.specs.Clauses.{isEnd, Granted, Locks, LocksAt}
 use Rattle.jams.specs.Locks.{bare, push-down, NoGrants}
-use Rattle.jams.specs.Freed.{freed, freed-none, freed-back, freed-fore}
+use Rattle.jams.specs.Freed.{freed, freed-none, freed-back, freed-fore, released, released-none, released-back, released-fore, released-kept}
+use Rattle.jams.specs.NumbersServer.{KindIn}
+use Rattle.truth.specs.GoalsLists.{either}
 use Rattle.jams.specs.LocksHeld.{Ranged, relocked, object-granted, page-granted}
 
 abbrev pub LocksIn : (ℕ → Station) → (ℕ → List Up) → (ℕ → List Down) → ℕ → Serving → Type 0
@@ -45,41 +47,47 @@ module _ (t : ℕ → Station) (u : ℕ → List Up) (d : ℕ → List Down) (j 
   unfolding finish
   freed-locks i n x f k h =
       let s : Server = x .server in
-      relocked k h (freed i (s .ol)) (freed i (s .wl)) (freed-back i j (s .ol)) (freed-back i j (s .wl)) (λ a b. freed-fore i j (s .ol) a f) (λ p. freed-fore i j (s .wl) p f)
+      relocked k h (freed i (s .ol)) (released (s .kind i) i (s .wl)) (freed-back i j (s .ol)) (released-back (s .kind i) i j (s .wl)) (λ a b. freed-fore i j (s .ol) a f) (λ p. released-fore (s .kind i) i j (s .wl) p f)
 
   -- .. and 21 or 22 goes to i, to which no lock is on its way
-  ended-locks : (i : ℕ) (n : End) (m : Down) (x : Serving) → isEnd m ≡ true → ((OL WL : ℕ → ℕ) (due ol : ℕ → Bool) → Granted j OL WL due ol m) → RangedIn x → (eqb j i ≡ true → NoGrants j (LineTo x)) → LocksIn t u d j x → LocksIn t u d j (send (finish i n x) i m)
+  ended-locks : (i : ℕ) (n : End) (m : Down) (x : Serving) → isEnd m ≡ true → ((OL WL : ℕ → ℕ) (due ol : ℕ → Bool) → Granted j OL WL due ol m) → RangedIn x → KindIn t j x → (eqb j i ≡ true → NoGrants j (LineTo x)) → LocksIn t u d j x → LocksIn t u d j (send (finish i n x) i m)
   unfolding finish
-  ended-locks i n m x e q k g h =
+  ended-locks i n m x e q k c g h =
       let s : Server = x .server in
       byEq j i
       (λ f.
-      let none : (L : ℕ → ℕ) (a : ℕ) → freed i L a ≢ suc j = λ L a z. freed-none i L a (z ∙ ap suc (eqb-yes j i f)) in
+      let kind : s .kind i ≡ t j .kind = rw (← eqb-yes j i f) c in
+      let WL′ : ℕ → ℕ = released (s .kind i) i (s .wl) in
+      let none : (a : ℕ) → freed i (s .ol) a ≢ suc j = λ a z. freed-none i (s .ol) a (z ∙ ap suc (eqb-yes j i f)) in
+      let none-whole : keeps (t j .kind) ≡ false → (p : ℕ) → WL′ p ≢ suc j = λ v p z. released-none (s .kind i) i (s .wl) p (rw kind v) (z ∙ ap suc (eqb-yes j i f)) in
+      let same : keeps (t j .kind) ≡ true → (p : ℕ) → WL′ p ≡ s .wl p = λ v p. released-kept (s .kind i) i (s .wl) p (rw kind v) in
       rw (send-to i j (d j) (x .sent) m f)
-      (bare (h .K3a) (h .K3b) (none (s .ol)) (none (s .wl)) (λ l o v a w. absurd (omega (arith, rw e at (count-snoc isEnd (LineTo x) m)))) (h .K9)
-      (all-snoc (Granted j (freed i (s .ol)) (freed i (s .wl)) (forWrite (t j .wait)) (t j .ol)) (LineTo x) m (g f (freed i (s .ol)) (freed i (s .wl)) (forWrite (t j .wait)) (t j .ol)) (q (freed i (s .ol)) (freed i (s .wl)) (forWrite (t j .wait)) (t j .ol)))))
+      (bare (h .K3a) (h .K3b) none none-whole (λ l o v a w. absurd (omega (arith, rw e at (count-snoc isEnd (LineTo x) m))))
+      (λ v p z. same v p ∙ h .K2b p z (inl v))
+      (λ l o a z. either (h .K9 l o a z) (λ y. inl y) (λ y. inr (y .0, same (y .0) (pageOf a) ∙ y .1)))
+      (all-snoc (Granted j (freed i (s .ol)) WL′ (forWrite (t j .wait)) (t j .ol)) (LineTo x) m (g f (freed i (s .ol)) WL′ (forWrite (t j .wait)) (t j .ol)) (q (freed i (s .ol)) WL′ (forWrite (t j .wait)) (t j .ol)))))
       (λ f. rw (send-past i j (d j) (x .sent) m f) (freed-locks i n x f k h))
 
-  pub abort-locks : (i c : ℕ) (x : Serving) → RangedIn x → (eqb j i ≡ true → NoGrants j (LineTo x)) → LocksIn t u d j x → LocksIn t u d j (abort i c x)
+  pub abort-locks : (i c : ℕ) (x : Serving) → RangedIn x → KindIn t j x → (eqb j i ≡ true → NoGrants j (LineTo x)) → LocksIn t u d j x → LocksIn t u d j (abort i c x)
   unfolding abort leave
-  abort-locks i c x k g h = ended-locks i (ByCause c) (Aborted _ c) (leave i x) refl (λ OL WL due ol. tt) k g h
+  abort-locks i c x k v g h = ended-locks i (ByCause c) (Aborted _ c) (leave i x) refl (λ OL WL due ol. tt) k v g h
 
-  pub install-locks : (i : ℕ) (w : Work) (x : Serving) → RangedIn x → (eqb j i ≡ true → NoGrants j (LineTo x)) → LocksIn t u d j x → LocksIn t u d j (install i w x)
+  pub install-locks : (i : ℕ) (w : Work) (x : Serving) → RangedIn x → KindIn t j x → (eqb j i ≡ true → NoGrants j (LineTo x)) → LocksIn t u d j x → LocksIn t u d j (install i w x)
   unfolding archive write leave
-  install-locks i w x k g h =
+  install-locks i w x k v g h =
       installs (LocksIn t u d j) i w
       (λ n y e z. send-locks n (Invalidate (λ a. has (w .writes a))) y (λ f. tt) z)
-      x (ended-locks i ByCommit (Committed (w .transaction) _) (archive i w (write w (leave i x))) refl (λ OL WL due ol. tt) k g h)
+      x (ended-locks i ByCommit (Committed (w .transaction) _) (archive i w (write w (leave i x))) refl (λ OL WL due ol. tt) k v g h)
 
-  pub commit-locks : (i : ℕ) (w : Work) (x : Serving) → RangedIn x → (eqb j i ≡ true → NoGrants j (LineTo x)) → LocksIn t u d j x → LocksIn t u d j (commitNow i w x)
+  pub commit-locks : (i : ℕ) (w : Work) (x : Serving) → RangedIn x → KindIn t j x → (eqb j i ≡ true → NoGrants j (LineTo x)) → LocksIn t u d j x → LocksIn t u d j (commitNow i w x)
   unfolding commitNow
-  commit-locks i w x k g h = if-serving (LocksIn t u d j) (eqb (x .server .last) lastNumber) (λ e. abort-locks i 4 x k g h) (λ e. install-locks i w x k g h)
+  commit-locks i w x k v g h = if-serving (LocksIn t u d j) (eqb (x .server .last) lastNumber) (λ e. abort-locks i 4 x k v g h) (λ e. install-locks i w x k v g h)
 
   -- THE PASS
 
   pub ask-locks : (k p : ℕ) (x : Serving) → LocksIn t u d j x → LocksIn t u d j (ask k p x)
   unfolding ask
-  ask-locks k p x h = send-locks k (Deescalate p (x .server .latest k)) (onServer x (setAsked (x .server) (upd (x .server .asked) p true))) (λ e. tt) h
+  ask-locks k p x h = send-locks k (Deescalate p (x .server .wholeFor p)) (onServer x (setAsked (x .server) (upd (x .server .asked) p true))) (λ e. tt) h
 
   -- 16
   pub page-locks : (i a : ℕ) (v : ℕ → Bool) (x : Serving) → LocksIn t u d j x → LocksIn t u d j (sendPage NoLock i a v x)

@@ -17,7 +17,7 @@ use Rattle.truth.specs.Clauses.{stale, tokenUp, tokenDown, FitUp, FitDown, FitW
 use Rattle.truth.specs.Frame.{count-snoc, all-snoc, count-none, count-less, all-both}
 use Rattle.truth.specs.GoalsLists.{either}
 use Rattle.truth.specs.Tokens.{both, Quiet, took-up}
-use Rattle.jams.specs.Clauses.{KindUp, KindDown, numbered, named, Above, Rising, Next, abortOf, AbortOver, isEnd, Latest, Numbers}
+use Rattle.jams.specs.Clauses.{KindUp, KindDown, numbered, named, Above, Rising, Next, abortOf, AbortOver, isEnd, Latest, AskBelow, answerNumber, AnswersFirst, Met, Numbers}
 
 -- ONE MESSAGE
 
@@ -176,12 +176,63 @@ rising-snoc : (U : List Up) (m : Up) → Rising U → All (λ x. numbered x ≡ 
 rising-snoc [] m r a = (λ e. tt, tt)
 rising-snoc (x ∷ U) m r a = (λ e. all-snoc (Above (named x)) U m (r .0 e) (a .0 e), rising-snoc U m (r .1) (a .1))
 
+-- ANSWERS TO 19, 8
+
+first-snoc : (num : ℕ) (U : List Up) (m : Up) → (numbered m ≡ true → num ≤ named m) → All (λ x. answerNumber x ≤ num) U → AnswersFirst U → AnswersFirst (snoc U m)
+first-snoc num [] m e a h = (tt, tt)
+first-snoc num (x ∷ U) m e a h = (all-snoc (λ y. numbered y ≡ true → answerNumber x ≤ named y) U m (h .0) (λ f. omega (arith, e f, a .0)), first-snoc num U m e (a .1) (h .1))
+
+-- a longer line has as many 4s
+met-more : (num : ℕ) (opened : Bool) (latest : ℕ) (U : List Up) (m x : Up) → Met num opened latest U x → Met num opened latest (snoc U m) x
+met-more num opened latest U m x h b = either (h b) (λ e. inl e) (λ e. inr (omega (arith, e, count-snoc (abortOf (answerNumber x)) U m)))
+
+met-less : (num : ℕ) (opened : Bool) (latest : ℕ) (U : List Up) (m : Up) → ((t : ℕ) → latest < t → abortOf t m ≡ false) → (x : Up) → Met num opened latest (m ∷ U) x → Met num opened latest U x
+met-less num opened latest U m n x h b = either (h b) (λ e. inl e) (λ e. inr (omega (arith, rw (n (answerNumber x) b) at e)))
+
+-- a 4 of a number that is not below
+low-abort : (t : ℕ) (m : Up) → numbered m ≡ true → named m < t → abortOf t m ≡ false
+low-abort t (ReadRequest a u) e b = refl
+low-abort t (WriteRequest p u set) e b = refl
+low-abort t (Commit w) e b = refl
+low-abort t (Abort u) e b = byEq u t (λ f. absurd (omega (arith, eqb-yes u t f))) (λ f. f)
+low-abort t (Purge p) e b = refl
+low-abort t (Busy r u) e b = refl
+low-abort t (Done r u d) e b = refl
+low-abort t (WrittenSet p u set) e b = refl
+
+pub ask-below : (L T : ℕ) → L ≤ T → (m : Down) → AskBelow L m → AskBelow T m
+ask-below L T b (Page l a u v x y) c = tt
+ask-below L T b (Deescalate q u) c = omega arith
+ask-below L T b (Callback r u set) c = tt
+ask-below L T b (Committed u n) c = tt
+ask-below L T b (Aborted u n) c = tt
+ask-below L T b (Invalidate d) c = tt
+
+end-ask : (L : ℕ) (m : Down) → isEnd m ≡ true → AskBelow L m
+end-ask L (Page l a u v x y) e = tt
+end-ask L (Deescalate q u) e = not-so (sym e)
+end-ask L (Callback r u set) e = tt
+end-ask L (Committed u n) e = tt
+end-ask L (Aborted u n) e = tt
+end-ask L (Invalidate d) e = tt
+
+-- an 8 comes from a locking station
+answer-kind : (kind : ℕ) (m : Up) → KindUp kind m → 0 < answerNumber m → locking kind ≡ true
+answer-kind kind (ReadRequest a t) k b = absurd (omega arith)
+answer-kind kind (WriteRequest p t set) k b = k
+answer-kind kind (Commit w) k b = absurd (omega arith)
+answer-kind kind (Abort t) k b = k
+answer-kind kind (Purge p) k b = absurd (omega arith)
+answer-kind kind (Busy r t) k b = k
+answer-kind kind (Done r t d) k b = k
+answer-kind kind (WrittenSet p t set) k b = k
+
 -- EVENTS
 module _ {kind num : ℕ} {opened : Bool} {latest : ℕ} {fin : Bool} {U : List Up} {D : List Down} where
   -- what the station sends
 
-  pub push-up : (m : Up) → KindUp kind m → All (λ x. numbered x ≡ true → Above (named x) m) U → Next latest fin m → AbortOver num opened m → Numbers kind num opened latest fin U D → Numbers kind num opened latest fin (snoc U m) D
-  push-up m k a n o h =
+  pub push-up : (m : Up) → KindUp kind m → All (λ x. numbered x ≡ true → Above (named x) m) U → Next latest fin m → AbortOver num opened m → (numbered m ≡ true → num ≤ named m) → answerNumber m ≤ num → (latest < answerNumber m → (opened ≡ true) × (answerNumber m ≡ num)) → Numbers kind num opened latest fin U D → Numbers kind num opened latest fin (snoc U m) D
+  push-up m k a n o v w z h =
       record {
         N1-up = all-snoc (KindUp kind) U m (h .N1-up) k;
         N1-down = h .N1-down;
@@ -192,14 +243,22 @@ module _ {kind num : ℕ} {opened : Bool} {latest : ℕ} {fin : Bool} {U : List 
         N6 = h .N6;
         N7 = all-snoc (AbortOver num opened) U m (h .N7) o;
         N8 = h .N8;
+        N2s = first-snoc num U m v (h .N10a) (h .N2s);
+        N10 = all-snoc (Met num opened latest (snoc U m)) U m (all-map (Met num opened latest U) (Met num opened latest (snoc U m)) (met-more num opened latest U m) U (h .N10)) (λ b. inl (z b));
+        N10a = all-snoc (λ x. answerNumber x ≤ num) U m (h .N10a) w;
+        K6a = h .K6a;
       }
 
-  pub plain-up : (m : Up) → numbered m ≡ false → KindUp kind m → Numbers kind num opened latest fin U D → Numbers kind num opened latest fin (snoc U m) D
-  plain-up m e k h = push-up m k (every (λ x. numbered x ≡ true → Above (named x) m) (λ x f g. both (numbered m) g e) U) (λ g. both (numbered m) g e) (plain-over num opened m e) h
+  -- kinds 5 to 8; an 8 of the open transaction, or of one that the server has met
+  pub answer-up : (m : Up) → numbered m ≡ false → KindUp kind m → answerNumber m ≤ num → (latest < answerNumber m → (opened ≡ true) × (answerNumber m ≡ num)) → Numbers kind num opened latest fin U D → Numbers kind num opened latest fin (snoc U m) D
+  answer-up m e k w z h = push-up m k (every (λ x. numbered x ≡ true → Above (named x) m) (λ x f g. both (numbered m) g e) U) (λ g. both (numbered m) g e) (plain-over num opened m e) (λ g. both (numbered m) g e) w z h
+
+  pub plain-up : (m : Up) → numbered m ≡ false → answerNumber m ≡ 0 → KindUp kind m → Numbers kind num opened latest fin U D → Numbers kind num opened latest fin (snoc U m) D
+  plain-up m e z k h = answer-up m e k (rw z (omega arith)) (λ b. absurd (omega (arith, z, b))) h
 
   -- what the server sends: no 21 or 22
-  pub push-down : (m : Down) → KindDown kind m → Latest num opened latest fin m → Numbers kind num opened latest fin U D → Numbers kind num opened latest fin U (snoc D m)
-  push-down m k l h =
+  pub push-down : (m : Down) → KindDown kind m → Latest num opened latest fin m → AskBelow latest m → Numbers kind num opened latest fin U D → Numbers kind num opened latest fin U (snoc D m)
+  push-down m k l b h =
       record {
         N1-up = h .N1-up;
         N1-down = all-snoc (KindDown kind) D m (h .N1-down) k;
@@ -210,6 +269,10 @@ module _ {kind num : ℕ} {opened : Bool} {latest : ℕ} {fin : Bool} {U : List 
         N6 = h .N6;
         N7 = h .N7;
         N8 = all-snoc (Latest num opened latest fin) D m (h .N8) l;
+        N2s = h .N2s;
+        N10 = h .N10;
+        N10a = h .N10a;
+        K6a = all-snoc (AskBelow latest) D m (h .K6a) b;
       }
 
   -- what an end takes from its line
@@ -225,6 +288,10 @@ module _ {kind num : ℕ} {opened : Bool} {latest : ℕ} {fin : Bool} {U : List 
         N6 = h .N6;
         N7 = h .N7 .1;
         N8 = h .N8;
+        N2s = h .N2s .1;
+        N10 = all-map (Met num opened latest (m ∷ U)) (Met num opened latest U) (met-less num opened latest U m (λ t b. plain-abort t m e)) U (h .N10 .1);
+        N10a = h .N10a .1;
+        K6a = h .K6a;
       }
 
   pub pop-down : (m : Down) → isEnd m ≡ false → Numbers kind num opened latest fin U (m ∷ D) → Numbers kind num opened latest fin U D
@@ -239,6 +306,10 @@ module _ {kind num : ℕ} {opened : Bool} {latest : ℕ} {fin : Bool} {U : List 
         N6 = h .N6;
         N7 = h .N7;
         N8 = h .N8 .1;
+        N2s = h .N2s;
+        N10 = h .N10;
+        N10a = h .N10a;
+        K6a = h .K6a .1;
       }
 
   -- the station begins, while nothing names its next number
@@ -254,26 +325,34 @@ module _ {kind num : ℕ} {opened : Bool} {latest : ℕ} {fin : Bool} {U : List 
         N6 = omega (arith, h .N6);
         N7 = all-map (AbortOver num opened) (AbortOver (num + 1) true) (begun-over num opened) U (h .N7);
         N8 = all-both (FitDown kind num opened w) (Latest num opened latest fin) (Latest (num + 1) true latest fin) (begun-latest kind num opened w latest fin) D f (h .N8);
+        N2s = h .N2s;
+        N10 = all-map (Met num opened latest U) (Met (num + 1) true latest U) (λ x m b. either (m b) (λ e. both opened (e .0) o) (λ e. inr e)) U (h .N10);
+        N10a = all-map (λ x. answerNumber x ≤ num) (λ x. answerNumber x ≤ num + 1) (λ x b. omega (arith, b)) U (h .N10a);
+        K6a = h .K6a;
       }
 
   -- .. and ends its transaction
-  pub shut : (locking kind ≡ true → fin ≡ false → 1 ≤ count (abortOf latest) U) → Numbers kind num opened latest fin U D → Numbers kind num false latest fin U D
-  shut a h =
+  pub shut : locking kind ≡ false → Numbers kind num opened latest fin U D → Numbers kind num false latest fin U D
+  shut v h =
       record {
         N1-up = h .N1-up;
         N1-down = h .N1-down;
         N2 = h .N2;
         N3 = h .N3;
-        N4 = λ l f. inr (a l f);
+        N4 = λ l f. both (locking kind) l v;
         N5 = λ o e f. not-so (sym o);
         N6 = h .N6;
         N7 = all-map (AbortOver num opened) (AbortOver num false) (shut-over num opened) U (h .N7);
         N8 = all-map (Latest num opened latest fin) (Latest num false latest fin) (shut-latest num opened latest fin) D (h .N8);
+        N2s = h .N2s;
+        N10 = all-both (KindUp kind) (Met num opened latest U) (Met num false latest U) (λ x k m b. both (locking kind) (answer-kind kind x k (omega arith)) v) U (h .N1-up) (h .N10);
+        N10a = h .N10a;
+        K6a = h .K6a;
       }
 
   -- .. by its 21 or 22
-  pub took-end : (m : Down) → isEnd m ≡ true → Numbers kind num opened latest fin U (m ∷ D) → Numbers kind num false latest fin U D
-  took-end m e h =
+  pub took-end : (m : Down) → isEnd m ≡ true → latest ≡ num → Numbers kind num opened latest fin U (m ∷ D) → Numbers kind num false latest fin U D
+  took-end m e v h =
       let z : fin ≡ true = end-fin num opened latest fin m e (h .N8 .0) in
       record {
         N1-up = h .N1-up;
@@ -285,6 +364,10 @@ module _ {kind num : ℕ} {opened : Bool} {latest : ℕ} {fin : Bool} {U : List 
         N6 = h .N6;
         N7 = all-map (AbortOver num opened) (AbortOver num false) (shut-over num opened) U (h .N7);
         N8 = all-map (Latest num opened latest fin) (Latest num false latest fin) (shut-latest num opened latest fin) D (h .N8 .1);
+        N2s = h .N2s;
+        N10 = all-both (λ x. answerNumber x ≤ num) (Met num opened latest U) (Met num false latest U) (λ x k m b. absurd (omega (arith, k, v, b))) U (h .N10a) (h .N10);
+        N10a = h .N10a;
+        K6a = h .K6a .1;
       }
 
   -- .. by its owner's abort, with a 4
@@ -307,7 +390,21 @@ module _ {kind num : ℕ} {opened : Bool} {latest : ℕ} {fin : Bool} {U : List 
         N6 = h .N6;
         N7 = all-snoc (AbortOver num false) U (Abort num) (all-map (AbortOver num opened) (AbortOver num false) (shut-over num opened) U (h .N7)) (inr (refl, refl));
         N8 = all-map (Latest num opened latest fin) (Latest num false latest fin) (shut-latest num opened latest fin) D (h .N8);
+        N2s = first-snoc num U (Abort num) (λ e. omega arith) (h .N10a) (h .N2s);
+        N10 = all-snoc (Met num false latest (snoc U (Abort num))) U (Abort num) (all-map (Met num opened latest U) (Met num false latest (snoc U (Abort num))) over U (h .N10)) (λ e. absurd (omega arith));
+        N10a = all-snoc (λ x. answerNumber x ≤ num) U (Abort num) (h .N10a) (omega arith);
+        K6a = h .K6a;
       }
+    where
+      -- an 8 of the transaction that ends: its 4 is under way now
+      over : (x : Up) → Met num opened latest U x → Met num false latest (snoc U (Abort num)) x
+      over x m e =
+          let c = count-snoc (abortOf (answerNumber x)) U (Abort num) in
+          either (m e)
+          (λ z.
+          let y : eqb num (answerNumber x) ≡ true = rw (z .1) (eqb-same num) in
+          inr (omega (arith, rw y at c)))
+          (λ z. inr (omega (arith, z, c)))
 
   -- the server takes a number: it is the latest now, and what is behind it is above it
   pub renumber : (m : Up) → numbered m ≡ true → named m ≤ num → (fin′ : Bool) → (locking kind ≡ true → fin′ ≡ false → (opened ≡ true) × (named m ≡ num)) → (opened ≡ true → named m ≡ num → fin′ ≡ true → ⊥) → Calm num opened D → Numbers kind num opened latest fin (m ∷ U) D → Numbers kind num opened (named m) fin′ U D
@@ -322,7 +419,17 @@ module _ {kind num : ℕ} {opened : Bool} {latest : ℕ} {fin : Bool} {U : List 
         N6 = b;
         N7 = h .N7 .1;
         N8 = all-map (λ z. answering num opened z ≡ false) (Latest num opened (named m) fin′) (calm-latest num opened (named m) fin′) D c;
+        N2s = h .N2s .1;
+        N10 = all-map (Met num opened latest (m ∷ U)) (Met num opened (named m) U) later U (h .N10 .1);
+        N10a = h .N10a .1;
+        K6a = all-map (AskBelow latest) (AskBelow (named m)) (ask-below latest (named m) up) D (h .K6a);
       }
+    where
+      up : latest ≤ named m
+      up = either (h .N3 .0 n) (λ e. omega (arith, e)) (λ e. omega (arith, e .0))
+
+      later : (x : Up) → Met num opened latest (m ∷ U) x → Met num opened (named m) U x
+      later x k e = either (k (omega (arith, e, up))) (λ z. inl z) (λ z. inr (omega (arith, rw (low-abort (answerNumber x) m n e) at z)))
 
   -- .. and finishes the latest, with a 21 or 22
   pub finished : (m : Down) → isEnd m ≡ true → KindDown kind m → Latest num opened latest true m → Calm num opened D → All (Above latest) U → Numbers kind num opened latest fin U D → Numbers kind num opened latest true U (snoc D m)
@@ -337,6 +444,29 @@ module _ {kind num : ℕ} {opened : Bool} {latest : ℕ} {fin : Bool} {U : List 
         N6 = h .N6;
         N7 = h .N7;
         N8 = all-snoc (Latest num opened latest true) D m (all-map (λ z. answering num opened z ≡ false) (Latest num opened latest true) (calm-latest num opened latest true) D c) l;
+        N2s = h .N2s;
+        N10 = h .N10;
+        N10a = h .N10a;
+        K6a = all-snoc (AskBelow latest) D m (h .K6a) (end-ask latest m e);
+      }
+
+  -- an 8 brings transaction T, which the server has not met: the one before is finished, and nothing answers the open one
+  pub met : (p T : ℕ) (set : ℕ → Bool) → latest < T → Calm num opened D → Numbers kind num opened latest fin (WrittenSet p T set ∷ U) D → Numbers kind num opened T false U D
+  met p T set b c h =
+      record {
+        N1-up = h .N1-up .1;
+        N1-down = h .N1-down;
+        N2 = h .N2 .1;
+        N3 = all-map (λ x. numbered x ≡ true → T ≤ named x) (Next T false) (λ x a e. byEq (named x) T (λ q. inr (eqb-yes (named x) T q, refl)) (λ q. inl (omega (arith, a e, eqb-no (named x) T q)))) U (h .N2s .0);
+        N4 = λ l f. either (h .N10 .0 b) (λ e. inl (e .0, e .1)) (λ e. inr (omega arith));
+        N5 = λ o e f. not-so (sym f);
+        N6 = h .N10a .0;
+        N7 = h .N7 .1;
+        N8 = all-map (λ z. answering num opened z ≡ false) (Latest num opened T false) (calm-latest num opened T false) D c;
+        N2s = h .N2s .1;
+        N10 = all-map (Met num opened latest (WrittenSet p T set ∷ U)) (Met num opened T U) (λ x k e. either (k (omega (arith, e, b))) (λ z. inl z) (λ z. inr (omega (arith, z)))) U (h .N10 .1);
+        N10a = h .N10a .1;
+        K6a = all-map (AskBelow latest) (AskBelow T) (ask-below latest T (omega arith)) D (h .K6a);
       }
 
 -- WHILE A STATION IS QUIET: it has no token under way
@@ -384,6 +514,19 @@ module _ (kind num : ℕ) (opened : Bool) (w : Wait) (latest : ℕ) (fin : Bool)
   head-calm (Committed u c) f h = either n (λ g. absurd (omega (arith, f .same refl, h .0, g))) (λ g. both fin (h .1) (g .1))
   head-calm (Aborted u c) f h = either n (λ g. absurd (omega (arith, f .same refl, h .0, g))) (λ g. both fin (h .1) (g .1))
   head-calm (Invalidate d) f h = refl
+
+-- AN 8 OF A TRANSACTION NOT MET, behind a finished one: nothing that answers the open one comes down
+new-calm : (kind num : ℕ) (opened : Bool) (w : Wait) (latest : ℕ) (fin : Bool) (t : ℕ) → t ≤ num → latest < t → fin ≡ true → (x : Down) → FitDown kind num opened w x → Latest num opened latest fin x → answering num opened x ≡ false
+new-calm kind num opened w latest fin t b n e (Page l a u v s y) f h = byB (opened && eqb u num) (λ z. both fin e (h z .1)) (λ z. z)
+new-calm kind num opened w latest fin t b n e (Deescalate p u) f h = refl
+new-calm kind num opened w latest fin t b n e (Callback r u set) f h = refl
+new-calm kind num opened w latest fin t b n e (Committed u c) f h = absurd (omega (arith, f .same refl, h .0))
+new-calm kind num opened w latest fin t b n e (Aborted u c) f h = absurd (omega (arith, f .same refl, h .0))
+new-calm kind num opened w latest fin t b n e (Invalidate d) f h = refl
+
+pub met-calm : {skind kind num : ℕ} {opened : Bool} {rd wr : ℕ → Val} {w : Wait} {q : Waiter} {latest : ℕ} {fin : Bool} {U : List Up} {D : List Down} (p T : ℕ) (set : ℕ → Bool) → latest < T → fin ≡ true → Tokens skind kind num opened rd wr w q latest fin (WrittenSet p T set ∷ U) D → Numbers kind num opened latest fin (WrittenSet p T set ∷ U) D → Calm num opened D
+met-calm {skind} {kind} {num} {opened} {rd} {wr} {w} {q} {latest} {fin} {U} {D} p T set b e k h =
+    all-both (FitDown kind num opened w) (Latest num opened latest fin) (λ x. answering num opened x ≡ false) (new-calm kind num opened w latest fin T (h .N10a .0) b e) D (k .S1b-down) (h .N8)
 
 pub number-calm : {skind kind num : ℕ} {opened : Bool} {rd wr : ℕ → Val} {w : Wait} {q : Waiter} {latest : ℕ} {fin : Bool} {U : List Up} {D : List Down} (m : Up) → numbered m ≡ true → Tokens skind kind num opened rd wr w q latest fin (m ∷ U) D → Numbers kind num opened latest fin (m ∷ U) D → Calm num opened D
 number-calm {skind} {kind} {num} {opened} {rd} {wr} {w} {q} {latest} {fin} {U} {D} m n k h =

@@ -6,15 +6,17 @@ use Prim.Native.Nat.{ℕ, _≤_, _<_}
 use native.Mathlib.Omega.{arith}
 use Rattle.sets.specs.Base.{upd, nowhere}
 use Rattle.sets.specs.Laws.{byEq, eqb-same, eqb-yes}
-use Rattle.line.specs.Messages.{locking, Work, Up, ReadRequest, WriteRequest, Commit, Abort, Purge, Busy, Done, WrittenSet, NoLock}
+use Rattle.line.specs.Messages.{locking, keeps, Work, Up, ReadRequest, WriteRequest, Commit, Abort, Purge, Busy, Done, WrittenSet, NoLock}
 use Rattle.line.specs.Server.{ByMessage, Serving, badNumber, unexpected, notice, finish, join, serveNow, joinRead, joinWrite, joinCommit, commitNow, unlist, markBusy, answered, loosen, accept, start}
 use Rattle.line.specs.Line.{World}
+use Rattle.line.specs.Apart.{Renews, keeps-locks}
+use Rattle.truth.specs.Inv.{heard-good}
 use Rattle.truth.specs.Clauses.{stale}
 use Rattle.truth.specs.Frame.{append-nil, noticed-latest, noticed-own, noticed-fin, noticed-kind, noticed-sent, Accepts, accepts}
 use Rattle.truth.specs.GoalsLists.{either}
 use Rattle.truth.specs.Tokens.{both, Before}
 use Rattle.jams.specs.Clauses.{numbered, named, Numbers, Orderly}
-use Rattle.jams.specs.Numbers.{Calm, up-below, pop-up, renumber, number-calm}
+use Rattle.jams.specs.Numbers.{Calm, up-below, pop-up, renumber, number-calm, met, met-calm}
 use Rattle.jams.specs.NumbersServer.{NumbersIn, page-numbers, commit-numbers}
 
 module _ (i : ℕ) (l : List Up) (w : World) (b : i < 8) (h : Orderly w) where
@@ -34,7 +36,7 @@ module _ (i : ℕ) (l : List Up) (w : World) (b : i < 8) (h : Orderly w) where
   calm : (m : Up) → numbered m ≡ true → w .up i ≡ m ∷ l → Calm (w .station i .num) (w .station i .opened) (w .down i)
   calm m n q = number-calm m n (tokens m q) (here m q)
 
-  below : (m : Up) → numbered m ≡ true → w .up i ≡ m ∷ l → named m ≤ w .station i .num
+  pub below : (m : Up) → numbered m ≡ true → w .up i ≡ m ∷ l → named m ≤ w .station i .num
   below m n q = up-below (w .station i .kind) (w .station i .num) (w .station i .opened) (w .station i .wait) m ((tokens m q) .S1b-up .0) ((here m q) .N7 .0) n
 
   same-kind : (k : Bool) → locking (w .server .kind i) ≡ k → locking (w .station i .kind) ≡ k
@@ -104,6 +106,15 @@ module _ (i : ℕ) (l : List Up) (w : World) (b : i < 8) (h : Orderly w) where
       page-numbers (w .station) (upd (w .up) i l) (w .down) j NoLock i a nowhere (notice i T x) (λ e n v. tt) (λ e. noticed-fin i T x u j ∙ rw e refl)
       (noticed (ReadRequest a T) refl u (λ p z. both (locking (w .station i .kind)) z (same-kind false k)) q j c)
 
+  -- an 8 brings a new number
+  brought : (p T : ℕ) (set : ℕ → Bool) → keeps (w .server .kind i) ≡ true → Renews (w .server .kind i) (w .server .latest i) T (w .server .fin i) → Accepted (WrittenSet p T set) (notice i T (start (w .server)))
+  brought p T set k r q j c =
+      let x : Serving = start (w .server) in
+      let m : Up = WrittenSet p T set in
+      let z = met p T set (r .above) (met-calm p T set (r .above) (r .over (keeps-locks (w .server .kind i) k)) (tokens m q) (here m q)) (here m q) in
+      rw (noticed-latest i T x j, noticed-fin i T x (heard-good w (h .inv) i b T k r) j, noticed-sent i T x, append-nil (w .down j))
+      (byEq j i (λ e. rw (e, eqb-yes j i e) z) (λ e. rw e (h .numbers j c)))
+
   accepts-numbers : Accepts i (start (w .server)) Accepted
   unfolding joinRead joinWrite joinCommit join unlist markBusy answered loosen
   accepts-numbers =
@@ -119,7 +130,8 @@ module _ (i : ℕ) (l : List Up) (w : World) (b : i < 8) (h : Orderly w) where
         busy-late = λ r T e q. popped (Busy r T) refl q;
         dones = λ r T p e q. popped (Done r T p) refl q;
         done-late = λ r T p e q. popped (Done r T p) refl q;
-        loosens = λ p T set e q. popped (WrittenSet p T set) refl q;
+        loosens = λ p T set e c q. popped (WrittenSet p T set) refl q;
+        loosens-new = λ p T set e k r q. brought p T set k r q;
         loosens-late = λ p T set e q. popped (WrittenSet p T set) refl q;
       }
 

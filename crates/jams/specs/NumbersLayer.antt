@@ -24,7 +24,7 @@ use Rattle.jams.specs.NumbersAccept.{accept-numbers}
 -- THE START
 fresh-numbers : (kinds : ℕ → ℕ) → NumbersOf (fresh kinds)
 fresh-numbers kinds i b =
-    record { N1-up = tt; N1-down = tt; N2 = tt; N3 = tt; N4 = λ l f. both true refl f; N5 = λ o e f. both false o refl; N6 = omega arith; N7 = tt; N8 = tt }
+    record { N1-up = tt; N1-down = tt; N2 = tt; N3 = tt; N4 = λ l f. both true refl f; N5 = λ o e f. both false o refl; N6 = omega arith; N7 = tt; N8 = tt; N2s = tt; N10 = tt; N10a = tt; K6a = tt }
 
 -- OWNER AND STATION
 
@@ -70,7 +70,7 @@ acts-numbers w =
     let d = w .down in
     record {
       aborts = λ i c x b e h j a. abort-numbers t u d j i c x (λ q. rw (eqb-yes j i q) (ready w x h i b e)) (under w x h j a);
-      asks = λ i g p x b e f h j a. ask-numbers t u d j g p x (apart w x h .locks .whole-open g p (e .held) .locks) (tokens w x h j .kinds) (under w x h j a);
+      asks = λ i g p x b e f h j a. ask-numbers t u d j g p x (apart w x h .locks .whole-open g p (e .held) .locks) (apart w x h .locks .given g p (e .held) .seen) (tokens w x h j .kinds) (under w x h j a);
       reads = λ i x b e c h j a. read-numbers t u d j i x (tokens w x h i .S4 (rw e refl)) (under w x h j a);
       calls = λ i x b e f n c h j a. call-numbers t u d j i x (tokens w x h j .kinds) (under w x h j a);
       objects = λ i x b e c h j a. object-numbers t u d j i x (tokens w x h i .S4 (rw e refl)) (apart w x h .waiting .entry i b .writes-lock e) (tokens w x h j .kinds) (under w x h j a);

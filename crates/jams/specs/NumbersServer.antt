@@ -3,18 +3,18 @@
 use mathlib.Core.Path.{_≡_, refl, sym, ap}
 use mathlib.Core.Bool.{Bool, true, false, not, _&&_, cond}
 use mathlib.Core.List.{List, _++_}
-use Prim.Native.Nat.{ℕ, suc}
+use Prim.Native.Nat.{ℕ, suc, _≤_}
 use lib.Dec.{eqb, ltb}
 use Rattle.sets.specs.Base.{upd, upd2, has}
 use Rattle.sets.specs.Laws.{byB, byEq, eqb-yes, and-l, and-r, not-yes}
 use Rattle.line.specs.All.{All}
 use Rattle.line.specs.Messages.{pageOf, lastNumber, locking, Work, Up, Lock, NoLock, ObjectLock, WholeLock, Down, Page, Deescalate, Callback, Committed, Aborted, Invalidate}
 use Rattle.line.specs.Station.{Station}
-use Rattle.line.specs.Server.{Server, Serving, onServer, send, setListed, setAsked, setOl, setWl, valuesOn, informed, unavailable, finish, leave, sendPage, abort, write, archive, install, commitNow, ask, serveRead, concerned, call, grantObject, grantPage, End, ByCommit, ByCause}
+use Rattle.line.specs.Server.{Server, Serving, onServer, send, setListed, setAsked, setOl, setWl, valuesOn, informed, unavailable, finish, leave, sendPage, abort, write, archive, install, commitNow, ask, serveRead, concerned, call, grantObject, grantPage, End, ByCommit, ByCause, setWholeFor}
 use Rattle.line.specs.Line.{sentTo}
 use Rattle.truth.specs.Frame.{if-serving, installs, call-own, call-far}
 use Rattle.truth.specs.CallbacksServer.{send-to, send-past}
-use Rattle.jams.specs.Clauses.{KindDown, Above, isEnd, Latest, NumbersAt}
+use Rattle.jams.specs.Clauses.{KindDown, Above, isEnd, Latest, NumbersAt, AskBelow}
 use Rattle.jams.specs.Numbers.{Calm, push-down, finished}
 
 abbrev pub NumbersIn : (ℕ → Station) → (ℕ → List Up) → (ℕ → List Down) → ℕ → Serving → Type 0
@@ -31,9 +31,9 @@ pub record Ready (t : ℕ → Station) (u : ℕ → List Up) (d : ℕ → List D
 
 module _ (t : ℕ → Station) (u : ℕ → List Up) (d : ℕ → List Down) (j : ℕ) where
   -- a message to station i; what it has to be if i is j
-  pub send-numbers : (i : ℕ) (m : Down) (x : Serving) → (eqb j i ≡ true → KindDown (t j .kind) m × Latest (t j .num) (t j .opened) (x .server .latest j) (x .server .fin j) m) → NumbersIn t u d j x → NumbersIn t u d j (send x i m)
+  pub send-numbers : (i : ℕ) (m : Down) (x : Serving) → (eqb j i ≡ true → KindDown (t j .kind) m × Latest (t j .num) (t j .opened) (x .server .latest j) (x .server .fin j) m × AskBelow (x .server .latest j) m) → NumbersIn t u d j x → NumbersIn t u d j (send x i m)
   send-numbers i m x k h =
-      byEq j i (λ e. rw (send-to i j (d j) (x .sent) m e) (push-down m (k e .0) (k e .1) h)) (λ e. rw (send-past i j (d j) (x .sent) m e) h)
+      byEq j i (λ e. rw (send-to i j (d j) (x .sent) m e) (push-down m (k e .0) (k e .1) (k e .2) h)) (λ e. rw (send-past i j (d j) (x .sent) m e) h)
 
   -- the latest of station i is finished, and told so
   end-numbers : (i : ℕ) (n : End) (m : Down) (x : Serving) → isEnd m ≡ true → KindDown (t j .kind) m → (eqb j i ≡ true → Latest (t j .num) (t j .opened) (x .server .latest j) true m) → (eqb j i ≡ true → Ready t u d j x) → NumbersIn t u d j x → NumbersIn t u d j (send (finish i n x) i m)
@@ -54,7 +54,7 @@ module _ (t : ℕ → Station) (u : ℕ → List Up) (d : ℕ → List Down) (j 
       (installs (λ y. NumbersIn t u d j y × KindIn t j y) i w
       (λ g y e z. (
         send-numbers g (Invalidate (λ a. has (w .writes a))) y
-            (λ q. (informed-kind g y e q (z .1), tt)) (z .0),
+            (λ q. (informed-kind g y e q (z .1), tt, tt)) (z .0),
         z .1,
       ))
       x
@@ -76,14 +76,14 @@ module _ (t : ℕ → Station) (u : ℕ → List Up) (d : ℕ → List Down) (j 
   page-numbers l i a v x k f h =
       let s : Server = x .server in
       send-numbers i (Page l a (s .latest i) (valuesOn (pageOf a) (s .ver)) v (valuesOn (pageOf a) (s .val))) (onServer x (setListed s (upd2 (s .listed) i (pageOf a) true)))
-      (λ e. (k e (valuesOn (pageOf a) (s .ver)) (valuesOn (pageOf a) (s .val)), λ z. (ap (s .latest) (sym (eqb-yes j i e)), f e))) h
+      (λ e. (k e (valuesOn (pageOf a) (s .ver)) (valuesOn (pageOf a) (s .val)), (λ z. (ap (s .latest) (sym (eqb-yes j i e)), f e)), tt)) h
 
   -- 19, to a locking station
-  pub ask-numbers : (g p : ℕ) (x : Serving) → locking (x .server .kind g) ≡ true → KindIn t j x → NumbersIn t u d j x → NumbersIn t u d j (ask g p x)
+  pub ask-numbers : (g p : ℕ) (x : Serving) → locking (x .server .kind g) ≡ true → x .server .wholeFor p ≤ x .server .latest g → KindIn t j x → NumbersIn t u d j x → NumbersIn t u d j (ask g p x)
   unfolding ask
-  ask-numbers g p x l k h =
-      send-numbers g (Deescalate p (x .server .latest g)) (onServer x (setAsked (x .server) (upd (x .server .asked) p true)))
-      (λ e. (rw (← k, eqb-yes j g e) l, tt)) h
+  ask-numbers g p x l b k h =
+      send-numbers g (Deescalate p (x .server .wholeFor p)) (onServer x (setAsked (x .server) (upd (x .server .asked) p true)))
+      (λ e. (rw (← k, eqb-yes j g e) l, tt, rw (eqb-yes j g e) b)) h
 
   -- 20s, to locking stations
   pub call-numbers : (i : ℕ) (x : Serving) → KindIn t j x → NumbersIn t u d j x → NumbersIn t u d j (call i x)
@@ -93,7 +93,7 @@ module _ (t : ℕ → Station) (u : ℕ → List Up) (d : ℕ → List Down) (j 
       byB (concerned s i j)
       (λ c.
       let l : locking (s .kind j) ≡ true = and-r (not (eqb j i) && ltb j 8) (locking (s .kind j)) (and-l (not (eqb j i) && ltb j 8 && locking (s .kind j)) _ c) in
-      rw (call-own s i j (d j) (x .sent) c) (push-down (Callback i (s .latest i) (s .queue i .writes)) (rw (← k) l) tt h))
+      rw (call-own s i j (d j) (x .sent) c) (push-down (Callback i (s .latest i) (s .queue i .writes)) (rw (← k) l) tt tt h))
       (λ c. rw (call-far s i j (d j) (x .sent) c) h)
 
   pub read-numbers : (i : ℕ) (x : Serving) → x .server .fin i ≡ false → NumbersIn t u d j x → NumbersIn t u d j (serveRead i x)
@@ -121,4 +121,4 @@ module _ (t : ℕ → Station) (u : ℕ → List Up) (d : ℕ → List Down) (j 
         let s : Server = x .server in
         let a : ℕ = s .queue i .req in
         let y : Serving = leave i x in
-        page-numbers WholeLock i a (unavailable s i a) (onServer y (setWl (setAsked (y .server) (upd (s .asked) (pageOf a) false)) (upd (s .wl) (pageOf a) (suc i)))) (λ e n v. own-kind e) (λ e. rw (eqb-yes j i e) f) h
+        page-numbers WholeLock i a (unavailable s i a) (onServer y (setWl (setWholeFor (setAsked (y .server) (upd (s .asked) (pageOf a) false)) (upd (s .wholeFor) (pageOf a) (s .latest i))) (upd (s .wl) (pageOf a) (suc i)))) (λ e n v. own-kind e) (λ e. rw (eqb-yes j i e) f) h

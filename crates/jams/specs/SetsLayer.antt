@@ -175,7 +175,7 @@ module _ (q : Waiter) (U : List Up) where
           writes-ask = λ p f b c e. asked p (ofPage p f) b c e;
           commits = λ c. unasked ForCommit (λ p. refl) (s .ol) q _;
           aborts = λ c. ends _;
-          purges = λ p b r n e. plain h (Purge p) tt;
+          purges = λ p b r n e k. plain h (Purge p) tt;
         }
 
     owner-sets : (op : Op) → Did8 q U (perform op s)
@@ -191,9 +191,10 @@ module _ (q : Waiter) (U : List Up) where
           page-read = λ a t v u x e f. unasked Idle (λ p. refl) _ q _;
           page-write = λ l a t v u x p y e f o c. unasked Idle (λ r. refl) _ q _;
           deescalates = λ p t k.
-              byB (live s t && s .wl p)
-              (λ e. rw e (plain (more-locks h (λ b. s .ol b || S.writtenOn p t s b) (λ b g. rw g refl)) (WrittenSet p t _) tt))
-              (λ e. rw e (plain h (WrittenSet p t _) tt));
+              let u : ℕ = S.answersFor t s in
+              byB (S.givesUp p t s)
+              (λ e. rw e (plain (more-locks h (λ b. s .ol b || S.writtenOn p u s b) (λ b g. rw g refl)) (WrittenSet p u _) tt))
+              (λ e. rw e (plain h (WrittenSet p u _) tt));
           keeps = λ r t set k e. plain h (Busy r t) tt;
           dones = λ r t set k e. plain h (Done r t _) tt;
           commits = λ t n e f. ends _;
@@ -332,7 +333,8 @@ module _ (i : ℕ) (l : List Up) (w : World) (b : i < 8) (h : Orderly w) where
         busy-late = λ r T e. popped (Busy r T);
         dones = λ r T d e q. on t u x (answered i r (unlist i d x)) (upd-names (x .server .queue) r _ (record { want = λ z. z; req = λ z. refl; writes = λ z. refl })) (popped (Done r T d) q);
         done-late = λ r T d e. popped (Done r T d);
-        loosens = λ p T set e. popped (WrittenSet p T set);
+        loosens = λ p T set e c. popped (WrittenSet p T set);
+        loosens-new = λ p T set e k r. noted T (WrittenSet p T set);
         loosens-late = λ p T set e. popped (WrittenSet p T set);
       }
 

@@ -8,9 +8,9 @@ use lib.Dec.{eqb, ltb}
 use Rattle.sets.specs.Base.{Val, has, any}
 use Rattle.sets.specs.Laws.{byB, eqb-same, eqb-yes, ltb-yes, and-l, and-r, or-yes, not-yes, any-some}
 use Rattle.line.specs.All.{All, all-map}
-use Rattle.line.specs.Messages.{pageOf, address, locking, Work, Up, ReadRequest, WriteRequest, Commit, Abort, Purge, Busy, Done, WrittenSet, NoLock, ObjectLock, WholeLock, Down, Page, Deescalate, Callback, Committed, Aborted, Invalidate}
+use Rattle.line.specs.Messages.{pageOf, address, locking, keeps, Work, Up, ReadRequest, WriteRequest, Commit, Abort, Purge, Busy, Done, WrittenSet, NoLock, ObjectLock, WholeLock, Down, Page, Deescalate, Callback, Committed, Aborted, Invalidate}
 use Rattle.line.specs.Station.{Station, Wait, waiting, forRead, forWrite, forCommit, ended, live, fits, writesTo}
-use Rattle.line.specs.Server.{Server, Waiter, isWant, lockOn, badNumber, unlocked, unexpected}
+use Rattle.line.specs.Server.{Server, Waiter, isWant, lockOn, badNumber, unlocked, aboveOpen, unexpected}
 use Rattle.line.specs.Line.{World}
 use Rattle.line.specs.Truth.{count}
 use Rattle.truth.specs.Clauses.{stale, tokenUp, tokenDown, Fit, FitDown, dropped, Tokens}
@@ -64,6 +64,14 @@ module _ {skind kind num : ℕ} {opened : Bool} {rd wr : ℕ → Val} {w : Wait}
       (λ t. both (isWant (q .want)) e (ap (λ (z : Waiter). isWant (z .want)) ((took-up m t k) .empty)))
       (λ t. omega (arith, not-below, o .0, up-old kind num opened w (o .1) m t (k .S1b-up .0) (h .N7 .0) n)))
 
+-- an 8 is not above an unfinished one: that is open, or its 4 comes behind [N4, N2, N10]
+answer-taken : {kind num : ℕ} {opened : Bool} {latest : ℕ} {fin : Bool} {U : List Up} {D : List Down} (p t : ℕ) (set : ℕ → Bool) → Numbers kind num opened latest fin (WrittenSet p t set ∷ U) D → locking kind ≡ true → fin ≡ false → latest < t → ⊥
+answer-taken {latest = latest} {U = U} p t set h l f b =
+    either (h .N4 l f) (λ e. omega (arith, e .1, b, h .N10a .0))
+    (λ e.
+    let none : All (λ x. abortOf latest x ≡ false) U = all-map (λ x. numbered x ≡ true → t ≤ named x) (λ x. abortOf latest x ≡ false) (λ x a. above-abort latest x (λ z. omega (arith, b, a z))) U (h .N2s .0) in
+    omega (arith, e, none-count (abortOf latest) U none))
+
 -- THE SERVER
 module _ (w : World) (h : Orderly w) (i : ℕ) (b : i < 8) (m : Up) (l : List Up) (q : w .up i ≡ m ∷ l) where
   tokens : Tokens (w .server .kind i) (w .station i .kind) (w .station i .num) (w .station i .opened) (w .station i .rd) (w .station i .wr) (w .station i .wait) (w .server .queue i) (w .server .latest i) (w .server .fin i) (m ∷ l) (w .down i)
@@ -97,7 +105,9 @@ module _ (w : World) (h : Orderly w) (i : ℕ) (b : i < 8) (m : Up) (l : List Up
       fails (lockOn s i p)
       (λ e.
       or-yes (eqb (s .wl p) (suc i)) (any 8 (λ o. eqb (s .ol (address p o)) (suc i))) e
-      (λ f. both (dropped p m) d (g .1 (eqb-yes (s .wl p) (suc i) f) .0))
+      (λ f.
+      let held : s .wl p ≡ suc i = eqb-yes (s .wl p) (suc i) f in
+      byB (keeps (w .station i .kind)) (λ v. both (dropped p m) d ((rw q at (h .keeping i p b v .N9 held)) .0)) (λ v. both (dropped p m) d (g .1 v held .0)))
       (λ f.
       let z = any-some 8 (λ o. eqb (s .ol (address p o)) (suc i)) f in
       let r : z .0 < 8 = z .1 in
@@ -136,7 +146,14 @@ taken-up w h i b (Done r t d) l q =
     (λ e.
     let z = any-some 32 (λ p. d p && lockOn (w .server) i p) e in
     both (lockOn (w .server) i (z .0)) (and-r (d (z .0)) (lockOn (w .server) i (z .0)) (z .2)) (unlocked-page w h i b (Done r t d) l q (z .0) (and-l (d (z .0)) (lockOn (w .server) i (z .0)) (z .2)))))
-taken-up w h i b (WrittenSet p t set) l q = rw (same-kind w h i b (WrittenSet p t set) l q true ((numbers w h i b (WrittenSet p t set) l q) .N1-up .0)) refl
+taken-up w h i b (WrittenSet p t set) l q =
+    let m : Up = WrittenSet p t set in
+    let k = (numbers w h i b m l q) .N1-up .0 in
+    rw (same-kind w h i b m l q true k)
+    (fails (keeps (w .server .kind i) && aboveOpen (w .server) i t)
+    (λ e.
+    let z = and-r (keeps (w .server .kind i)) (aboveOpen (w .server) i t) e in
+    answer-taken p t set (numbers w h i b m l q) k (not-yes (w .server .fin i) (and-r (ltb (w .server .latest i) t) (not (w .server .fin i)) z)) (ltb-yes (w .server .latest i) t (and-l (ltb (w .server .latest i) t) (not (w .server .fin i)) z))))
 
 -- THE STATIONS
 

@@ -17,7 +17,7 @@ use Rattle.truth.specs.Frame.{closes, Takes, takes}
 use Rattle.truth.specs.Inv.{Acts, Over}
 use Rattle.truth.specs.Truth.{moves}
 use Rattle.truth.specs.Tokens.{both}
-use Rattle.jams.specs.Clauses.{NumbersOf, KeptOf, LocksOf, DeescalationOf, Orderly, SetsOf}
+use Rattle.jams.specs.Clauses.{NumbersOf, KeptOf, LocksOf, DeescalationOf, KeepingOf, Orderly, SetsOf}
 use Rattle.jams.specs.Taken.{taken-up, taken-down}
 
 -- WHAT IS CLAIMED
@@ -124,25 +124,25 @@ orderly-moves w h =
     }
 
 -- THE LAYERS TOGETHER
-module _ (N : Over Orderly NumbersOf) (C : Over Orderly KeptOf) (L : Over Orderly LocksOf) (D : Over Orderly DeescalationOf) (E : Over Orderly SetsOf) where
+module _ (N : Over Orderly NumbersOf) (C : Over Orderly KeptOf) (L : Over Orderly LocksOf) (D : Over Orderly DeescalationOf) (K : Over Orderly KeepingOf) (E : Over Orderly SetsOf) where
   whole-acts : (w : World) → Acts (λ x. Orderly (carryDown x w)) (λ x. Orderly (carryDown x w))
   whole-acts w =
       record {
-        aborts = λ i c x b e h. record { inv = moves .acts w .aborts i c x b e (h .inv); numbers = N .acts w .aborts i c x b e h; kept = C .acts w .aborts i c x b e h; locks = L .acts w .aborts i c x b e h; deescalation = D .acts w .aborts i c x b e h; sets = E .acts w .aborts i c x b e h };
-        asks = λ i g p x b e f h. record { inv = moves .acts w .asks i g p x b e f (h .inv); numbers = N .acts w .asks i g p x b e f h; kept = C .acts w .asks i g p x b e f h; locks = L .acts w .asks i g p x b e f h; deescalation = D .acts w .asks i g p x b e f h; sets = E .acts w .asks i g p x b e f h };
-        reads = λ i x b e f h. record { inv = moves .acts w .reads i x b e f (h .inv); numbers = N .acts w .reads i x b e f h; kept = C .acts w .reads i x b e f h; locks = L .acts w .reads i x b e f h; deescalation = D .acts w .reads i x b e f h; sets = E .acts w .reads i x b e f h };
-        calls = λ i x b e f g k h. record { inv = moves .acts w .calls i x b e f g k (h .inv); numbers = N .acts w .calls i x b e f g k h; kept = C .acts w .calls i x b e f g k h; locks = L .acts w .calls i x b e f g k h; deescalation = D .acts w .calls i x b e f g k h; sets = E .acts w .calls i x b e f g k h };
-        objects = λ i x b e f h. record { inv = moves .acts w .objects i x b e f (h .inv); numbers = N .acts w .objects i x b e f h; kept = C .acts w .objects i x b e f h; locks = L .acts w .objects i x b e f h; deescalation = D .acts w .objects i x b e f h; sets = E .acts w .objects i x b e f h };
-        pages = λ i x b e f g h. record { inv = moves .acts w .pages i x b e f g (h .inv); numbers = N .acts w .pages i x b e f g h; kept = C .acts w .pages i x b e f g h; locks = L .acts w .pages i x b e f g h; deescalation = D .acts w .pages i x b e f g h; sets = E .acts w .pages i x b e f g h };
-        installs = λ i x b e f g h. record { inv = moves .acts w .installs i x b e f g (h .inv); numbers = N .acts w .installs i x b e f g h; kept = C .acts w .installs i x b e f g h; locks = L .acts w .installs i x b e f g h; deescalation = D .acts w .installs i x b e f g h; sets = E .acts w .installs i x b e f g h };
+        aborts = λ i c x b e h. record { inv = moves .acts w .aborts i c x b e (h .inv); numbers = N .acts w .aborts i c x b e h; kept = C .acts w .aborts i c x b e h; locks = L .acts w .aborts i c x b e h; deescalation = D .acts w .aborts i c x b e h; keeping = K .acts w .aborts i c x b e h; sets = E .acts w .aborts i c x b e h };
+        asks = λ i g p x b e f h. record { inv = moves .acts w .asks i g p x b e f (h .inv); numbers = N .acts w .asks i g p x b e f h; kept = C .acts w .asks i g p x b e f h; locks = L .acts w .asks i g p x b e f h; deescalation = D .acts w .asks i g p x b e f h; keeping = K .acts w .asks i g p x b e f h; sets = E .acts w .asks i g p x b e f h };
+        reads = λ i x b e f h. record { inv = moves .acts w .reads i x b e f (h .inv); numbers = N .acts w .reads i x b e f h; kept = C .acts w .reads i x b e f h; locks = L .acts w .reads i x b e f h; deescalation = D .acts w .reads i x b e f h; keeping = K .acts w .reads i x b e f h; sets = E .acts w .reads i x b e f h };
+        calls = λ i x b e f g k h. record { inv = moves .acts w .calls i x b e f g k (h .inv); numbers = N .acts w .calls i x b e f g k h; kept = C .acts w .calls i x b e f g k h; locks = L .acts w .calls i x b e f g k h; deescalation = D .acts w .calls i x b e f g k h; keeping = K .acts w .calls i x b e f g k h; sets = E .acts w .calls i x b e f g k h };
+        objects = λ i x b e f h. record { inv = moves .acts w .objects i x b e f (h .inv); numbers = N .acts w .objects i x b e f h; kept = C .acts w .objects i x b e f h; locks = L .acts w .objects i x b e f h; deescalation = D .acts w .objects i x b e f h; keeping = K .acts w .objects i x b e f h; sets = E .acts w .objects i x b e f h };
+        pages = λ i x b e f g h. record { inv = moves .acts w .pages i x b e f g (h .inv); numbers = N .acts w .pages i x b e f g h; kept = C .acts w .pages i x b e f g h; locks = L .acts w .pages i x b e f g h; deescalation = D .acts w .pages i x b e f g h; keeping = K .acts w .pages i x b e f g h; sets = E .acts w .pages i x b e f g h };
+        installs = λ i x b e f g h. record { inv = moves .acts w .installs i x b e f g (h .inv); numbers = N .acts w .installs i x b e f g h; kept = C .acts w .installs i x b e f g h; locks = L .acts w .installs i x b e f g h; deescalation = D .acts w .installs i x b e f g h; keeping = K .acts w .installs i x b e f g h; sets = E .acts w .installs i x b e f g h };
       }
 
   pub orderly-layer : Over Orderly Orderly
   orderly-layer =
       record {
-        begins = λ kinds. record { inv = moves .begins kinds; numbers = N .begins kinds; kept = C .begins kinds; locks = L .begins kinds; deescalation = D .begins kinds; sets = E .begins kinds };
-        owner = λ i op w b h. record { inv = moves .owner i op w b (h .inv); numbers = N .owner i op w b h; kept = C .owner i op w b h; locks = L .owner i op w b h; deescalation = D .owner i op w b h; sets = E .owner i op w b h };
-        station = λ i m l w b e u h. record { inv = moves .station i m l w b e u (h .inv); numbers = N .station i m l w b e u h; kept = C .station i m l w b e u h; locks = L .station i m l w b e u h; deescalation = D .station i m l w b e u h; sets = E .station i m l w b e u h };
-        accepted = λ i m l w b e u h. record { inv = moves .accepted i m l w b e u (h .inv); numbers = N .accepted i m l w b e u h; kept = C .accepted i m l w b e u h; locks = L .accepted i m l w b e u h; deescalation = D .accepted i m l w b e u h; sets = E .accepted i m l w b e u h };
+        begins = λ kinds. record { inv = moves .begins kinds; numbers = N .begins kinds; kept = C .begins kinds; locks = L .begins kinds; deescalation = D .begins kinds; keeping = K .begins kinds; sets = E .begins kinds };
+        owner = λ i op w b h. record { inv = moves .owner i op w b (h .inv); numbers = N .owner i op w b h; kept = C .owner i op w b h; locks = L .owner i op w b h; deescalation = D .owner i op w b h; keeping = K .owner i op w b h; sets = E .owner i op w b h };
+        station = λ i m l w b e u h. record { inv = moves .station i m l w b e u (h .inv); numbers = N .station i m l w b e u h; kept = C .station i m l w b e u h; locks = L .station i m l w b e u h; deescalation = D .station i m l w b e u h; keeping = K .station i m l w b e u h; sets = E .station i m l w b e u h };
+        accepted = λ i m l w b e u h. record { inv = moves .accepted i m l w b e u (h .inv); numbers = N .accepted i m l w b e u h; kept = C .accepted i m l w b e u h; locks = L .accepted i m l w b e u h; deescalation = D .accepted i m l w b e u h; keeping = K .accepted i m l w b e u h; sets = E .accepted i m l w b e u h };
         acts = whole-acts;
       }

@@ -4,6 +4,7 @@ use mathlib.Core.Path.{_≡_}
 use mathlib.Core.List.{List, [], _∷_, _++_}
 use lib.ListN.{length}
 use Rattle.le.specs.Width.{bytes}
+use Rattle.kinds.specs.Kinds.{mostKind}
 
 -- an object's address, page × 8 + object, and the value that was read or written there
 pub record Entry : Type 0 where
@@ -67,12 +68,12 @@ pub record WellFormed (r : Record) : Type 0 where
   pub writes-rise : Rising (r .writes)
   pub reads-fit : AllFit (r .reads)
   pub writes-fit : AllFit (r .writes)
-  -- "commit number (4)", "transaction (4)"; number 5 holds "also station above 7, kind above 1, transaction 0"
+  -- "commit number (4)", "transaction (4)"; number 5 holds "also station above 7, kind above 1, transaction 0" (wish 10: above 2)
   pub commit-fits : r .commit < 256 ^ 4
   pub transaction-not-0 : 0 < r .transaction
   pub transaction-fits : r .transaction < 256 ^ 4
   pub station-is : r .station ≤ 7
-  pub kind-is : r .kind ≤ 1
+  pub kind-is : r .kind ≤ mostKind
 
 -- "sizes first: reads n (2 bytes), writes m (2), commit number (4), transaction (4), station (1), its kind (1), two zero bytes"
 unfoldable pub header : ℕ → ℕ → ℕ → ℕ → ℕ → ℕ → List ℕ

@@ -7,11 +7,11 @@ use mathlib.Core.Logic.{_≢_, _⊎_, inl, inr}
 use Prim.Native.Nat.{ℕ, zero, suc, _+_, _%_, _≤_, _<_}
 use native.Mathlib.Omega.{arith}
 use lib.Dec.{eqb, ltb}
-use borrow.Author.Tests.{ltb-false}
+use borrow.Author.Tests.{ltb-true, ltb-false, lt-ltb}
 use Rattle.sets.specs.Base.{upd, any}
 use Rattle.sets.specs.Laws.{byB, byEq, eqb-same, eqb-yes, eqb-no, any-no, any-yes}
-use Rattle.line.specs.Messages.{pageOf, address, lastNumber, locking, Work, Up, ReadRequest, WriteRequest, Commit, Abort, Purge, Busy, Done, WrittenSet}
-use Rattle.line.specs.Server.{Server, Serving, freshServer, Aged, aged, End, ByCommit, ByCause, ByMessage, keepsAge, Waiter, noWaiter, waiterPend, waiterBusy, waiterCalled, WantRead, WantWrite, WantCommit, isWant, waits, other, wants, wantsPage, lockOn, shut, hinders, badNumber, unexpected, notice, finish, join, leave, sendPage, abort, informed, write, archive, inform, informFrom, install, readWaiter, writeWaiter, commitWaiter, serveNow, joinRead, joinWrite, joinCommit, commitNow, unlist, openCall, markBusy, answered, openAsk, loosen, accept, ask, serveRead, concerned, call, grantPage, grantObject, installWaiter, start, serverStep}
+use Rattle.line.specs.Messages.{pageOf, address, lastNumber, locking, keeps, Work, Up, ReadRequest, WriteRequest, Commit, Abort, Purge, Busy, Done, WrittenSet}
+use Rattle.line.specs.Server.{Server, Serving, freshServer, Aged, aged, End, ByCommit, ByCause, ByMessage, keepsAge, unlocks, Waiter, noWaiter, waiterPend, waiterBusy, waiterCalled, WantRead, WantWrite, WantCommit, isWant, waits, other, wants, wantsPage, lockOn, shut, hinders, badNumber, aboveOpen, unexpected, notice, finish, join, leave, sendPage, abort, informed, write, archive, inform, informFrom, install, readWaiter, writeWaiter, commitWaiter, serveNow, joinRead, joinWrite, joinCommit, commitNow, unlist, openCall, markBusy, answered, openAsk, loosen, meet, heeded, heed, accept, ask, serveRead, concerned, call, grantPage, grantObject, installWaiter, start, serverStep}
 use Rattle.line.specs.Line.{Call, fresh, run}
 use Rattle.line.specs.Pass.{Atomic, Clear, if-keeps, step-keeps}
 use Rattle.sets.specs.Laws.{and-l, and-r, not-yes}
@@ -23,12 +23,25 @@ pub record Holder (kind : ℕ → ℕ) (fin : ℕ → Bool) (h : ℕ) : Type 0 w
   pub unfinished : fin h ≡ false
   pub locks : locking (kind h) ≡ true
 
+-- of a whole lock: a keeping station's may be finished
+pub record WholeHolder (kind : ℕ → ℕ) (fin : ℕ → Bool) (h : ℕ) : Type 0 where
+  pub station : h < 8
+  pub unfinished : keeps (kind h) ≡ false → fin h ≡ false
+  pub locks : locking (kind h) ≡ true
+
+-- the transaction t that a whole lock was given to: one that was seen of its holder, the latest unless the holder keeps it
+pub record GivenTo (kind latest t : ℕ) : Type 0 where
+  pub seen : t ≤ latest
+  pub latest-is : keeps kind ≡ false → t ≡ latest
+
 -- locks. Pages are 0 to 31, addresses 0 to 255: no byte says another, and the gates look at no other.
-pub record Locks (kind : ℕ → ℕ) (fin : ℕ → Bool) (ol wl : ℕ → ℕ) (asked : ℕ → Bool) : Type 0 where
+pub record Locks (kind latest : ℕ → ℕ) (fin : ℕ → Bool) (ol wl wholeFor : ℕ → ℕ) (asked : ℕ → Bool) : Type 0 where
   -- no "whole lock beside another's lock on that page"
   pub whole-alone : (g h a : ℕ) → a < 256 → wl (pageOf a) ≡ suc h → ol a ≡ suc g → g ≡ h
   pub object-open : (h a : ℕ) → ol a ≡ suc h → Holder kind fin h
-  pub whole-open : (h p : ℕ) → wl p ≡ suc h → Holder kind fin h
+  pub whole-open : (h p : ℕ) → wl p ≡ suc h → WholeHolder kind fin h
+  pub given : (h p : ℕ) → wl p ≡ suc h → GivenTo (kind h) (latest h) (wholeFor p)
+  pub none-given : (p : ℕ) → wl p ≡ 0 → wholeFor p ≡ 0
   -- 19 was sent for a present 18
   pub asked-held : (p : ℕ) → asked p ≡ true → wl p ≢ 0
 
@@ -55,13 +68,13 @@ pub record Waiting (kind : ℕ → ℕ) (fin : ℕ → Bool) (arrivals : ℕ) (q
   pub entry : (i : ℕ) → i < 8 → Entry (kind i) (fin i) (queue i)
 
 -- over fields, so that an action that leaves them is seen to keep this
-pub record ApartOf (kind : ℕ → ℕ) (fin kept : ℕ → Bool) (ol wl : ℕ → ℕ) (asked : ℕ → Bool) (age : ℕ → ℕ) (ages arrivals : ℕ) (queue : ℕ → Waiter) : Type 0 where
-  pub locks : Locks kind fin ol wl asked
+pub record ApartOf (kind latest : ℕ → ℕ) (fin kept : ℕ → Bool) (ol wl wholeFor : ℕ → ℕ) (asked : ℕ → Bool) (age : ℕ → ℕ) (ages arrivals : ℕ) (queue : ℕ → Waiter) : Type 0 where
+  pub locks : Locks kind latest fin ol wl wholeFor asked
   pub aged : Ages fin kept age ages
   pub waiting : Waiting kind fin arrivals queue
 
 abbrev pub Apart : Server → Type 0
-Apart s = ApartOf (s .kind) (s .fin) (s .ageKept) (s .ol) (s .wl) (s .asked) (s .age) (s .ages) (s .arrivals) (s .queue)
+Apart s = ApartOf (s .kind) (s .latest) (s .fin) (s .ageKept) (s .ol) (s .wl) (s .wholeFor) (s .asked) (s .age) (s .ages) (s .arrivals) (s .queue)
 
 abbrev pub ApartIn : Serving → Type 0
 ApartIn x = Apart (x .server)
@@ -100,6 +113,18 @@ left-lock x i h q =
     let z : x ≡ suc h = rw e at q in
     (z, byEq h i (λ f. absurd (eqb-no x (suc i) e (omega (arith, eqb-yes h i f)))) (λ f. f)))
 
+-- .. a whole lock, unless that station keeps it
+pub left-whole : (k x i h : ℕ) → cond (unlocks k i x) 0 x ≡ suc h → (x ≡ suc h) × (keeps k ≡ false → eqb h i ≡ false)
+left-whole k x i h q =
+    byB (unlocks k i x) (λ e. let z : 0 ≡ suc h = rw e at q in absurd (omega arith))
+    (λ e.
+    let z : x ≡ suc h = rw e at q in
+    (z, λ n. byEq h i (λ f. absurd (false≢true (sym (rw (z, eqb-yes h i f, eqb-same (suc i), n) at e)))) (λ f. f)))
+
+-- a kind that keeps its locks has some
+pub keeps-locks : (k : ℕ) → keeps k ≡ true → locking k ≡ true
+keeps-locks k e = rw (eqb-yes k 2 e) refl
+
 -- an address is one of its page's eight
 on-page : (a : ℕ) → address (pageOf a) (a % 8) ≡ a
 on-page a = omega arith
@@ -111,40 +136,79 @@ module _ {kind : ℕ → ℕ} {fin : ℕ → Bool} where
   begun-holder i h o =
       record { station = o .station; unfinished = byEq h i (λ e. rw e refl) (λ e. rw e (o .unfinished)); locks = o .locks }
 
+  begun-whole : (i h : ℕ) → WholeHolder kind fin h → WholeHolder kind (upd fin i false) h
+  begun-whole i h o =
+      record { station = o .station; unfinished = λ n. byEq h i (λ e. rw e refl) (λ e. rw e (o .unfinished n)); locks = o .locks }
+
   ended-holder : (i h : ℕ) → eqb h i ≡ false → Holder kind fin h → Holder kind (upd fin i true) h
   ended-holder i h e o = record { station = o .station; unfinished = rw e (o .unfinished); locks = o .locks }
 
-module _ {kind : ℕ → ℕ} {fin : ℕ → Bool} {ol wl : ℕ → ℕ} {asked : ℕ → Bool} (l : Locks kind fin ol wl asked) where
-  begun-locks : (i : ℕ) → Locks kind (upd fin i false) ol wl asked
-  begun-locks i =
+  ended-whole : (i h : ℕ) → (keeps (kind i) ≡ false → eqb h i ≡ false) → WholeHolder kind fin h → WholeHolder kind (upd fin i true) h
+  ended-whole i h e o =
+      record {
+        station = o .station;
+        unfinished = λ n. byEq h i (λ q. absurd (false≢true (sym (e (rw (eqb-yes h i q) at n)) ∙ q))) (λ q. rw q (o .unfinished n));
+        locks = o .locks;
+      }
+
+  open-whole : (i : ℕ) → Holder kind fin i → WholeHolder kind fin i
+  open-whole i o = record { station = o .station; unfinished = λ n. o .unfinished; locks = o .locks }
+
+-- a new number of station i, which ends its transaction before: above it, and a locking station's is finished then
+pub record Renews (kind latest t : ℕ) (fin : Bool) : Type 0 where
+  pub above : latest < t
+  pub over : locking kind ≡ true → fin ≡ true
+
+module _ {kind latest : ℕ → ℕ} {fin : ℕ → Bool} {ol wl wholeFor : ℕ → ℕ} {asked : ℕ → Bool} (l : Locks kind latest fin ol wl wholeFor asked) where
+  -- whoever holds a page whole behind its transaction keeps it
+  kept-over : (i p : ℕ) → wl p ≡ suc i → (locking (kind i) ≡ true → fin i ≡ true) → keeps (kind i) ≡ false → ⊥
+  kept-over i p e o n = let w = l .whole-open i p e in false≢true (sym (w .unfinished n) ∙ o (w .locks))
+
+  begun-locks : (i t : ℕ) → Renews (kind i) (latest i) t (fin i) → Locks kind (upd latest i t) (upd fin i false) ol wl wholeFor asked
+  begun-locks i t r =
       record {
         whole-alone = l .whole-alone;
         object-open = λ h a e. begun-holder i h (l .object-open h a e);
-        whole-open = λ h p e. begun-holder i h (l .whole-open h p e);
+        whole-open = λ h p e. begun-whole i h (l .whole-open h p e);
+        given = λ h p e.
+            let g = l .given h p e in
+            byEq h i
+            (λ q.
+            let z : wl p ≡ suc i = rw (eqb-yes h i q) at e in
+            let y : wholeFor p ≤ latest i = rw (eqb-yes h i q) at (g .seen) in
+            rw q (record { seen = omega (arith, r .above); latest-is = λ n. absurd (kept-over i p z (r .over) (rw (eqb-yes h i q) at n)) }))
+            (λ q. rw q g);
+        none-given = l .none-given;
         asked-held = l .asked-held;
       }
 
-  ended-locks : (i : ℕ) → Locks kind (upd fin i true) (λ a. cond (eqb (ol a) (suc i)) 0 (ol a)) (λ p. cond (eqb (wl p) (suc i)) 0 (wl p)) (λ p. not (eqb (wl p) (suc i)) && asked p)
+  ended-locks : (i : ℕ) → Locks kind latest (upd fin i true) (λ a. cond (eqb (ol a) (suc i)) 0 (ol a)) (λ p. cond (unlocks (kind i) i (wl p)) 0 (wl p)) (λ p. cond (unlocks (kind i) i (wl p)) 0 (wholeFor p)) (λ p. not (unlocks (kind i) i (wl p)) && asked p)
   ended-locks i =
       record {
-        whole-alone = λ g h a b p q. l .whole-alone g h a b (left-lock (wl (pageOf a)) i h p .0) (left-lock (ol a) i g q .0);
+        whole-alone = λ g h a b p q. l .whole-alone g h a b (left-whole (kind i) (wl (pageOf a)) i h p .0) (left-lock (ol a) i g q .0);
         object-open = λ h a e. let u = left-lock (ol a) i h e in ended-holder i h (u .1) (l .object-open h a (u .0));
-        whole-open = λ h p e. let u = left-lock (wl p) i h e in ended-holder i h (u .1) (l .whole-open h p (u .0));
-        asked-held = λ p t z. l .asked-held p (and-r (not (eqb (wl p) (suc i))) _ t) (rw (not-yes (eqb (wl p) (suc i)) (and-l (not (eqb (wl p) (suc i))) _ t)) at z);
+        whole-open = λ h p e. let u = left-whole (kind i) (wl p) i h e in ended-whole i h (u .1) (l .whole-open h p (u .0));
+        given = λ h p e.
+            byB (unlocks (kind i) i (wl p)) (λ q. let z : 0 ≡ suc h = rw q at e in absurd (omega arith))
+            (λ q. rw q (l .given h p (rw q at e)));
+        none-given = λ p e. byB (unlocks (kind i) i (wl p)) (λ q. rw q refl) (λ q. rw q (l .none-given p (rw q at e)));
+        asked-held = λ p t z. l .asked-held p (and-r (not (unlocks (kind i) i (wl p))) _ t) (rw (not-yes (unlocks (kind i) i (wl p)) (and-l (not (unlocks (kind i) i (wl p))) _ t)) at z);
       }
 
   -- 19
-  asked-locks : (p : ℕ) → wl p ≢ 0 → Locks kind fin ol wl (upd asked p true)
+  asked-locks : (p : ℕ) → wl p ≢ 0 → Locks kind latest fin ol wl wholeFor (upd asked p true)
   asked-locks p n =
       record {
         whole-alone = l .whole-alone;
         object-open = l .object-open;
         whole-open = l .whole-open;
+        given = l .given;
+        none-given = l .none-given;
         asked-held = λ q t. byEq q p (λ e. rw (eqb-yes q p e) n) (λ e. l .asked-held q (rw e at t));
       }
 
   -- 17
-  object-locks : (i : ℕ) (set : ℕ → Bool) → Holder kind fin i → ((a : ℕ) → set a ≡ true → a < 256 → (h : ℕ) → wl (pageOf a) ≡ suc h → h ≡ i) → Locks kind fin (λ a. cond (set a) (suc i) (ol a)) wl asked
+  object-locks : (i : ℕ) (set : ℕ → Bool) → Holder kind fin i → ((a : ℕ) → set a ≡ true → a < 256 → (h : ℕ) → wl (pageOf a) ≡ suc h → h ≡ i) → Locks kind latest fin (λ a. cond (set a) (suc i) (ol a)) wl wholeFor asked
   object-locks i set o c =
       record {
         whole-alone = λ g h b u p q.
@@ -156,11 +220,13 @@ module _ {kind : ℕ → ℕ} {fin : ℕ → Bool} {ol wl : ℕ → ℕ} {asked 
             (λ e. l .whole-alone g h b u p (rw e at q));
         object-open = λ h b q. byB (set b) (λ e. let z : suc i ≡ suc h = rw e at q in let y : h ≡ i = omega arith in rw y o) (λ e. l .object-open h b (rw e at q));
         whole-open = l .whole-open;
+        given = l .given;
+        none-given = l .none-given;
         asked-held = l .asked-held;
       }
 
   -- 18
-  whole-locks : (i p : ℕ) → Holder kind fin i → ((g a : ℕ) → pageOf a ≡ p → ol a ≡ suc g → g ≡ i) → Locks kind fin ol (upd wl p (suc i)) (upd asked p false)
+  whole-locks : (i p : ℕ) → Holder kind fin i → ((g a : ℕ) → pageOf a ≡ p → ol a ≡ suc g → g ≡ i) → Locks kind latest fin ol (upd wl p (suc i)) (upd wholeFor p (latest i)) (upd asked p false)
   whole-locks i p o c =
       record {
         whole-alone = λ g h a u q r.
@@ -168,22 +234,32 @@ module _ {kind : ℕ → ℕ} {fin : ℕ → Bool} {ol wl : ℕ → ℕ} {asked 
             (λ e. let z : suc i ≡ suc h = rw e at q in let y : g ≡ i = c g a (eqb-yes (pageOf a) p e) r in omega arith)
             (λ e. l .whole-alone g h a u (rw e at q) r);
         object-open = l .object-open;
-        whole-open = λ h q r. byEq q p (λ e. let z : suc i ≡ suc h = rw e at r in let y : h ≡ i = omega arith in rw y o) (λ e. l .whole-open h q (rw e at r));
+        whole-open = λ h q r. byEq q p (λ e. let z : suc i ≡ suc h = rw e at r in let y : h ≡ i = omega arith in rw y (open-whole i o)) (λ e. l .whole-open h q (rw e at r));
+        given = λ h q r.
+            byEq q p (λ e. let z : suc i ≡ suc h = rw e at r in let y : h ≡ i = omega arith in rw (e, y) (record { seen = omega arith; latest-is = λ n. refl }))
+            (λ e. rw e (l .given h q (rw e at r)));
+        none-given = λ q r. byEq q p (λ e. let z : suc i ≡ 0 = rw e at r in absurd (omega arith)) (λ e. rw e (l .none-given q (rw e at r)));
         asked-held = λ q t z. byEq q p (λ e. false≢true (rw e at t)) (λ e. l .asked-held q (rw e at t) (rw e at z));
       }
 
-  -- 8
-  loose-locks : (i p : ℕ) (set : ℕ → Bool) → wl p ≡ suc i → Locks kind fin (λ a. cond (eqb (pageOf a) p && set a) (suc i) (ol a)) (upd wl p 0) (upd asked p false)
-  loose-locks i p set o =
+  -- 8: its set is locked if the holder is unfinished
+  loose-locks : (i p : ℕ) (set : ℕ → Bool) → wl p ≡ suc i → ((a : ℕ) → set a ≡ true → fin i ≡ false) → Locks kind latest fin (λ a. cond (eqb (pageOf a) p && set a) (suc i) (ol a)) (upd wl p 0) (upd wholeFor p 0) (upd asked p false)
+  loose-locks i p set o f =
       record {
         whole-alone = λ g h a u q r.
             byEq (pageOf a) p (λ e. let z : 0 ≡ suc h = rw e at q in absurd (omega arith))
             (λ e. l .whole-alone g h a u (rw e at q) (rw e at r));
         object-open = λ h a r.
             byB (eqb (pageOf a) p && set a)
-            (λ e. let z : suc i ≡ suc h = rw e at r in let y : h ≡ i = omega arith in rw y (l .whole-open i p o))
+            (λ e.
+            let z : suc i ≡ suc h = rw e at r in
+            let y : h ≡ i = omega arith in
+            let w = l .whole-open i p o in
+            rw y (record { station = w .station; unfinished = f a (and-r (eqb (pageOf a) p) _ e); locks = w .locks }))
             (λ e. l .object-open h a (rw e at r));
         whole-open = λ h q r. byEq q p (λ e. let z : 0 ≡ suc h = rw e at r in absurd (omega arith)) (λ e. l .whole-open h q (rw e at r));
+        given = λ h q r. byEq q p (λ e. let z : 0 ≡ suc h = rw e at r in absurd (omega arith)) (λ e. rw e (l .given h q (rw e at r)));
+        none-given = λ q r. byEq q p (λ e. rw e refl) (λ e. rw e (l .none-given q (rw e at r)));
         asked-held = λ q t z. byEq q p (λ e. false≢true (rw e at t)) (λ e. l .asked-held q (rw e at t) (rw e at z));
       }
 
@@ -328,11 +404,11 @@ alike-upd q r w a j = byEq j r (λ e. rw (e, eqb-yes j r e) a) (λ e. rw e (reco
 -- parts of the actions
 
 module _ (i : ℕ) (x : Serving) (h : ApartIn x) where
-  notice-apart : (t : ℕ) → ApartIn (notice i t x)
+  notice-apart : (t : ℕ) → (eqb t (x .server .latest i) ≡ false → Renews (x .server .kind i) (x .server .latest i) t (x .server .fin i)) → ApartIn (notice i t x)
   unfolding notice
-  notice-apart t =
+  notice-apart t r =
       if-keeps ApartIn (eqb t (x .server .latest i)) (λ e. h)
-      (λ e. record { locks = begun-locks (h .locks) i; aged = begun-ages (h .aged) i; waiting = begun-waiting (h .waiting) i })
+      (λ e. record { locks = begun-locks (h .locks) i t (r e); aged = begun-ages (h .aged) i; waiting = begun-waiting (h .waiting) i })
 
   finish-apart : (e : End) → (keepsAge e ≡ true → x .server .fin i ≡ false) → waits (x .server) i ≡ false → ApartIn (finish i e x)
   unfolding finish
@@ -445,6 +521,38 @@ good-number s i t e =
     let u = none-of (ltb t (s .latest i)) (eqb t (s .latest i) && s .fin i) (ltb (s .latest i) t && not (s .fin i) && locking (s .kind i)) (waits s i) e in
     record { next = ltb-false t (s .latest i) (u .0); unended = λ q. rw q at (u .1); idle = u .3 }
 
+-- so a number that is not the latest is a new one
+pub good-renews : (s : Server) (i t : ℕ) → badNumber s i t ≡ false → eqb t (s .latest i) ≡ false → Renews (s .kind i) (s .latest i) t (s .fin i)
+good-renews s i t e q =
+    let u = none-of (ltb t (s .latest i)) (eqb t (s .latest i) && s .fin i) (ltb (s .latest i) t && not (s .fin i) && locking (s .kind i)) (waits s i) e in
+    let above : s .latest i < t = omega (arith, ltb-false t (s .latest i) (u .0), eqb-no t (s .latest i) q) in
+    record {
+      above = above;
+      over = λ k.
+          byB (s .fin i) (λ f. f)
+          (λ f. absurd (false≢true (sym (u .2) ∙ rw (lt-ltb (s .latest i) t above, f, k) refl)));
+    }
+
+-- an 8 that is heeded and names a new number: its station keeps the page, ..
+pub heard-keeps : (s : Server) (i p t : ℕ) → openAsk s i p t ≡ true → ltb (s .latest i) t ≡ true → keeps (s .kind i) ≡ true
+heard-keeps s i p t o a =
+    byB (keeps (s .kind i)) (λ q. q)
+    (λ q.
+    let same : eqb t (s .latest i) ≡ true = and-r (not (s .fin i)) _ (rw q at (and-r (eqb (s .wl p) (suc i) && s .asked p) _ o)) in
+    absurd (omega (arith, eqb-yes t (s .latest i) same, ltb-true (s .latest i) t a)))
+
+-- .. and what it had before is finished
+pub heard-renews : (s : Server) (i p t : ℕ) (set : ℕ → Bool) → unexpected i (WrittenSet p t set) s ≡ false → openAsk s i p t ≡ true → ltb (s .latest i) t ≡ true → Renews (s .kind i) (s .latest i) t (s .fin i)
+heard-renews s i p t set u o a =
+    let above : s .latest i < t = ltb-true (s .latest i) t a in
+    let late : (keeps (s .kind i) && aboveOpen s i t) ≡ false = or-r (not (locking (s .kind i))) _ u in
+    record {
+      above = above;
+      over = λ k.
+          byB (s .fin i) (λ f. f)
+          (λ f. absurd (false≢true (sym late ∙ rw (heard-keeps s i p t o a, a, f) refl)));
+    }
+
 module _ (i t : ℕ) (x : Serving) where
   pub noticed-open : badNumber (x .server) i t ≡ false → (notice i t x) .server .fin i ≡ false
   unfolding notice
@@ -489,26 +597,61 @@ commitNow-apart : (i : ℕ) (w : Work) (x : Serving) → ApartIn x → ApartIn (
 unfolding commitNow
 commitNow-apart i w x h = if-keeps ApartIn (eqb (x .server .last) lastNumber) (λ e. abort-apart i 4 x (λ o. absurd (false≢true o)) h) (λ e. install-apart i w x h)
 
+-- a new number of a station that does not wait is a good one
+pub renews-good : (s : Server) (i t : ℕ) → Renews (s .kind i) (s .latest i) t (s .fin i) → locking (s .kind i) ≡ true → (waits s i ≡ true → s .fin i ≡ false) → badNumber s i t ≡ false
+renews-good s i t r k o =
+    let f : s .fin i ≡ true = r .over k in
+    let low : ltb t (s .latest i) ≡ false = byB (ltb t (s .latest i)) (λ e. absurd (omega (arith, ltb-true t (s .latest i) e, r .above))) (λ e. e) in
+    let other : eqb t (s .latest i) ≡ false = byEq t (s .latest i) (λ e. absurd (omega (arith, eqb-yes t (s .latest i) e, r .above))) (λ e. e) in
+    let idle : waits s i ≡ false = byB (waits s i) (λ e. absurd (false≢true (sym (o e) ∙ f))) (λ e. e) in
+    rw (low, other, lt-ltb (s .latest i) t (r .above), f, idle) refl
+
+-- 8
+pub asked-of : (s : Server) (i p t : ℕ) → openAsk s i p t ≡ true → s .wl p ≡ suc i
+asked-of s i p t e = eqb-yes (s .wl p) (suc i) (and-l (eqb (s .wl p) (suc i)) _ (and-l (eqb (s .wl p) (suc i) && s .asked p) _ e))
+
+met-wl : (i t : ℕ) (x : Serving) → (meet i t x) .server .wl ≡ x .server .wl
+unfolding meet notice
+met-wl i t x = byB (ltb (x .server .latest i) t) (λ e. rw e (byB (eqb t (x .server .latest i)) (λ q. rw q refl) (λ q. rw q refl))) (λ e. rw e refl)
+
+meet-apart : (i p t : ℕ) (set : ℕ → Bool) (x : Serving) → unexpected i (WrittenSet p t set) (x .server) ≡ false → openAsk (x .server) i p t ≡ true → ApartIn x → ApartIn (meet i t x)
+unfolding meet
+meet-apart i p t set x u e h =
+    if-keeps ApartIn (ltb (x .server .latest i) t) (λ a. notice-apart i x h t (λ q. heard-renews (x .server) i p t set u e a)) (λ a. h)
+
+heed-apart : (i p t : ℕ) (set : ℕ → Bool) (x : Serving) → unexpected i (WrittenSet p t set) (x .server) ≡ false → openAsk (x .server) i p t ≡ true → ApartIn x → ApartIn (heed i p t set x)
+unfolding heed loosen
+heed-apart i p t set x u e h =
+    let y : Serving = meet i t x in
+    let g : ApartIn y = meet-apart i p t set x u e h in
+    record {
+      locks =
+          loose-locks (g .locks) i p (heeded (y .server) i t set) (ap (λ f. f p) (met-wl i t x) ∙ asked-of (x .server) i p t e)
+          (λ a q. not-yes (y .server .fin i) (and-l (not (y .server .fin i)) _ (and-l (not (y .server .fin i) && eqb t (y .server .latest i)) _ q)));
+      aged = g .aged;
+      waiting = g .waiting;
+    }
+
 pub accept-apart : (i : ℕ) (m : Up) (x : Serving) → i < 8 → unexpected i m (x .server) ≡ false → ApartIn x → ApartIn (accept i m x)
 unfolding accept joinRead joinWrite joinCommit serveNow sendPage unlist markBusy answered loosen
 accept-apart i (ReadRequest a t) x b u h =
     let y : Serving = notice i t x in
-    let g : ApartIn y = notice-apart i x h t in
+    let g : ApartIn y = notice-apart i x h t (good-renews (x .server) i t u) in
     if-keeps ApartIn (locking (x .server .kind i))
     (λ e. join-apart i y g (readWaiter (y .server) a) refl (read-entry (y .server) a (noticed-open i t x u) (rw (noticed-kind i t x) e)))
     (λ e. g)
 accept-apart i (WriteRequest p t set) x b u h =
     let y : Serving = notice i t x in
     let k : locking (x .server .kind i) ≡ true = not-no (locking (x .server .kind i)) (or-r (badNumber (x .server) i t) _ u) in
-    join-apart i y (notice-apart i x h t) (writeWaiter (y .server) p set) refl
+    join-apart i y (notice-apart i x h t (good-renews (x .server) i t (or-l (badNumber (x .server) i t) _ u))) (writeWaiter (y .server) p set) refl
     (write-entry (y .server) p set (noticed-open i t x (or-l (badNumber (x .server) i t) _ u)) (rw (noticed-kind i t x) k))
 accept-apart i (Commit w) x b u h =
     let t : ℕ = w .transaction in
     let y : Serving = notice i t x in
-    let g : ApartIn y = notice-apart i x h t in
+    let g : ApartIn y = notice-apart i x h t (good-renews (x .server) i t (or-l (badNumber (x .server) i t) _ u)) in
     if-keeps ApartIn (locking (x .server .kind i)) (λ e. commitNow-apart i w y g)
     (λ e. join-apart i y g (commitWaiter (y .server) w) refl (commit-entry (y .server) w (noticed-open i t x (or-l (badNumber (x .server) i t) _ u)) (rw (noticed-kind i t x) e)))
-accept-apart i (Abort t) x b u h = finish-apart i (notice i t x) (notice-apart i x h t) ByMessage (λ e. absurd (false≢true e)) (rw (noticed-queue i t x) (good-number (x .server) i t (or-l (badNumber (x .server) i t) _ u) .idle))
+accept-apart i (Abort t) x b u h = finish-apart i (notice i t x) (notice-apart i x h t (good-renews (x .server) i t (or-l (badNumber (x .server) i t) _ u))) ByMessage (λ e. absurd (false≢true e)) (rw (noticed-queue i t x) (good-number (x .server) i t (or-l (badNumber (x .server) i t) _ u) .idle))
 accept-apart i (Purge p) x b u h = h
 accept-apart i (Busy r t) x b u h =
     let q = x .server .queue in
@@ -520,11 +663,7 @@ accept-apart i (Done r t d) x b u h =
     if-keeps ApartIn (openCall (x .server) i r t)
     (λ e. record { locks = h .locks; aged = h .aged; waiting = alike-waiting (h .waiting) _ (alike-upd q r (waiterPend (waiterBusy (q r) (upd (q r .busy) i false)) (upd (q r .pend) i false)) (record { want = refl; arrival = refl })) })
     (λ e. h)
-accept-apart i (WrittenSet p t set) x b u h =
-    let s : Server = x .server in
-    if-keeps ApartIn (openAsk s i p t)
-    (λ e. record { locks = loose-locks (h .locks) i p set (eqb-yes (s .wl p) (suc i) (and-l (eqb (s .wl p) (suc i)) _ (and-l _ (not (s .fin i)) (and-l _ (eqb t (s .latest i)) e)))); aged = h .aged; waiting = h .waiting })
-    (λ e. h)
+accept-apart i (WrittenSet p t set) x b u h = if-keeps ApartIn (openAsk (x .server) i p t) (λ e. heed-apart i p t set x u e h) (λ e. h)
 
 -- the step, and the start
 
@@ -534,7 +673,7 @@ apart-step i m s b u h = step-keeps ApartIn atomic-apart i m s (accept-apart i m
 pub apart-fresh : (k : ℕ → ℕ) → Apart (freshServer k)
 apart-fresh k =
     record {
-      locks = record { whole-alone = λ g h a b p q. absurd (omega arith); object-open = λ h a e. absurd (omega arith); whole-open = λ h p e. absurd (omega arith); asked-held = λ p t. absurd (false≢true t) };
+      locks = record { whole-alone = λ g h a b p q. absurd (omega arith); object-open = λ h a e. absurd (omega arith); whole-open = λ h p e. absurd (omega arith); given = λ h p e. absurd (omega arith); none-given = λ p e. refl; asked-held = λ p t. absurd (false≢true t) };
       aged = record { ages-apart = λ i j b c p q r. absurd (false≢true p); ages-given = λ i b. omega arith };
       waiting = record { arrivals-apart = λ i j b c p q r. absurd (false≢true p); arrivals-given = λ i b p. absurd (false≢true p); entry = λ i b. no-entry (k i) true };
     }

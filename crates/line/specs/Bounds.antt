@@ -13,8 +13,8 @@ use Rattle.sets.specs.Laws.{byB, byEq, eqb-same, eqb-yes, eqb-no, and-l, and-r}
 use Rattle.line.specs.Messages.{pageOf, lastNumber, locking, Work, Up, ReadRequest, WriteRequest, Commit, Abort, Purge, Busy, Done, WrittenSet, Down, Page, Deescalate, Callback, Committed, Aborted, Invalidate, To, Answer, Nothing, Begun, Value, Waits, Written, CommittedAs, AbortedFor, Purged, Refused, Empty}
 use Rattle.line.specs.Station.{Station, Did, didStation, does, unless, Wait, Idle, ForRead, ForWrite, ForCommit, forCommit, Kept, NotKept, KeptCall, usedAt, usedPage, shown, dropPages, mark, doCallback, doKept, doAllKept, closed, close, undo, checkBegin, checkOpen, checkRead, someOn, checkWrite, checkPurge, ownBegin, readLocal, readAsk, readAs, ownRead, named, writeAsk, writeLocal, writeSet, ofPage, ownWrite, ownCommit, ownAbort, ownPurge, ended, fits, answerWait, onPage, onDeescalate, onCallback, onCommitted, onAborted, onInvalidate, onDown, stationStep}
 use Rattle.line.specs.Line.{Op, Begin, Read, WriteSet, Commits, Aborts, Purges, Call, Owner, ServerTakes, StationTakes, Broken, World, Reply, Acted, acted, replies, upReply, perform, tell, carryUp, ownerActs, isRefused, stationTakes, serverTakes, act}
-use Rattle.line.specs.Server.{Server, Serving, ByCommit, ByMessage, send, Waiter, concerned, callsFrom, noWaiter, isWant, waits, shut, unexpected, badNumber, notice, finish, join, leave, sendPage, abort, write, archive, informed, inform, informFrom, install, serveNow, joinRead, joinWrite, joinCommit, commitNow, unlist, openCall, markBusy, answered, openAsk, loosen, accept, ask, serveRead, call, grantObject, grantPage, installWaiter, start, serverStep}
-use Rattle.line.specs.Pass.{Atomic, step-keeps}
+use Rattle.line.specs.Server.{Server, Serving, ByCommit, ByMessage, send, Waiter, concerned, callsFrom, noWaiter, isWant, waits, shut, unexpected, badNumber, notice, finish, join, leave, sendPage, abort, write, archive, informed, inform, informFrom, install, serveNow, joinRead, joinWrite, joinCommit, commitNow, unlist, openCall, markBusy, answered, openAsk, loosen, accept, ask, serveRead, call, grantObject, grantPage, installWaiter, start, serverStep, meet, heed}
+use Rattle.line.specs.Pass.{Atomic, step-keeps, met-keeps}
 use Rattle.line.specs.Fuel.{sumTo, nb, pagesCost, sum-le, sum-at, sum-1, nb-1, frees, lock-up, ask-less, marked}
 
 one-more : {A : Type 0} (l : List A) (m : A) → length (snoc l m) ≡ length l + 1
@@ -108,7 +108,7 @@ abort-sent i c x = one-more (x .sent) _
 
 pub abort-room : (i c : ℕ) (x : Serving) → i < 8 → room ((abort i c x) .server) + left (x .server .kind) i (x .server .queue i) ≤ room (x .server)
 unfolding abort finish leave
-abort-room i c x b = omega (arith, waiter-goes (x .server .kind) (x .server .queue) i b, frees (x .server .wl) (x .server .asked) i)
+abort-room i c x b = omega (arith, waiter-goes (x .server .kind) (x .server .queue) i b, frees (x .server .kind i) (x .server .wl) (x .server .asked) i)
 
 abort-total : (i c : ℕ) (x : Serving) → i < 8 → waits (x .server) i ≡ true → total (abort i c x) ≤ total x
 abort-total i c x b t = omega (arith, abort-sent i c x, abort-room i c x b, left-2 (x .server .kind) i (x .server .queue i) t)
@@ -197,7 +197,7 @@ install-sent i w x =
 
 pub install-room : (i : ℕ) (w : Work) (x : Serving) → i < 8 → room ((install i w x) .server) + left (x .server .kind) i (x .server .queue i) ≤ room (x .server)
 unfolding install finish archive write leave
-install-room i w x b = rw (informs-room 8 0 i w) (omega (arith, waiter-goes (x .server .kind) (x .server .queue) i b, frees (x .server .wl) (x .server .asked) i))
+install-room i w x b = rw (informs-room 8 0 i w) (omega (arith, waiter-goes (x .server .kind) (x .server .queue) i b, frees (x .server .kind i) (x .server .wl) (x .server .asked) i))
 
 install-total : (i : ℕ) (x : Serving) → i < 8 → waits (x .server) i ≡ true → total (installWaiter i x) ≤ total x
 unfolding installWaiter
@@ -228,7 +228,7 @@ commit-few i w x =
     (λ e. rw e (omega (arith, install-sent i w x, both-n 8 0 i (x .server .kind))))
 
 accept-few : (i : ℕ) (m : Up) (x : Serving) → length ((accept i m x) .sent) ≤ length (x .sent) + 9
-unfolding accept joinRead joinWrite joinCommit join serveNow sendPage finish unlist markBusy answered loosen
+unfolding accept joinRead joinWrite joinCommit join serveNow sendPage finish unlist markBusy answered loosen heed
 accept-few i (ReadRequest a t) x =
     let n = ap length (notice-sent i t x) in
     byB (locking (x .server .kind i)) (λ e. rw e (omega arith)) (λ e. rw (e, one-more) (omega arith))
@@ -240,7 +240,10 @@ accept-few i (Abort t) x = omega (arith, ap length (notice-sent i t x))
 accept-few i (Purge p) x = omega arith
 accept-few i (Busy r t) x = byB (openCall (x .server) i r t) (λ e. rw e (omega arith)) (λ e. rw e (omega arith))
 accept-few i (Done r t d) x = byB (openCall (x .server) i r t) (λ e. rw e (omega arith)) (λ e. rw e (omega arith))
-accept-few i (WrittenSet p t set) x = byB (openAsk (x .server) i p t) (λ e. rw e (omega arith)) (λ e. rw e (omega arith))
+accept-few i (WrittenSet p t set) x =
+    byB (openAsk (x .server) i p t)
+    (λ e. rw e (met-keeps (λ y. length (y .sent) ≤ length (x .sent) + 9) i t x (omega (arith, ap length (notice-sent i t x))) (omega arith)))
+    (λ e. rw e (omega arith))
 
 -- no premise: any number i, accepted or not, also a state that no run reaches
 pub step-128 : (i : ℕ) (m : Up) (s : Server) → length ((serverStep i m s) .sent) ≤ 128
@@ -301,7 +304,7 @@ free : (s : Server) (i t : ℕ) → badNumber s i t ≡ false → waits s i ≡ 
 free s i t e = or-r (ltb t (s .latest i) || (eqb t (s .latest i) && s .fin i) || (ltb (s .latest i) t && not (s .fin i) && locking (s .kind i))) (waits s i) e
 
 accept-total : (i : ℕ) (m : Up) (s : Server) → i < 8 → unexpected i m s ≡ false → total (accept i m (start s)) ≤ 104
-unfolding accept joinRead joinWrite joinCommit join finish unlist markBusy answered loosen
+unfolding accept joinRead joinWrite joinCommit join finish unlist markBusy answered loosen heed
 accept-total i (ReadRequest a t) s b u =
     let n : length ((notice i t (start s)) .sent) ≡ 0 = ap length (notice-sent i t (start s)) in
     let w : waits ((notice i t (start s)) .server) i ≡ false = rw (notice-queue i t (start s)) (free s i t u) in
@@ -321,7 +324,9 @@ accept-total i (Busy r t) s b u =
 accept-total i (Done r t d) s b u =
     byB (openCall s i r t) (λ e. rw e (quiet-total (answered i r (unlist i d (start s))) refl)) (λ e. rw e (quiet-total (unlist i d (start s)) refl))
 accept-total i (WrittenSet p t set) s b u =
-    byB (openAsk s i p t) (λ e. rw e (quiet-total (loosen i p set (start s)) refl)) (λ e. rw e (quiet-total (start s) refl))
+    byB (openAsk s i p t)
+    (λ e. rw e (quiet-total (heed i p t set (start s)) (met-keeps (λ y. length (y .sent) ≡ 0) i t (start s) (ap length (notice-sent i t (start s))) refl)))
+    (λ e. rw e (quiet-total (start s) refl))
 
 -- records: each install uses up a waiter, or is the accepted locking commit, whose station then waits for nothing
 
@@ -412,7 +417,7 @@ commit-records i w x b n =
     (λ e. rw e (omega (arith, install-records i w x b, waiters-7 (x .server) i b)))
 
 accept-records : (i : ℕ) (m : Up) (s : Server) → i < 8 → records (accept i m (start s)) ≤ 8
-unfolding accept joinRead joinWrite joinCommit join serveNow sendPage finish unlist markBusy answered loosen
+unfolding accept joinRead joinWrite joinCommit join serveNow sendPage finish unlist markBusy answered loosen heed
 accept-records i (ReadRequest a t) s b =
     let n : length ((notice i t (start s)) .recs) ≡ 0 = ap length (notice-recs i t (start s)) in
     byB (locking (s .kind i))
@@ -431,7 +436,9 @@ accept-records i (Busy r t) s b =
 accept-records i (Done r t d) s b =
     byB (openCall s i r t) (λ e. rw e (quiet-records (answered i r (unlist i d (start s))) refl)) (λ e. rw e (quiet-records (unlist i d (start s)) refl))
 accept-records i (WrittenSet p t set) s b =
-    byB (openAsk s i p t) (λ e. rw e (quiet-records (loosen i p set (start s)) refl)) (λ e. rw e (quiet-records (start s) refl))
+    byB (openAsk s i p t)
+    (λ e. rw e (quiet-records (heed i p t set (start s)) (met-keeps (λ y. length (y .recs) ≡ 0) i t (start s) (ap length (notice-recs i t (start s))) refl)))
+    (λ e. rw e (quiet-records (start s) refl))
 
 -- a station's message, accepted or not, in any state: at most 8 records (an install takes the station off the list, so number 6 is
 -- not needed; a locking commit of a number from 8 on would be a ninth)

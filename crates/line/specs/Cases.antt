@@ -15,9 +15,9 @@ use Rattle.line.specs.Line.{World, worldServer, worldStation, Call, Owne
 use Rattle.line.specs.Fields.{Fields, recorded, noValues, noVersions, setOn, readRequest, writeRequest, commit, abort, purge, busy, done, writtenSet, page, pageAndObject, pageWhole, deescalate, callback, committed, aborted, invalidate}
 use Rattle.line.specs.Rows.{Step, step, Row, row, seen, Holds, AllHold}
 
--- "locking 0 and 2, validating 1"
+-- "locking 0 and 2, validating 1", and by document 02 a keeping one, 5
 abbrev pub line : World
-line = fresh (λ i. at (0 ∷ 1 ∷ 0 ∷ []) i 0)
+line = fresh (λ i. at (0 ∷ 1 ∷ 0 ∷ 0 ∷ 0 ∷ 2 ∷ []) i 0)
 
 -- a step that only answers; one that sends; the server's, which answers nothing
 abbrev pub answers : Call → Answer → Step
@@ -788,8 +788,196 @@ setLong =
     ∷ answers (Owner 0 (setOfPage 5 8)) Written
     ∷ [])))
 
+-- WISH 10, HEADS THAT KEEP THE PAGE: station 5 is a head alone on its counters, 8 and 9
+
+-- it asks for page 1 by its first write, 1 to 8, and gets it whole
+abbrev getsPage : List Step
+getsPage =
+    answers (Owner 5 Begin) (Begun 1)
+    ∷ sends (Owner 5 (Write 8 1)) Waits (writeRequest 5 1 1 1 ∷ [])
+    ∷ serves 5 (pageWhole 5 1 0 1 noVersions 0 noValues ∷ [])
+    ∷ answers (StationTakes 5) Written
+    ∷ []
+
+-- transaction t, which wrote v to 8 alone, commits as number n
+abbrev keeperCommits : ℕ → ℕ → ℕ → List Step
+keeperCommits t v n =
+    sends (Owner 5 Commits) Waits (commit 5 t (only 1) (0 ∷ []) (recorded 0 t 5 2 [] ((8, v) ∷ [])) ∷ [])
+    ∷ step (ServerTakes 5) Nothing (committed 5 t n ∷ []) (recorded n t 5 2 [] ((8, v) ∷ []) ∷ [])
+    ∷ answers (StationTakes 5) (CommittedAs n)
+    ∷ []
+
+-- its next transaction t: begin and a write of t to 8 send nothing
+abbrev writesHere : ℕ → List Step
+writesHere t = answers (Owner 5 Begin) (Begun t) ∷ answers (Owner 5 (Write 8 t)) Written ∷ []
+
+-- n such transactions, from t on
+abbrev countsOn : ℕ → ℕ → List Step
+countsOn zero t = []
+countsOn (suc n) t = writesHere t ++ keeperCommits t t t ++ countsOn n (suc t)
+
+unfoldable pub keepAlone : Row
+keepAlone = row "A head alone on its counters commits ten times with one write request." line (getsPage ++ keeperCommits 1 1 1 ++ countsOn 9 2)
+
+-- the page has been committed once: values 1, version 1 at object 0
+abbrev oneValue : List ℕ
+oneValue = 1 ∷ 0 ∷ 0 ∷ 0 ∷ 0 ∷ 0 ∷ 0 ∷ 0 ∷ []
+
+-- 2 reads 9: 19 goes at once, and names the 18's transaction
+abbrev readTakesBack : List Step
+readTakesBack =
+    answers (Owner 2 Begin) (Begun 1)
+    ∷ sends (Owner 2 (Read 9)) Waits (readRequest 2 1 1 1 ∷ [])
+    ∷ serves 2 (deescalate 5 1 1 ∷ [])
+    ∷ []
+
+unfoldable pub keepIdleRead : Row
+keepIdleRead =
+    row "Another's read takes the page back, the head idle: its 8 names the 18's transaction, with no set." line
+    (getsPage ++ keeperCommits 1 1 1 ++ readTakesBack
+    ++ (sends (StationTakes 5) Nothing (writtenSet 5 1 1 0 ∷ [])
+    ∷ serves 5 (page 2 1 1 1 oneValue 0 oneValue ∷ [])
+    ∷ answers (StationTakes 2) (Value 0)
+    ∷ answers (Owner 5 Begin) (Begun 2)
+    ∷ answers (Owner 5 (Read 8)) (Value 1)
+    ∷ sends (Owner 5 (Write 8 2)) Waits (writeRequest 5 1 2 1 ∷ [])
+    ∷ []))
+
+-- transaction 2 of the head is open, and the server has not met it
+unfoldable pub keepOpenRead : Row
+keepOpenRead =
+    row "The head open: 8 names its open transaction, which the server meets through it, and what it wrote there is locked." line
+    (getsPage ++ keeperCommits 1 1 1 ++ writesHere 2 ++ readTakesBack
+    ++ (sends (StationTakes 5) Nothing (writtenSet 5 1 2 1 ∷ [])
+    ∷ serves 5 (page 2 1 1 1 oneValue 1 oneValue ∷ [])
+    ∷ answers (StationTakes 2) (Value 0)
+    ∷ sends (Owner 2 (Read 8)) Waits (readRequest 2 1 0 1 ∷ [])
+    ∷ serves 2 []
+    ∷ sends (Owner 5 (Write 10 7)) Waits (writeRequest 5 1 2 4 ∷ [])
+    ∷ []))
+
+unfoldable pub keepCommitOut : Row
+keepCommitOut =
+    row "The head with its commit out: the 8 comes behind the 3, of a transaction that is finished then; it is heeded, and nothing is locked." line
+    (getsPage ++ keeperCommits 1 1 1 ++ writesHere 2
+    ++ (sends (Owner 5 Commits) Waits (commit 5 2 (only 1) (0 ∷ []) (recorded 0 2 5 2 [] ((8, 2) ∷ [])) ∷ []) ∷ [])
+    ++ readTakesBack
+    ++ (sends (StationTakes 5) Nothing (writtenSet 5 1 2 1 ∷ [])
+    ∷ step (ServerTakes 5) Nothing (committed 5 2 2 ∷ []) (recorded 2 2 5 2 [] ((8, 2) ∷ []) ∷ [])
+    ∷ serves 5 (page 2 1 1 1 (2 ∷ 0 ∷ 0 ∷ 0 ∷ 0 ∷ 0 ∷ 0 ∷ 0 ∷ []) 0 (2 ∷ 0 ∷ 0 ∷ 0 ∷ 0 ∷ 0 ∷ 0 ∷ 0 ∷ []) ∷ [])
+    ∷ []))
+
+-- 2 writes 8; the copy of 5 goes by a callback then
+unfoldable pub keepWrite : Row
+keepWrite =
+    row "Another's write takes the page back: 19, 8, then 20 and 18." line
+    (getsPage ++ keeperCommits 1 1 1
+    ++ (answers (Owner 2 Begin) (Begun 1)
+    ∷ sends (Owner 2 (Write 8 9)) Waits (writeRequest 2 1 1 1 ∷ [])
+    ∷ serves 2 (deescalate 5 1 1 ∷ [])
+    ∷ sends (StationTakes 5) Nothing (writtenSet 5 1 1 0 ∷ [])
+    ∷ serves 5 (callback 5 2 1 (setOn 1 1) ∷ [])
+    ∷ sends (StationTakes 5) Nothing (done 5 2 1 (only 1) ∷ [])
+    ∷ serves 5 (pageWhole 2 1 0 1 oneValue 0 oneValue ∷ [])
+    ∷ answers (StationTakes 2) Written
+    ∷ []))
+
+-- 1 commits a write of 9, which it has read before
+unfoldable pub keepCommit : Row
+keepCommit =
+    row "Another's commit takes the page back: 19, 8, 20 to the head's copy, 7, 21." line
+    (getsPage ++ keeperCommits 1 1 1
+    ++ (answers (Owner 1 Begin) (Begun 1)
+    ∷ sends (Owner 1 (Write 9 4)) Waits (readRequest 1 1 1 1 ∷ [])
+    ∷ serves 1 (page 1 1 1 1 oneValue 0 oneValue ∷ [])
+    ∷ answers (StationTakes 1) Written
+    ∷ sends (Owner 1 Commits) Waits (commit 1 1 (only 1) (0 ∷ []) (recorded 0 1 1 1 [] ((9, 4) ∷ [])) ∷ [])
+    ∷ serves 1 (deescalate 5 1 1 ∷ [])
+    ∷ sends (StationTakes 5) Nothing (writtenSet 5 1 1 0 ∷ [])
+    ∷ serves 5 (callback 5 1 1 (setOn 1 2) ∷ [])
+    ∷ sends (StationTakes 5) Nothing (done 5 1 1 (only 1) ∷ [])
+    ∷ step (ServerTakes 5) Nothing (committed 1 1 2 ∷ []) (recorded 2 1 1 1 [] ((9, 4) ∷ []) ∷ [])
+    ∷ []))
+
+unfoldable pub keepAbort : Row
+keepAbort =
+    row "An abort under the kept lock marks what was written: a read behind it asks by 1, a write is local, and the page is not purged." line
+    (getsPage ++ keeperCommits 1 1 1 ++ writesHere 2
+    ++ (sends (Owner 5 Aborts) (AbortedFor 0) (abort 5 2 ∷ [])
+    ∷ answers (Owner 5 (Purges 1)) (Refused 10)
+    ∷ serves 5 []
+    ∷ answers (Owner 5 Begin) (Begun 3)
+    ∷ sends (Owner 5 (Read 8)) Waits (readRequest 5 1 0 3 ∷ [])
+    ∷ serves 5 (page 5 1 0 3 oneValue 0 oneValue ∷ [])
+    ∷ answers (StationTakes 5) (Value 1)
+    ∷ answers (Owner 5 (Write 8 3)) Written
+    ∷ []))
+
+-- 1 is blocked by 2, which waits to write 16, in use at 0; 1 wants 16 and, of the head's page, 9
+unfoldable pub keepAsked : Row
+keepAsked =
+    row "19 goes even for one that is blocked, and once for each 18, whatever transactions end." line
+    (getsPage ++ keeperCommits 1 1 1
+    ++ (answers (Owner 0 Begin) (Begun 1)
+    ∷ sends (Owner 0 (Read 16)) Waits (readRequest 0 2 0 1 ∷ [])
+    ∷ serves 0 (page 0 2 0 1 noVersions 0 noValues ∷ [])
+    ∷ answers (StationTakes 0) (Value 0)
+    ∷ answers (Owner 2 Begin) (Begun 1)
+    ∷ sends (Owner 2 (Write 16 5)) Waits (writeRequest 2 2 1 1 ∷ [])
+    ∷ serves 2 (callback 0 2 1 (setOn 2 1) ∷ [])
+    ∷ sends (StationTakes 0) Nothing (busy 0 2 1 ∷ [])
+    ∷ serves 0 []
+    ∷ answers (Owner 1 Begin) (Begun 1)
+    ∷ sends (Owner 1 (Read 16)) Waits (readRequest 1 2 0 1 ∷ [])
+    ∷ serves 1 (page 1 2 0 1 noVersions 0 noValues ∷ [])
+    ∷ answers (StationTakes 1) (Value 0)
+    ∷ sends (Owner 1 (Write 9 4)) Waits (readRequest 1 1 1 1 ∷ [])
+    ∷ serves 1 (page 1 1 1 1 oneValue 0 oneValue ∷ [])
+    ∷ answers (StationTakes 1) Written
+    ∷ sends (Owner 1 Commits) Waits (commit 1 1 6 (0 ∷ 0 ∷ []) (recorded 0 1 1 1 ((16, 0) ∷ []) ((9, 4) ∷ [])) ∷ [])
+    ∷ serves 1 (deescalate 5 1 1 ∷ [])
+    ∷ answers (Owner 5 Begin) (Begun 2)
+    ∷ answers (Owner 5 (Write 8 2)) Written
+    ∷ sends (Owner 5 Aborts) (AbortedFor 0) (abort 5 2 ∷ [])
+    ∷ serves 5 []
+    ∷ []))
+
+-- 5 has read 8 and 2 waits to write it; 2 has read 16 and 5 waits to write it: 2 is the younger
+unfoldable pub keepCallback : Row
+keepCallback =
+    row "A callback kept for one that was aborted since, done under the kept lock: what it names is marked, and the page is not dropped." line
+    (answers (Owner 5 Begin) (Begun 1)
+    ∷ sends (Owner 5 (Read 8)) Waits (readRequest 5 1 0 1 ∷ [])
+    ∷ serves 5 (page 5 1 0 1 noVersions 0 noValues ∷ [])
+    ∷ answers (StationTakes 5) (Value 0)
+    ∷ answers (Owner 2 Begin) (Begun 1)
+    ∷ sends (Owner 2 (Read 16)) Waits (readRequest 2 2 0 1 ∷ [])
+    ∷ serves 2 (page 2 2 0 1 noVersions 0 noValues ∷ [])
+    ∷ answers (StationTakes 2) (Value 0)
+    ∷ sends (Owner 2 (Write 8 9)) Waits (writeRequest 2 1 1 1 ∷ [])
+    ∷ serves 2 (callback 5 2 1 (setOn 1 1) ∷ [])
+    ∷ sends (StationTakes 5) Nothing (busy 5 2 1 ∷ [])
+    ∷ serves 5 []
+    ∷ sends (Owner 5 (Write 16 3)) Waits (writeRequest 5 2 1 1 ∷ [])
+    ∷ serves 5 (callback 2 5 1 (setOn 2 1) ∷ [])
+    ∷ sends (StationTakes 2) Nothing (busy 2 5 1 ∷ [])
+    ∷ serves 2 (aborted 2 1 1 ∷ [])
+    ∷ sends (StationTakes 2) (AbortedFor 1) (done 2 5 1 (only 2) ∷ [])
+    ∷ serves 2 (pageWhole 5 2 0 1 noVersions 0 noValues ∷ [])
+    ∷ answers (StationTakes 5) Written
+    ∷ sends (Owner 5 (Write 8 1)) Waits (writeRequest 5 1 1 1 ∷ [])
+    ∷ serves 5 (pageWhole 5 1 0 1 noVersions 0 noValues ∷ [])
+    ∷ answers (StationTakes 5) Written
+    ∷ sends (Owner 5 Commits) Waits (commit 5 1 6 (0 ∷ 0 ∷ 0 ∷ []) (recorded 0 1 5 2 ((8, 0) ∷ []) ((8, 1) ∷ (16, 3) ∷ [])) ∷ [])
+    ∷ step (ServerTakes 5) Nothing (committed 5 1 1 ∷ []) (recorded 1 1 5 2 ((8, 0) ∷ []) ((8, 1) ∷ (16, 3) ∷ []) ∷ [])
+    ∷ sends (StationTakes 5) (CommittedAs 1) (done 5 2 1 0 ∷ [])
+    ∷ serves 5 []
+    ∷ answers (Owner 5 Begin) (Begun 2)
+    ∷ answers (Owner 5 (Write 8 2)) Written
+    ∷ [])
+
 unfoldable pub table : List Row
-table = C1 ∷ C2 ∷ C3 ∷ C4 ∷ C5 ∷ C6 ∷ C7 ∷ C8 ∷ inUseAborts ∷ inUseCommits ∷ wroteNine ∷ besideWhole ∷ C9 ∷ lastCommit ∷ spent ∷ longReads ∷ longWrites ∷ turnedBack ∷ requestOut ∷ pageUnderWay ∷ staleCommit ∷ byArrival ∷ neighboursCommit ∷ marked ∷ markedOut ∷ arrivesOver ∷ sameObject ∷ blindWrite ∷ usedAndUnused ∷ setWhole ∷ setObjects ∷ setBlocked ∷ setCycle ∷ setEdges ∷ setUnavailable ∷ setShown ∷ setAtOnce ∷ setPartly ∷ setRange ∷ setLong ∷ []
+table = C1 ∷ C2 ∷ C3 ∷ C4 ∷ C5 ∷ C6 ∷ C7 ∷ C8 ∷ inUseAborts ∷ inUseCommits ∷ wroteNine ∷ besideWhole ∷ C9 ∷ lastCommit ∷ spent ∷ longReads ∷ longWrites ∷ turnedBack ∷ requestOut ∷ pageUnderWay ∷ staleCommit ∷ byArrival ∷ neighboursCommit ∷ marked ∷ markedOut ∷ arrivesOver ∷ sameObject ∷ blindWrite ∷ usedAndUnused ∷ setWhole ∷ setObjects ∷ setBlocked ∷ setCycle ∷ setEdges ∷ setUnavailable ∷ setShown ∷ setAtOnce ∷ setPartly ∷ setRange ∷ setLong ∷ keepAlone ∷ keepIdleRead ∷ keepOpenRead ∷ keepCommitOut ∷ keepWrite ∷ keepCommit ∷ keepAbort ∷ keepAsked ∷ keepCallback ∷ []
 
 C1-holds : Holds C1
 unfolding Holds seen C1
@@ -951,6 +1139,42 @@ setLong-holds : Holds setLong
 unfolding Holds seen setLong
 setLong-holds = refl
 
+keepAlone-holds : Holds keepAlone
+unfolding Holds seen keepAlone
+keepAlone-holds = refl
+
+keepIdleRead-holds : Holds keepIdleRead
+unfolding Holds seen keepIdleRead
+keepIdleRead-holds = refl
+
+keepOpenRead-holds : Holds keepOpenRead
+unfolding Holds seen keepOpenRead
+keepOpenRead-holds = refl
+
+keepCommitOut-holds : Holds keepCommitOut
+unfolding Holds seen keepCommitOut
+keepCommitOut-holds = refl
+
+keepWrite-holds : Holds keepWrite
+unfolding Holds seen keepWrite
+keepWrite-holds = refl
+
+keepCommit-holds : Holds keepCommit
+unfolding Holds seen keepCommit
+keepCommit-holds = refl
+
+keepAbort-holds : Holds keepAbort
+unfolding Holds seen keepAbort
+keepAbort-holds = refl
+
+keepAsked-holds : Holds keepAsked
+unfolding Holds seen keepAsked
+keepAsked-holds = refl
+
+keepCallback-holds : Holds keepCallback
+unfolding Holds seen keepCallback
+keepCallback-holds = refl
+
 pub table-holds : AllHold table
 unfolding AllHold table
-table-holds = (C1-holds, (C2-holds, (C3-holds, (C4-holds, (C5-holds, (C6-holds, (C7-holds, (C8-holds, (inUseAborts-holds, (inUseCommits-holds, (wroteNine-holds, (besideWhole-holds, (C9-holds, (lastCommit-holds, (spent-holds, (longReads-holds, (longWrites-holds, (turnedBack-holds, (requestOut-holds, (pageUnderWay-holds, (staleCommit-holds, (byArrival-holds, (neighboursCommit-holds, (marked-holds, (markedOut-holds, (arrivesOver-holds, (sameObject-holds, (blindWrite-holds, (usedAndUnused-holds, (setWhole-holds, (setObjects-holds, (setBlocked-holds, (setCycle-holds, (setEdges-holds, (setUnavailable-holds, (setShown-holds, (setAtOnce-holds, (setPartly-holds, (setRange-holds, (setLong-holds, tt))))))))))))))))))))))))))))))))))))))))
+table-holds = (C1-holds, (C2-holds, (C3-holds, (C4-holds, (C5-holds, (C6-holds, (C7-holds, (C8-holds, (inUseAborts-holds, (inUseCommits-holds, (wroteNine-holds, (besideWhole-holds, (C9-holds, (lastCommit-holds, (spent-holds, (longReads-holds, (longWrites-holds, (turnedBack-holds, (requestOut-holds, (pageUnderWay-holds, (staleCommit-holds, (byArrival-holds, (neighboursCommit-holds, (marked-holds, (markedOut-holds, (arrivesOver-holds, (sameObject-holds, (blindWrite-holds, (usedAndUnused-holds, (setWhole-holds, (setObjects-holds, (setBlocked-holds, (setCycle-holds, (setEdges-holds, (setUnavailable-holds, (setShown-holds, (setAtOnce-holds, (setPartly-holds, (setRange-holds, (setLong-holds, (keepAlone-holds, (keepIdleRead-holds, (keepOpenRead-holds, (keepCommitOut-holds, (keepWrite-holds, (keepCommit-holds, (keepAbort-holds, (keepAsked-holds, (keepCallback-holds, tt)))))))))))))))))))))))))))))))))))))))))))))))))

@@ -3,12 +3,13 @@
 use mathlib.Core.Path.{_≡_}
 use mathlib.Core.Bool.{Bool, true, false, not, _||_}
 use mathlib.Core.Logic.{_≢_}
-use Prim.Native.Nat.{ℕ, _≤_, _<_}
+use Prim.Native.Nat.{ℕ, suc, _≤_, _<_}
 use lib.Dec.{eqb}
 use Rattle.sets.specs.Base.{Val, none, has}
 use Rattle.sets.specs.Size.{size}
 use Rattle.limits.specs.Limit.{limit}
-use Rattle.line.specs.Messages.{pageOf, address, locking, Work, Rec, Up, ReadRequest, WriteRequest, Commit, Abort, Purge, Busy, Done, WrittenSet, Lock, NoLock, ObjectLock, WholeLock, Down, Page, Deescalate, Callback, Committed, Aborted, Invalidate, Sent, To}
+use Rattle.kinds.specs.Kinds.{mostKind}
+use Rattle.line.specs.Messages.{pageOf, address, locking, keeps, Work, Rec, Up, ReadRequest, WriteRequest, Commit, Abort, Purge, Busy, Done, WrittenSet, Lock, NoLock, ObjectLock, WholeLock, Down, Page, Deescalate, Callback, Committed, Aborted, Invalidate, Sent, To}
 use Rattle.line.specs.Server.{Server, Waiter, Want, NoWant, WantRead, WantWrite, WantCommit, isWant}
 use Rattle.line.specs.Station.{Station, Wait, Idle, ForRead, ForWrite, forRead, forWrite, someOn, Kept, NotKept, KeptCall}
 use Rattle.line.specs.Apart.{Apart}
@@ -150,14 +151,19 @@ pub record Form (kind : ℕ → ℕ) (i latest : ℕ) (w : Waiter) : Type 0 wher
 
 -- over fields, as `ApartOf`
 pub record Forms (kind : ℕ → ℕ) (latest : ℕ → ℕ) (fin : ℕ → Bool) (queue : ℕ → Waiter) : Type 0 where
-  pub kinds : (i : ℕ) → kind i ≤ 1
+  pub kinds : (i : ℕ) → kind i ≤ mostKind
   -- "each transaction": numbered from 1
   pub named : (i : ℕ) → i < 8 → fin i ≡ false → latest i ≢ 0
   pub form : (i : ℕ) → i < 8 → Form kind i (latest i) (queue i)
 
+-- a whole lock was given to a transaction
+abbrev pub GivenToSome : (ℕ → ℕ) → (ℕ → ℕ) → Type 0
+GivenToSome wl wholeFor = (h p : ℕ) → wl p ≡ suc h → wholeFor p ≢ 0
+
 pub record Fit (s : Server) : Type 0 where
   pub apart : Apart s
   pub forms : Forms (s .kind) (s .latest) (s .fin) (s .queue)
+  pub given : GivenToSome (s .wl) (s .wholeFor)
 
 -- A STATION
 
@@ -172,11 +178,11 @@ pub record Works (opened : Bool) (num : ℕ) (rd wr : ℕ → Val) (wait : Wait)
   -- a write that is out is of objects of one page
   pub asks : (p : ℕ) (f : ℕ → Val) → wait ≡ ForWrite p f → Asks p f
 
--- its locks: of an open transaction of a locking station
+-- its locks: of an open transaction of a locking station; a keeping station's whole locks outlive it
 pub record Locked (kind : ℕ) (opened : Bool) (ol wl : ℕ → Bool) : Type 0 where
   pub object-opened : (a : ℕ) → ol a ≡ true → opened ≡ true
   pub object-locks : (a : ℕ) → ol a ≡ true → locking kind ≡ true
-  pub whole-opened : (p : ℕ) → wl p ≡ true → opened ≡ true
+  pub whole-opened : (p : ℕ) → wl p ≡ true → keeps kind ≡ false → opened ≡ true
   pub whole-locks : (p : ℕ) → wl p ≡ true → locking kind ≡ true
 
 -- a kept callback names a transaction, at a locking station

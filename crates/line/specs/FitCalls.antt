@@ -11,13 +11,14 @@ use borrow.Author.Tests.{ltb-true, leb-false}
 use Rattle.sets.specs.Base.{Val, none, some, has, upd, turned}
 use Rattle.sets.specs.Size.{size, size-empty, size-part, size-joined}
 use Rattle.limits.specs.Limit.{limit}
-use Rattle.sets.specs.Laws.{byB, byEq, eqb-same, eqb-yes, eqb-no, and-l, and-r, or-no, not-no, ltb-no, any-some}
-use Rattle.line.specs.Messages.{pageOf, address, locking, ReadRequest, WriteRequest, Lock, NoLock, ObjectLock, WholeLock, Down, Page, Deescalate, Callback, Committed, Aborted, Invalidate}
-use Rattle.line.specs.Station.{Station, freshStation, Did, unless, Wait, Idle, ForRead, ForWrite, ForCommit, waiting, Kept, NotKept, KeptCall, shown, usedAt, inUse, forRead, forWrite, writesTo, forCommit, requested, usedPage, live, ended, fitsPage, fits, checkBegin, openThen, checkOpen, longRead, longWrite, checkRead, someOn, lowestOn, badSet, checkWrite, checkPurge, dropPages, recordRead, orVal, writeLocal, mark, doCallback, doKept, doAllKept, closed, close, undo, ownBegin, readLocal, readAsk, readAs, ownRead, named, writeAsk, writeSet, ofPage, ownWrite, ownCommit, ownAbort, ownPurge, arrive, takeLock, answerWait, onPage, onDeescalate, loosen, onCallback, onCommitted, onAborted, onInvalidate, onDown, stationStep}
+use Rattle.sets.specs.Laws.{byB, byEq, eqb-same, eqb-yes, eqb-no, and-l, and-r, or-no, or-yes, not-no, ltb-no, any-some}
+use Rattle.line.specs.Messages.{pageOf, address, locking, keeps, ReadRequest, WriteRequest, Lock, NoLock, ObjectLock, WholeLock, Down, Page, Deescalate, Callback, Committed, Aborted, Invalidate}
+use Rattle.line.specs.Station.{Station, freshStation, Did, unless, Wait, Idle, ForRead, ForWrite, ForCommit, waiting, Kept, NotKept, KeptCall, shown, usedAt, inUse, forRead, forWrite, writesTo, forCommit, requested, usedPage, live, ended, fitsPage, fits, checkBegin, openThen, checkOpen, longRead, longWrite, checkRead, someOn, lowestOn, badSet, checkWrite, checkPurge, dropPages, recordRead, orVal, writeLocal, mark, doCallback, doKept, doAllKept, closed, close, undo, ownBegin, readLocal, readAsk, readAs, ownRead, named, writeAsk, writeSet, ofPage, ownWrite, ownCommit, ownAbort, ownPurge, arrive, takeLock, answerWait, onPage, onDeescalate, loosen, onCallback, onCommitted, onAborted, onInvalidate, onDown, stationStep, keptWhole, answersFor, givesUp, writtenOn}
 use Rattle.line.specs.Line.{Op, Begin, Read, WriteSet, Commits, Aborts, Purges, perform}
 use Rattle.line.specs.All.{All, all-append}
 use Rattle.line.specs.Bounds.{undo-kept}
 use Rattle.line.specs.Kept.{all-kept}
+use Rattle.line.specs.Apart.{keeps-locks}
 use Rattle.line.specs.Asks.{Asks, set-asks, lowest-in-range}
 use Rattle.line.specs.Fit.{DownNames, UpFits, Limited, LimitedStation, Works, Locked, KeptFits, FitStation}
 
@@ -45,7 +46,7 @@ open-works o n f g =
 
 open-locked : {kind : ℕ} {opened : Bool} {ol wl : ℕ → Bool} → opened ≡ true → locking kind ≡ true → Locked kind opened ol wl
 open-locked o k =
-    record { object-opened = λ a e. o; object-locks = λ a e. k; whole-opened = λ p e. o; whole-locks = λ p e. k }
+    record { object-opened = λ a e. o; object-locks = λ a e. k; whole-opened = λ p e n. o; whole-locks = λ p e. k }
 
 abbrev addressIn : Wait → ℕ
 addressIn Idle = 0
@@ -215,7 +216,7 @@ module _ (own : ℕ) where
         closed-is = refl;
         works = record { numbered = λ q. absurd (false≢true q); idle = λ q. refl; unread = λ q a. refl; unwritten = λ q a. refl; first = λ a q. (refl, refl); asks = no-write Idle (λ p. refl) };
         few = none-few;
-        locked = record { object-opened = λ a q. q; object-locks = λ a q. absurd (false≢true q); whole-opened = λ p q. q; whole-locks = λ p q. absurd (false≢true q) };
+        locked = record { object-opened = λ a q. q; object-locks = λ a q. absurd (false≢true q); whole-opened = λ p q n. absurd (false≢true (sym n ∙ and-l (keeps (d .station .kind)) _ q)); whole-locks = λ p q. keeps-locks (d .station .kind) (and-l (keeps (d .station .kind)) _ q) };
         not-own = e;
         fit = f;
         sent = s;
@@ -289,7 +290,7 @@ module _ (own : ℕ) (s : Station) (h : FitStation own s) where
             record {
               works = open-works refl (λ z. omega (arith, z)) (h .works .first) (h .works .asks);
               few = h .few;
-              locked = record { object-opened = λ a q. refl; object-locks = h .locked .object-locks; whole-opened = λ p q. refl; whole-locks = h .locked .whole-locks };
+              locked = record { object-opened = λ a q. refl; object-locks = h .locked .object-locks; whole-opened = λ p q n. refl; whole-locks = h .locked .whole-locks };
               callbacks = record { not-own = h .callbacks .not-own; done = λ q r l. absurd (false≢true (sym q)); fit = h .callbacks .fit };
             };
         sent = tt;
@@ -397,7 +398,7 @@ module _ (own : ℕ) (s : Station) (h : FitStation own s) where
   owner-fit (Purges p) =
       unless-fit (checkPurge p s) _
       (λ e.
-      let u = ranged (ltb p 32) (turned (requested (s .wait) p) 7 (turned (usedPage s p || not (s .cached p)) 10 0)) e in
+      let u = ranged (ltb p 32) (turned (requested (s .wait) p) 7 (turned (usedPage s p || not (s .cached p) || keptWhole s p) 10 0)) e in
       record { station = record { works = h .works; few = h .few; locked = h .locked; callbacks = h .callbacks }; sent = (record { names = ltb-true p 32 (u .0); kind-fits = refl }, tt) })
 
 -- THE STEP
@@ -461,17 +462,32 @@ module _ (own : ℕ) (s : Station) (h : FitStation own s) where
       })
       (q .opened ∙ o) refl (rw (q .rd, q .wr) (h .few)))
 
+  -- an 8 names a transaction: the open one, or the 19's
+  answers-named : (t : ℕ) → t ≢ 0 → answersFor t s ≢ 0
+  answers-named t n =
+      byB (keeps (s .kind) && s .opened) (λ e. rw e (h .works .numbered (and-r (keeps (s .kind)) _ e))) (λ e. rw e n)
+
+  loose-locked : (p : ℕ) (set : ℕ → Bool) → ((a : ℕ) → set a ≡ true → s .opened ≡ true) → locking (s .kind) ≡ true → Locked (s .kind) (s .opened) (λ b. s .ol b || set b) (upd (s .wl) p false)
+  loose-locked p set o k =
+      record {
+        object-opened = λ a e. or-yes (s .ol a) (set a) e (h .locked .object-opened a) (o a);
+        object-locks = λ a e. k;
+        whole-opened = λ q e. byEq q p (λ z. absurd (false≢true (rw z at e))) (λ z. h .locked .whole-opened q (rw z at e));
+        whole-locks = λ q e. k;
+      }
+
   deescalate-fit : (p t : ℕ) → t ≢ 0 → locking (s .kind) ≡ true → FitDid own (onDeescalate p t s)
   unfolding onDeescalate loosen
   deescalate-fit p t n k =
-      byB (live s t && s .wl p)
+      let u : ℕ = answersFor t s in
+      byB (givesUp p t s)
       (λ e.
       rw e
       (record {
-        station = record { works = h .works; few = h .few; locked = open-locked (and-l (s .opened) _ (and-l (live s t) _ e)) k; callbacks = h .callbacks };
-        sent = (record { names = n; kind-fits = k }, tt);
+        station = record { works = h .works; few = h .few; locked = loose-locked p (writtenOn p u s) (λ a q. and-l (s .opened) _ (and-l (live s u) _ (and-l (live s u && eqb (pageOf a) p) _ q))) k; callbacks = h .callbacks };
+        sent = (record { names = answers-named t n; kind-fits = k }, tt);
       }))
-      (λ e. rw e (record { station = h; sent = (record { names = n; kind-fits = k }, tt) }))
+      (λ e. rw e (record { station = h; sent = (record { names = answers-named t n; kind-fits = k }, tt) }))
 
   callback-fit : (r t : ℕ) (set : ℕ → Bool) → eqb own r ≡ false → t ≢ 0 → locking (s .kind) ≡ true → FitDid own (onCallback r t set s)
   unfolding onCallback doCallback dropPages mark
@@ -528,6 +544,6 @@ fit-new own k =
     record {
       works = record { numbered = λ e. absurd (false≢true e); idle = λ e. refl; unread = λ e a. refl; unwritten = λ e a. refl; first = λ a e. (refl, refl); asks = no-write Idle (λ p. refl) };
       few = none-few;
-      locked = record { object-opened = λ a e. e; object-locks = λ a e. absurd (false≢true e); whole-opened = λ p e. e; whole-locks = λ p e. absurd (false≢true e) };
+      locked = record { object-opened = λ a e. e; object-locks = λ a e. absurd (false≢true e); whole-opened = λ p e n. e; whole-locks = λ p e. absurd (false≢true e) };
       callbacks = record { not-own = refl; done = λ e r l. refl; fit = λ r. tt };
     }

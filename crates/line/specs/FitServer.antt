@@ -1,7 +1,7 @@
 -- Every step of the server leaves a state that number 1 takes, what it sends fits its station, and what it archives is within the limit:
 -- from every such state, for every message that numbers 4 and 5 let pass and number 6 takes.
 use mathlib.Core.Path.{_≡_, refl, sym, ap, _∙_}
-use mathlib.Core.Bool.{Bool, true, false, not, _&&_, false≢true}
+use mathlib.Core.Bool.{Bool, true, false, not, _&&_, false≢true, cond}
 use mathlib.Core.List.{List, [], _∷_, _++_}
 use mathlib.Core.Logic.{_≢_}
 use Prim.Native.Nat.{ℕ, zero, suc, _+_, _≤_, _<_}
@@ -9,17 +9,21 @@ use native.Mathlib.Omega.{arith}
 use lib.Dec.{eqb, ltb}
 use borrow.Author.Tests.{ltb-true}
 use Rattle.sets.specs.Base.{upd, any, nowhere}
-use Rattle.sets.specs.Laws.{byB, byEq, eqb-same, eqb-yes, and-l, and-r, not-yes, any-some, any-yes}
+use Rattle.kinds.specs.Kinds.{mostKind}
+use Rattle.sets.specs.Laws.{byB, byEq, eqb-same, eqb-yes, and-l, and-r, not-yes, not-no, any-some, any-yes}
 use Rattle.line.specs.Messages.{pageOf, address, lastNumber, locking, Work, Up, ReadRequest, WriteRequest, Commit, Abort, Purge, Busy, Done, WrittenSet, Down, Sent, To, Rec}
-use Rattle.line.specs.Server.{Server, Serving, freshServer, Waiter, noWaiter, waiterPend, waiterBusy, waiterCalled, Want, NoWant, WantRead, WantWrite, WantCommit, isWant, waits, wrotePage, unexpected, badNumber, notice, finish, join, leave, sendPage, abort, informed, write, archive, inform, informFrom, install, readWaiter, writeWaiter, commitWaiter, serveNow, joinRead, joinWrite, joinCommit, commitNow, unlist, openCall, markBusy, answered, openAsk, loosen, accept, ask, serveRead, concerned, callsFrom, call, grantPage, grantObject, installWaiter, start, serverStep, End, ByCommit, ByCause, ByMessage}
+use Rattle.line.specs.Server.{Server, Serving, freshServer, Waiter, noWaiter, waiterPend, waiterBusy, waiterCalled, Want, NoWant, WantRead, WantWrite, WantCommit, isWant, waits, wrotePage, unexpected, badNumber, notice, finish, join, leave, sendPage, abort, informed, write, archive, inform, informFrom, install, readWaiter, writeWaiter, commitWaiter, serveNow, joinRead, joinWrite, joinCommit, commitNow, unlist, openCall, markBusy, answered, openAsk, loosen, accept, ask, serveRead, concerned, callsFrom, call, grantPage, grantObject, installWaiter, start, serverStep, End, ByCommit, ByCause, ByMessage, meet, heed, unlocks}
 use Rattle.line.specs.Station.{someOn}
-use Rattle.line.specs.Pass.{Atomic, if-keeps, step-keeps}
+use Rattle.line.specs.Pass.{Atomic, if-keeps, step-keeps, met-keeps}
 use Rattle.line.specs.All.{All, all-append}
-use Rattle.line.specs.Apart.{ApartIn, or-l, good-number, atomic-apart, accept-apart, apart-fresh}
-use Rattle.line.specs.Fit.{UpNames, DownNames, takenBy, SentFits, LimitedWork, LimitedRec, calls, Owes, OnPage, Form, Forms, Fit}
+use Rattle.line.specs.Apart.{ApartIn, or-l, good-number, atomic-apart, accept-apart, apart-fresh, left-whole, Renews, good-renews, heard-renews}
+use Rattle.line.specs.Fit.{UpNames, DownNames, takenBy, SentFits, LimitedWork, LimitedRec, calls, Owes, OnPage, Form, Forms, Fit, GivenToSome}
 
 abbrev FormsIn : Serving → Type 0
 FormsIn x = Forms (x .server .kind) (x .server .latest) (x .server .fin) (x .server .queue)
+
+abbrev GivenIn : Serving → Type 0
+GivenIn x = GivenToSome (x .server .wl) (x .server .wholeFor)
 
 abbrev SentIn : Serving → Type 0
 SentIn x = All (SentFits (x .server .kind)) (x .sent)
@@ -201,10 +205,23 @@ module _ {kind : ℕ → ℕ} {latest : ℕ → ℕ} {fin : ℕ → Bool} {queue
 more : (kind : ℕ → ℕ) (l : List Sent) (j : ℕ) (m : Down) → All (SentFits kind) l → j < 8 → DownNames j m → takenBy (kind j) m ≡ true → All (SentFits kind) (l ++ (To j m ∷ []))
 more kind l j m h b n k = all-append (SentFits kind) l (To j m ∷ []) h ((b, record { names = n; kind-fits = k }), tt)
 
+-- whole locks: at an end; a new one; one that goes
+module _ {wl wholeFor : ℕ → ℕ} (l : GivenToSome wl wholeFor) where
+  ended-given : (k i : ℕ) → GivenToSome (λ p. cond (unlocks k i (wl p)) 0 (wl p)) (λ p. cond (unlocks k i (wl p)) 0 (wholeFor p))
+  ended-given k i h p e =
+      byB (unlocks k i (wl p)) (λ q. let z : 0 ≡ suc h = rw q at e in absurd (omega arith)) (λ q. rw q (l h p (rw q at e)))
+
+  page-given : (i p t : ℕ) → t ≢ 0 → GivenToSome (upd wl p (suc i)) (upd wholeFor p t)
+  page-given i p t n h q e = byEq q p (λ z. rw z n) (λ z. rw z (l h q (rw z at e)))
+
+  loose-given : (p : ℕ) → GivenToSome (upd wl p 0) (upd wholeFor p 0)
+  loose-given p h q e = byEq q p (λ z. let y : 0 ≡ suc h = rw z at e in absurd (omega arith)) (λ z. rw z (l h q (rw z at e)))
+
 -- a step under way
 pub record FitIn (x : Serving) : Type 0 where
   pub apart : ApartIn x
   pub forms : FormsIn x
+  pub given : GivenIn x
   pub sent : SentIn x
   pub recs : RecsIn x
 
@@ -216,6 +233,14 @@ module _ (i : ℕ) (x : Serving) where
   notice-recs : (t : ℕ) → RecsIn x → RecsIn (notice i t x)
   unfolding notice
   notice-recs t h = if-keeps RecsIn (eqb t (x .server .latest i)) (λ e. h) (λ e. h)
+
+  notice-given : (t : ℕ) → GivenIn x → GivenIn (notice i t x)
+  unfolding notice
+  notice-given t h = if-keeps GivenIn (eqb t (x .server .latest i)) (λ e. h) (λ e. h)
+
+  finish-given : (e : End) → GivenIn x → GivenIn (finish i e x)
+  unfolding finish
+  finish-given e h = ended-given h (x .server .kind i) i
 
   notice-sent : (t : ℕ) → SentIn x → SentIn (notice i t x)
   unfolding notice
@@ -239,6 +264,10 @@ module _ (i c : ℕ) (x : Serving) where
   unfolding abort
   abort-forms h = finish-forms i (leave i x) (ByCause c) (leave-forms i x h)
 
+  abort-given : GivenIn x → GivenIn (abort i c x)
+  unfolding abort leave
+  abort-given h = finish-given i (leave i x) (ByCause c) h
+
   abort-sent : i < 8 → x .server .latest i ≢ 0 → SentIn x → SentIn (abort i c x)
   unfolding abort finish leave
   abort-sent b n h = more (x .server .kind) (x .sent) i _ h b n refl
@@ -247,6 +276,11 @@ module _ (i c : ℕ) (x : Serving) where
 inform-forms : (i : ℕ) (w : Work) (j : ℕ) (x : Serving) → FormsIn x → FormsIn (inform i w j x)
 unfolding inform
 inform-forms i w j x h = if-keeps FormsIn (informed (x .server) i w j) (λ e. h) (λ e. h)
+
+informs-given : (n j i : ℕ) (w : Work) (x : Serving) → GivenIn x → GivenIn (informFrom n j i w x)
+unfolding informFrom inform
+informs-given zero j i w x h = h
+informs-given (suc n) j i w x h = informs-given n (suc j) i w (inform i w j x) (if-keeps GivenIn (informed (x .server) i w j) (λ e. h) (λ e. h))
 
 inform-sent : (i : ℕ) (w : Work) (j : ℕ) (x : Serving) → j < 8 → SentIn x → SentIn (inform i w j x)
 unfolding inform
@@ -279,6 +313,10 @@ module _ (i : ℕ) (w : Work) (x : Serving) where
   install-forms : FormsIn x → FormsIn (install i w x)
   unfolding install archive write
   install-forms h = informs-forms 8 0 i w _ (finish-forms i (archive i w (write w (leave i x))) ByCommit (leave-forms i x h))
+
+  install-given : GivenIn x → GivenIn (install i w x)
+  unfolding install archive write leave
+  install-given h = informs-given 8 0 i w _ (finish-given i (archive i w (write w (leave i x))) ByCommit h)
 
   install-sent : i < 8 → w .transaction ≢ 0 → SentIn x → SentIn (install i w x)
   unfolding install archive write finish leave
@@ -330,19 +368,21 @@ unfolding abort finish ask serveRead sendPage leave call grantObject grantPage i
 atomic-fit =
     record {
       aborts = λ i c x b t k.
-          record { apart = atomic-apart .aborts i c x b t (k .apart); forms = abort-forms i c x (k .forms); sent = abort-sent i c x b (waits-named i x b k t) (k .sent); recs = k .recs };
+          record { apart = atomic-apart .aborts i c x b t (k .apart); forms = abort-forms i c x (k .forms); given = abort-given i c x (k .given); sent = abort-sent i c x b (waits-named i x b k t) (k .sent); recs = k .recs };
       asks = λ i h p x b t u k.
           let o = k .apart .locks .whole-open h p (t .held) in
           record {
             apart = atomic-apart .asks i h p x b t u (k .apart);
             forms = k .forms;
-            sent = more (x .server .kind) (x .sent) h _ (k .sent) (o .station) (b, k .forms .named h (o .station) (o .unfinished)) (o .locks);
+            given = k .given;
+            sent = more (x .server .kind) (x .sent) h _ (k .sent) (o .station) (b, k .given h p (t .held)) (o .locks);
             recs = k .recs;
           };
       reads = λ i x b w c k.
           record {
             apart = atomic-apart .reads i x b w c (k .apart);
             forms = left-forms (k .forms) i;
+            given = k .given;
             sent = more (x .server .kind) (x .sent) i _ (k .sent) b (k .forms .form i b .read w .in-range, waits-named i x b k (ap isWant w), tt) refl;
             recs = k .recs;
           };
@@ -350,6 +390,7 @@ atomic-fit =
           record {
             apart = atomic-apart .calls i x b t u w c (k .apart);
             forms = changed-forms (k .forms) i _ (λ _. called-form (k .forms .form i b) (concerned (x .server) i) (calls-want _ t w) (concerned-owes (x .server) i) (uncalled i x b k u));
+            given = k .given;
             sent = all-append (SentFits (x .server .kind)) (x .sent) (callsFrom 8 0 (x .server) i) (k .sent) (calls-fit 8 0 (x .server) i (waits-named i x b k t));
             recs = k .recs;
           };
@@ -357,6 +398,7 @@ atomic-fit =
           record {
             apart = atomic-apart .objects i x b w r (k .apart);
             forms = left-forms (k .forms) i;
+            given = k .given;
             sent = more (x .server .kind) (x .sent) i _ (k .sent) b (request-in i x b k w .in-range, waits-named i x b k (ap isWant w), request-in i x b k w .stands) (k .apart .waiting .entry i b .writes-lock w);
             recs = k .recs;
           };
@@ -364,6 +406,7 @@ atomic-fit =
           record {
             apart = atomic-apart .pages i x b w r e (k .apart);
             forms = left-forms (k .forms) i;
+            given = page-given (k .given) i (pageOf (x .server .queue i .req)) (x .server .latest i) (waits-named i x b k (ap isWant w));
             sent = more (x .server .kind) (x .sent) i _ (k .sent) b (request-in i x b k w .in-range, waits-named i x b k (ap isWant w), request-in i x b k w .stands) (k .apart .waiting .entry i b .writes-lock w);
             recs = k .recs;
           };
@@ -373,6 +416,7 @@ atomic-fit =
           record {
             apart = atomic-apart .installs i x b w f r (k .apart);
             forms = install-forms i v x (k .forms);
+            given = install-given i v x (k .given);
             sent = install-sent i v x b n (k .sent);
             recs = install-recs i v x (k .forms .form i b .commit w .few) (k .recs);
           };
@@ -404,6 +448,21 @@ commitNow-recs : (i : ℕ) (w : Work) (x : Serving) → LimitedWork w → RecsIn
 unfolding commitNow abort finish leave
 commitNow-recs i w x f h = if-keeps RecsIn (eqb (x .server .last) lastNumber) (λ e. h) (λ e. install-recs i w x f h)
 
+commitNow-given : (i : ℕ) (w : Work) (x : Serving) → GivenIn x → GivenIn (commitNow i w x)
+unfolding commitNow
+commitNow-given i w x h = if-keeps GivenIn (eqb (x .server .last) lastNumber) (λ e. abort-given i 4 x h) (λ e. install-given i w x h)
+
+-- an 8 that is heeded: a station that waits is unfinished, so it brings nothing new of one
+heard-forms : (i p t : ℕ) (set : ℕ → Bool) (x : Serving) → i < 8 → t ≢ 0 → unexpected i (WrittenSet p t set) (x .server) ≡ false → openAsk (x .server) i p t ≡ true → FitIn x → FormsIn (heed i p t set x)
+unfolding heed loosen meet
+heard-forms i p t set x b n u o h =
+    if-keeps FormsIn (ltb (x .server .latest i) t)
+    (λ e.
+    let r = heard-renews (x .server) i p t set u o e in
+    let k : locking (x .server .kind i) ≡ true = not-no (locking (x .server .kind i)) (or-l (not (locking (x .server .kind i))) _ u) in
+    notice-forms i x t n (byB (waits (x .server) i) (λ w. absurd (false≢true (sym (h .apart .waiting .entry i b .waits-open w) ∙ r .over k))) (λ w. w)) (h .forms))
+    (λ e. h .forms)
+
 accept-forms : (i : ℕ) (m : Up) (x : Serving) → i < 8 → UpNames m → unexpected i m (x .server) ≡ false → FitIn x → FormsIn (accept i m x)
 unfolding accept joinRead joinWrite joinCommit serveNow sendPage unlist markBusy answered loosen
 accept-forms i (ReadRequest a t) x b n u h =
@@ -427,10 +486,24 @@ accept-forms i (Busy r t) x b n u h =
     (λ e. h .forms)
 accept-forms i (Done r t d) x b n u h =
     if-keeps FormsIn (openCall (x .server) i r t) (λ e. changed-forms (h .forms) r _ (λ l. answered-form (h .forms .form r l) i)) (λ e. h .forms)
-accept-forms i (WrittenSet p t set) x b n u h = if-keeps FormsIn (openAsk (x .server) i p t) (λ e. h .forms) (λ e. h .forms)
+accept-forms i (WrittenSet p t set) x b n u h = if-keeps FormsIn (openAsk (x .server) i p t) (λ e. heard-forms i p t set x b n u e h) (λ e. h .forms)
+
+accept-given : (i : ℕ) (m : Up) (x : Serving) → GivenIn x → GivenIn (accept i m x)
+unfolding accept joinRead joinWrite joinCommit join serveNow sendPage unlist markBusy answered loosen heed
+accept-given i (ReadRequest a t) x h = let g = notice-given i x t h in if-keeps GivenIn (locking (x .server .kind i)) (λ e. g) (λ e. g)
+accept-given i (WriteRequest p t set) x h = notice-given i x t h
+accept-given i (Commit w) x h =
+    let g = notice-given i x (w .transaction) h in
+    if-keeps GivenIn (locking (x .server .kind i)) (λ e. commitNow-given i w (notice i (w .transaction) x) g) (λ e. g)
+accept-given i (Abort t) x h = finish-given i (notice i t x) ByMessage (notice-given i x t h)
+accept-given i (Purge p) x h = h
+accept-given i (Busy r t) x h = if-keeps GivenIn (openCall (x .server) i r t) (λ e. h) (λ e. h)
+accept-given i (Done r t d) x h = if-keeps GivenIn (openCall (x .server) i r t) (λ e. h) (λ e. h)
+accept-given i (WrittenSet p t set) x h =
+    if-keeps GivenIn (openAsk (x .server) i p t) (λ e. loose-given (met-keeps GivenIn i t x (notice-given i x t h) h) p) (λ e. h)
 
 accept-sent : (i : ℕ) (m : Up) (x : Serving) → i < 8 → UpNames m → SentIn x → SentIn (accept i m x)
-unfolding accept joinRead joinWrite joinCommit join serveNow sendPage finish unlist markBusy answered loosen
+unfolding accept joinRead joinWrite joinCommit join serveNow sendPage finish unlist markBusy answered loosen heed
 accept-sent i (ReadRequest a t) x b n h =
     let y : Serving = notice i t x in
     let g : SentIn y = notice-sent i x t h in
@@ -445,10 +518,10 @@ accept-sent i (Abort t) x b n h = notice-sent i x t h
 accept-sent i (Purge p) x b n h = h
 accept-sent i (Busy r t) x b n h = if-keeps SentIn (openCall (x .server) i r t) (λ e. h) (λ e. h)
 accept-sent i (Done r t d) x b n h = if-keeps SentIn (openCall (x .server) i r t) (λ e. h) (λ e. h)
-accept-sent i (WrittenSet p t set) x b n h = if-keeps SentIn (openAsk (x .server) i p t) (λ e. h) (λ e. h)
+accept-sent i (WrittenSet p t set) x b n h = if-keeps SentIn (openAsk (x .server) i p t) (λ e. met-keeps SentIn i t x (notice-sent i x t h) h) (λ e. h)
 
 accept-recs : (i : ℕ) (m : Up) (x : Serving) → UpNames m → RecsIn x → RecsIn (accept i m x)
-unfolding accept joinRead joinWrite joinCommit join serveNow sendPage finish unlist markBusy answered loosen
+unfolding accept joinRead joinWrite joinCommit join serveNow sendPage finish unlist markBusy answered loosen heed
 accept-recs i (ReadRequest a t) x n h = let g = notice-recs i x t h in if-keeps RecsIn (locking (x .server .kind i)) (λ e. g) (λ e. g)
 accept-recs i (WriteRequest p t set) x n h = notice-recs i x t h
 accept-recs i (Commit w) x n h =
@@ -458,21 +531,21 @@ accept-recs i (Abort t) x n h = notice-recs i x t h
 accept-recs i (Purge p) x n h = h
 accept-recs i (Busy r t) x n h = if-keeps RecsIn (openCall (x .server) i r t) (λ e. h) (λ e. h)
 accept-recs i (Done r t d) x n h = if-keeps RecsIn (openCall (x .server) i r t) (λ e. h) (λ e. h)
-accept-recs i (WrittenSet p t set) x n h = if-keeps RecsIn (openAsk (x .server) i p t) (λ e. h) (λ e. h)
+accept-recs i (WrittenSet p t set) x n h = if-keeps RecsIn (openAsk (x .server) i p t) (λ e. met-keeps RecsIn i t x (notice-recs i x t h) h) (λ e. h)
 
 pub accept-fit : (i : ℕ) (m : Up) (x : Serving) → i < 8 → UpNames m → unexpected i m (x .server) ≡ false → FitIn x → FitIn (accept i m x)
 accept-fit i m x b n u h =
-    record { apart = accept-apart i m x b u (h .apart); forms = accept-forms i m x b n u h; sent = accept-sent i m x b n (h .sent); recs = accept-recs i m x n (h .recs) }
+    record { apart = accept-apart i m x b u (h .apart); forms = accept-forms i m x b n u h; given = accept-given i m x (h .given); sent = accept-sent i m x b n (h .sent); recs = accept-recs i m x n (h .recs) }
 
 -- THE STEP
 
 module _ (i : ℕ) (m : Up) (s : Server) (b : i < 8) (n : UpNames m) (u : unexpected i m s ≡ false) (h : Fit s) where
   step-all : FitIn (serverStep i m s)
-  step-all = step-keeps FitIn atomic-fit i m s (accept-fit i m (start s) b n u (record { apart = h .apart; forms = h .forms; sent = tt; recs = tt }))
+  step-all = step-keeps FitIn atomic-fit i m s (accept-fit i m (start s) b n u (record { apart = h .apart; forms = h .forms; given = h .given; sent = tt; recs = tt }))
 
   -- the state left is taken again
   pub step-fit : Fit ((serverStep i m s) .server)
-  step-fit = record { apart = step-all .apart; forms = step-all .forms }
+  step-fit = record { apart = step-all .apart; forms = step-all .forms; given = step-all .given }
 
   -- what is sent fits
   pub step-sends : All (SentFits ((serverStep i m s) .server .kind)) ((serverStep i m s) .sent)
@@ -482,9 +555,10 @@ module _ (i : ℕ) (m : Up) (s : Server) (b : i < 8) (n : UpNames m) (u : unexpe
   pub step-archives : All LimitedRec ((serverStep i m s) .recs)
   step-archives = step-all .recs
 
-pub fit-fresh : (k : ℕ → ℕ) → ((i : ℕ) → k i ≤ 1) → Fit (freshServer k)
+pub fit-fresh : (k : ℕ → ℕ) → ((i : ℕ) → k i ≤ mostKind) → Fit (freshServer k)
 fit-fresh k small =
     record {
       apart = apart-fresh k;
       forms = record { kinds = small; named = λ i b e. absurd (false≢true (sym e)); form = λ i b. no-form k i 0 };
+      given = λ h p e. absurd (omega arith);
     }

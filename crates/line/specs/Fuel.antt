@@ -8,7 +8,7 @@ use lib.Dec.{eqb}
 use lib.ListN.{length}
 use Rattle.sets.specs.Base.{upd}
 use Rattle.line.specs.Messages.{pageOf, Work}
-use Rattle.line.specs.Server.{Server, Serving, Waiter, waiterPend, waiterCalled, concerned, noWaiter, isWant, waits, wantsPage, other, shut, finish, leave, sendPage, abort, write, archive, informed, inform, informFrom, install, ask, serveRead, call, grantObject, grantPage, installWaiter, pass, order, victim, moved, settle, fuel}
+use Rattle.line.specs.Server.{Server, Serving, Waiter, waiterPend, waiterCalled, concerned, noWaiter, isWant, waits, wantsPage, other, shut, finish, leave, sendPage, abort, write, archive, informed, inform, informFrom, install, ask, serveRead, call, grantObject, grantPage, installWaiter, pass, order, victim, moved, settle, fuel, unlocks}
 use Rattle.line.specs.Pass.{Atomic, pass-keeps, order-8, victim-waits}
 use Rattle.sets.specs.Laws.{byB, byEq, eqb-same, eqb-yes, eqb-no, and-l, and-r}
 
@@ -98,16 +98,16 @@ leaves q i b t =
     let z : weigh (upd q i noWaiter i) + 2 ≤ weigh (q i) = rw (eqb-same i) (omega (arith, waiter-2 (q i) t)) in
     sum-at 8 (λ j. weigh (upd q i noWaiter j)) (λ j. weigh (q j)) 2 i (gone-le q i) b z
 
--- an end frees whole locks
-freed-le : (wl : ℕ → ℕ) (asked : ℕ → Bool) (i p : ℕ) → looseAt (cond (eqb (wl p) (suc i)) 0 (wl p)) (not (eqb (wl p) (suc i)) && asked p) ≤ looseAt (wl p) (asked p)
-freed-le wl asked i p = byB (eqb (wl p) (suc i)) (λ e. rw e (omega arith)) (λ e. rw e (omega arith))
+-- an end frees whole locks, or leaves those of a keeping station
+freed-le : (k : ℕ) (wl : ℕ → ℕ) (asked : ℕ → Bool) (i p : ℕ) → looseAt (cond (unlocks k i (wl p)) 0 (wl p)) (not (unlocks k i (wl p)) && asked p) ≤ looseAt (wl p) (asked p)
+freed-le k wl asked i p = byB (unlocks k i (wl p)) (λ e. rw e (omega arith)) (λ e. rw e (omega arith))
 
-pub frees : (wl : ℕ → ℕ) (asked : ℕ → Bool) (i : ℕ) → sumTo 32 (λ p. looseAt (cond (eqb (wl p) (suc i)) 0 (wl p)) (not (eqb (wl p) (suc i)) && asked p)) ≤ sumTo 32 (λ p. looseAt (wl p) (asked p))
-frees wl asked i = sum-le 32 _ (λ p. looseAt (wl p) (asked p)) (freed-le wl asked i)
+pub frees : (k : ℕ) (wl : ℕ → ℕ) (asked : ℕ → Bool) (i : ℕ) → sumTo 32 (λ p. looseAt (cond (unlocks k i (wl p)) 0 (wl p)) (not (unlocks k i (wl p)) && asked p)) ≤ sumTo 32 (λ p. looseAt (wl p) (asked p))
+frees k wl asked i = sum-le 32 _ (λ p. looseAt (wl p) (asked p)) (freed-le k wl asked i)
 
 pub abort-less : (i c : ℕ) (x : Serving) → i < 8 → waits (x .server) i ≡ true → cost ((abort i c x) .server) + 2 ≤ cost (x .server)
 unfolding abort finish leave
-abort-less i c x b t = omega (arith, leaves (x .server .queue) i b t, frees (x .server .wl) (x .server .asked) i)
+abort-less i c x b t = omega (arith, leaves (x .server .queue) i b t, frees (x .server .kind i) (x .server .wl) (x .server .asked) i)
 
 inform-cost : (i : ℕ) (w : Work) (j : ℕ) (x : Serving) → cost ((inform i w j x) .server) ≡ cost (x .server)
 unfolding inform
@@ -120,7 +120,7 @@ informs-cost (suc n) j i w x = informs-cost n (suc j) i w (inform i w j x) ∙ i
 
 install-less : (i : ℕ) (w : Work) (x : Serving) → i < 8 → waits (x .server) i ≡ true → cost ((install i w x) .server) + 2 ≤ cost (x .server)
 unfolding install finish archive write leave
-install-less i w x b t = rw (informs-cost 8 0 i w) (omega (arith, leaves (x .server .queue) i b t, frees (x .server .wl) (x .server .asked) i))
+install-less i w x b t = rw (informs-cost 8 0 i w) (omega (arith, leaves (x .server .queue) i b t, frees (x .server .kind i) (x .server .wl) (x .server .asked) i))
 
 read-less : (i : ℕ) (x : Serving) → i < 8 → waits (x .server) i ≡ true → cost ((serveRead i x) .server) + 2 ≤ cost (x .server)
 unfolding serveRead sendPage leave

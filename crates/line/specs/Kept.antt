@@ -8,7 +8,7 @@ use lib.Dec.{eqb}
 use Rattle.sets.specs.Base.{Val, none, some, turned}
 use Rattle.sets.specs.Laws.{byB, byEq, eqb-yes}
 use Rattle.line.specs.Messages.{Lock, NoLock, ObjectLock, WholeLock, Down, Page, Deescalate, Callback, Committed, Aborted, Invalidate}
-use Rattle.line.specs.Station.{Station, Did, unless, Wait, Idle, ForRead, ForWrite, ForCommit, NotKept, live, shown, ended, fits, inUse, forCommit, checkBegin, checkOpen, checkRead, someOn, checkWrite, checkPurge, dropPages, mark, recordRead, writeLocal, doCallback, doKept, doAllKept, closed, close, ownBegin, readLocal, readAsk, readAs, ownRead, named, writeAsk, writeSet, ofPage, ownWrite, ownCommit, ownAbort, ownPurge, arrive, takeLock, answerWait, onPage, onDeescalate, loosen, onCallback, onCommitted, onAborted, onInvalidate, onDown, stationStep}
+use Rattle.line.specs.Station.{Station, Did, unless, Wait, Idle, ForRead, ForWrite, ForCommit, NotKept, live, shown, ended, fits, inUse, forCommit, checkBegin, checkOpen, checkRead, someOn, checkWrite, checkPurge, dropPages, mark, recordRead, writeLocal, doCallback, doKept, doAllKept, closed, close, ownBegin, readLocal, readAsk, readAs, ownRead, named, writeAsk, writeSet, ofPage, ownWrite, ownCommit, ownAbort, ownPurge, arrive, takeLock, answerWait, onPage, onDeescalate, loosen, onCallback, onCommitted, onAborted, onInvalidate, onDown, stationStep, givesUp}
 use Rattle.line.specs.Server.{serverStep}
 use Rattle.line.specs.Line.{Op, Begin, Read, WriteSet, Commits, Aborts, Purges, perform, Call, fresh, sentTo, act, run}
 use Rattle.line.specs.All.{All, all-append}
@@ -66,7 +66,7 @@ module _ (own : ℕ) where
   down-kept : (m : Down) (s : Station) → Says own m → s .kept own ≡ NotKept → KeepsOthers own (onDown m s)
   unfolding onDown onPage arrive onDeescalate loosen onCallback doCallback mark dropPages onCommitted onAborted onInvalidate
   down-kept (Page l a t v u x) s h e = byB (ended s t) (λ q. rw q e) (λ q. rw q (answer-kept (s .wait) _ (rw (lock-kept l a s) e)))
-  down-kept (Deescalate p t) s h e = byB (live s t && s .wl p) (λ q. rw q e) (λ q. rw q e)
+  down-kept (Deescalate p t) s h e = byB (givesUp p t s) (λ q. rw q e) (λ q. rw q e)
   down-kept (Callback r t set) s h e = byB (inUse set s) (λ q. rw (q, h) e) (λ q. rw q e)
   down-kept (Committed t n) s h e = close-kept _ e
   down-kept (Aborted t c) s h e = close-kept _ (rw (undo-kept s) e)

@@ -12,9 +12,9 @@ use Rattle.sets.specs.Base.{upd, any}
 use Rattle.sets.specs.Laws.{byB, byEq, eqb-same, eqb-yes, eqb-no, ltb-yes, and-l, and-r, or-yes, not-yes, any-some}
 use Rattle.sets.specs.Reach.{Path, Last, Then, path-from}
 use Rattle.line.specs.Messages.{lastNumber, locking, Work, Up, ReadRequest, WriteRequest, Commit, Abort, Purge, Busy, Done, WrittenSet, Down, Page, Deescalate, Callback, Committed, Aborted, Invalidate, Sent, To}
-use Rattle.line.specs.Server.{Server, Serving, freshServer, aged, Waiter, noWaiter, waits, wants, earlier, blocks, edge, victim, unexpected, badNumber, notice, finish, join, leave, sendPage, abort, informed, write, archive, inform, informFrom, install, serveNow, joinRead, joinWrite, joinCommit, commitNow, unlist, openCall, markBusy, answered, openAsk, loosen, accept, ask, serveRead, concerned, callsFrom, call, grantPage, grantObject, installWaiter, start, serverStep}
+use Rattle.line.specs.Server.{Server, Serving, freshServer, aged, Waiter, noWaiter, waits, wants, earlier, blocks, edge, victim, unexpected, badNumber, notice, finish, join, leave, sendPage, abort, informed, write, archive, inform, informFrom, install, serveNow, joinRead, joinWrite, joinCommit, commitNow, unlist, openCall, markBusy, answered, openAsk, loosen, accept, ask, serveRead, concerned, callsFrom, call, grantPage, grantObject, installWaiter, start, serverStep, heed}
 use Rattle.line.specs.Line.{World, Call, fresh, act, run}
-use Rattle.line.specs.Pass.{Atomic, beside, Causal, if-keeps, step-keeps, step-causal}
+use Rattle.line.specs.Pass.{Atomic, beside, Causal, if-keeps, step-keeps, step-causal, met-keeps}
 use Rattle.line.specs.Rest.{Victim, victim-is}
 use Rattle.line.specs.All.{All, all-append, all-map}
 use Rattle.line.specs.Runs.{Moves, act-moves, run-keeps}
@@ -76,7 +76,7 @@ module _ (P : ℕ → Type 0) (i j : ℕ) where
       (λ q. rw q (h .stays)))
 
   accept-age : (m : Up) (x : Serving) → AgeBy P i j (x .server) → AgeIs (accept i m x)
-  unfolding accept joinRead joinWrite joinCommit join serveNow sendPage commitNow abort finish leave unlist markBusy answered loosen
+  unfolding accept joinRead joinWrite joinCommit join serveNow sendPage commitNow abort finish leave unlist markBusy answered loosen heed
   accept-age (ReadRequest a t) x h = if-keeps AgeIs (locking (x .server .kind i)) (λ e. noticed-age t x h) (λ e. noticed-age t x h)
   accept-age (WriteRequest p t set) x h = noticed-age t x h
   accept-age (Commit w) x h =
@@ -88,7 +88,7 @@ module _ (P : ℕ → Type 0) (i j : ℕ) where
   accept-age (Purge p) x h = h .stays
   accept-age (Busy r t) x h = if-keeps AgeIs (openCall (x .server) i r t) (λ e. h .stays) (λ e. h .stays)
   accept-age (Done r t d) x h = if-keeps AgeIs (openCall (x .server) i r t) (λ e. h .stays) (λ e. h .stays)
-  accept-age (WrittenSet p t set) x h = if-keeps AgeIs (openAsk (x .server) i p t) (λ e. h .stays) (λ e. h .stays)
+  accept-age (WrittenSet p t set) x h = if-keeps AgeIs (openAsk (x .server) i p t) (λ e. met-keeps AgeIs i t x (noticed-age t x h) (h .stays)) (λ e. h .stays)
 
   pub step-age : (m : Up) (s : Server) → AgeBy P i j s → P ((serverStep i m s) .server .age j)
   step-age m s h = step-keeps AgeIs (atomic-ages (λ A. P (A j))) i m s (accept-age m (start s) h)
@@ -196,7 +196,7 @@ unfolding notice
 noticed-others i t x h = if-keeps OthersIn (eqb t (x .server .latest i)) (λ e. h) (λ e. h)
 
 accept-others : (i : ℕ) (m : Up) (x : Serving) → OthersIn x → OthersIn (accept i m x)
-unfolding accept joinRead joinWrite joinCommit join serveNow sendPage commitNow abort finish leave unlist markBusy answered loosen
+unfolding accept joinRead joinWrite joinCommit join serveNow sendPage commitNow abort finish leave unlist markBusy answered loosen heed
 accept-others i (ReadRequest a t) x h =
     let y : Serving = notice i t x in
     let g : OthersIn y = noticed-others i t x h in
@@ -221,7 +221,7 @@ accept-others i (Done r t d) x h =
     if-keeps OthersIn (openCall (x .server) i r t)
     (λ e. changed-others (x .server .queue) h r _ (byEq r i (λ q. rw q refl) (λ q. rw q (h r .0))) (byEq r i (λ q. rw q refl) (λ q. rw q (h r .1))))
     (λ e. h)
-accept-others i (WrittenSet p t set) x h = if-keeps OthersIn (openAsk (x .server) i p t) (λ e. h) (λ e. h)
+accept-others i (WrittenSet p t set) x h = if-keeps OthersIn (openAsk (x .server) i p t) (λ e. met-keeps OthersIn i t x (noticed-others i t x h) h) (λ e. h)
 
 others-moves : Moves (λ s t u d. Others (s .queue)) (λ s t u d. Others (s .queue))
 others-moves =
@@ -341,7 +341,7 @@ module _ (Q : ℕ → Type 0) where
   noticed-beaten i t x h = if-keeps BeatenIn (eqb t (x .server .latest i)) (λ e. h) (λ e. h)
 
   accept-beaten : (i : ℕ) (m : Up) (x : Serving) → BeatenIn x → BeatenIn (accept i m x)
-  unfolding accept joinRead joinWrite joinCommit join serveNow sendPage commitNow finish unlist markBusy answered loosen
+  unfolding accept joinRead joinWrite joinCommit join serveNow sendPage commitNow finish unlist markBusy answered loosen heed
   accept-beaten i (ReadRequest a t) x h = let g = noticed-beaten i t x h in if-keeps BeatenIn (locking (x .server .kind i)) (λ e. g) (λ e. more ((notice i t x) .sent) (To i (Page _ _ _ _ _ _)) tt g)
   accept-beaten i (WriteRequest p t set) x h = noticed-beaten i t x h
   accept-beaten i (Commit w) x h =
@@ -354,7 +354,7 @@ module _ (Q : ℕ → Type 0) where
   accept-beaten i (Purge p) x h = h
   accept-beaten i (Busy r t) x h = if-keeps BeatenIn (openCall (x .server) i r t) (λ e. h) (λ e. h)
   accept-beaten i (Done r t d) x h = if-keeps BeatenIn (openCall (x .server) i r t) (λ e. h) (λ e. h)
-  accept-beaten i (WrittenSet p t set) x h = if-keeps BeatenIn (openAsk (x .server) i p t) (λ e. h) (λ e. h)
+  accept-beaten i (WrittenSet p t set) x h = if-keeps BeatenIn (openAsk (x .server) i p t) (λ e. met-keeps BeatenIn i t x (noticed-beaten i t x h) h) (λ e. h)
 
 -- the pass finishes transactions and begins none
 abbrev OpenIn : (ℕ → Bool) → Serving → Type 0

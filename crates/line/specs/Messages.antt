@@ -3,8 +3,8 @@
 -- a page's eight values and its eight versions are functions of the address, 0 off the message's page.
 use mathlib.Core.Bool.{Bool}
 use Prim.Native.Nat.{ℕ, _+_, _*_, _/_}
-use lib.Dec.{eqb}
 use Rattle.sets.specs.Base.{Val}
+use Rattle.kinds.specs.Kinds as Kinds
 
 abbrev pub pageOf : ℕ → ℕ
 pageOf a = a / 8
@@ -16,9 +16,12 @@ address p o = p * 8 + o
 abbrev pub lastNumber : ℕ
 lastNumber = 4294967295
 
--- "fixed for life as locking (0) or validating (1)": the one place that says which is which
+-- which kind is which is said by crate kinds
 abbrev pub locking : ℕ → Bool
-locking k = eqb k 0
+locking k = Kinds.locking k
+
+abbrev pub keeps : ℕ → Bool
+keeps k = Kinds.keeps k
 
 -- what a commit brings: its record's reads and writes, and by document 02 "one version for each entry of its record, in record order, in
 -- place of the 32 page versions; from a locking station all are 0". An object that is read and written has two entries, each with a

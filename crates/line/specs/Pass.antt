@@ -7,9 +7,9 @@ use mathlib.Core.Logic.{_≢_}
 use Prim.Native.Nat.{ℕ, zero, suc, _+_, _≤_, _<_}
 use lib.Dec.{eqb, ltb}
 use native.Mathlib.Omega.{arith}
-use Rattle.sets.specs.Base.{any, turned}
+use Rattle.sets.specs.Base.{any, turned, upd}
 use Rattle.line.specs.Messages.{Up}
-use Rattle.line.specs.Server.{isWant, firstFrom, youngest, edges, lockedAt, locked, stale, blockedAt, other, wants, wantsPage, waits, blocks, Server, Serving, Want, NoWant, WantRead, WantWrite, WantCommit, abort, ask, askFrom, holder, call, callOnce, serveRead, grantObject, grantPage, grant, hinders, installWaiter, blocked, shut, fault, allAnswered, afterCalls, proceed, gates, visit, pass, order, victim, moved, settle, fuel, accept, start, serverStep, staleAt}
+use Rattle.line.specs.Server.{isWant, firstFrom, youngest, edges, lockedAt, locked, stale, blockedAt, other, wants, wantsPage, waits, blocks, Server, Serving, Want, NoWant, WantRead, WantWrite, WantCommit, abort, ask, askFrom, holder, call, callOnce, serveRead, grantObject, grantPage, grant, hinders, installWaiter, blocked, shut, shutKept, setAsked, fault, allAnswered, afterCalls, proceed, gates, judge, askKeepers, outOfTime, visit, pass, order, victim, moved, settle, fuel, accept, start, serverStep, staleAt, notice, meet}
 use Rattle.line.specs.Messages.{pageOf, address, lastNumber}
 use Rattle.sets.specs.Laws.{byB, byEq, eqb-same, eqb-yes, any-ext, not-yes, and-l, and-r}
 use Rattle.sets.specs.Reach.{onCycle}
@@ -108,6 +108,11 @@ pub if-keeps : (P : Serving → Type 0) (b : Bool) {x y : Serving} → (b ≡ tr
 if-keeps P true t f = t refl
 if-keeps P false t f = f refl
 
+-- an 8 may bring a transaction that the server has not met
+pub met-keeps : (P : Serving → Type 0) (i t : ℕ) (x : Serving) → P (notice i t x) → P x → P (meet i t x)
+unfolding meet
+met-keeps P i t x n h = if-keeps P (ltb (x .server .latest i) t) (λ e. n) (λ e. h)
+
 -- `call` leaves what the gates look at
 module _ (i : ℕ) (x : Serving) where
   call-called : (call i x) .server .queue i .called ≡ true
@@ -178,6 +183,29 @@ held-by (suc h) i e = refl
 pub shut-by : (i p : ℕ) (x : Serving) → shut (x .server) i p ≡ true → Shut i (holder (x .server .wl p)) p x
 shut-by i p x e = record { page = e; held = held-by (x .server .wl p) i (and-r (wantsPage (x .server) i p) _ e) }
 
+-- whatever pages 19 is sent for, it changes only who is asked
+pub asks-leave : {A : Type 0} (f : Server → A) → ((s : Server) (u : ℕ → Bool) → f (setAsked s u) ≡ f s) → (d : Server → ℕ → ℕ → Bool) (n p i : ℕ) (x : Serving) → f ((askFrom d n p i x) .server) ≡ f (x .server)
+unfolding askFrom ask
+asks-leave f e d zero p i x = refl
+asks-leave f e d (suc n) p i x =
+    let y : Serving = cond (d (x .server) i p && not (x .server .asked p)) (ask (holder (x .server .wl p)) p x) x in
+    asks-leave f e d n (suc p) i y
+    ∙ byB (d (x .server) i p && not (x .server .asked p)) (λ t. rw t (e (x .server) (upd (x .server .asked) p true))) (λ t. rw t refl)
+
+pub keepers-leave : {A : Type 0} (f : Server → A) → ((s : Server) (u : ℕ → Bool) → f (setAsked s u) ≡ f s) → (i : ℕ) (x : Serving) → f ((askKeepers i x) .server) ≡ f (x .server)
+unfolding askKeepers
+keepers-leave f e i x = asks-leave f e shutKept 32 0 i x
+
+-- a page that is asked for is shut
+abbrev pub Shuts : (Server → ℕ → ℕ → Bool) → Type 0
+Shuts d = (s : Server) (i p : ℕ) → d s i p ≡ true → shut s i p ≡ true
+
+pub shut-shuts : Shuts shut
+shut-shuts s i p e = e
+
+pub kept-shuts : Shuts shutKept
+kept-shuts s i p e = and-l (shut s i p) _ e
+
 -- the list holds stations
 abbrev pub All8 : List ℕ → Type 0
 All8 [] = Unit {0}
@@ -212,14 +240,18 @@ victim-waits s e =
 
 -- the loops, the gates, the pass, the step
 module _ (P : Serving → Type 0) (k : Causal P) where
-  asks-keeps : (n p i : ℕ) (x : Serving) → p + n ≤ 32 → P x → P (askFrom n p i x)
+  asks-keeps : (d : Server → ℕ → ℕ → Bool) → Shuts d → (n p i : ℕ) (x : Serving) → p + n ≤ 32 → P x → P (askFrom d n p i x)
   unfolding askFrom
-  asks-keeps zero p i x b h = h
-  asks-keeps (suc n) p i x b h =
-      asks-keeps n (suc p) i _ (omega arith)
-      (if-keeps P (shut (x .server) i p && not (x .server .asked p))
-      (λ e. k .asks i (holder (x .server .wl p)) p x (omega arith) (shut-by i p x (and-l (shut (x .server) i p) _ e)) (not-yes (x .server .asked p) (and-r (shut (x .server) i p) _ e)) h)
+  asks-keeps d q zero p i x b h = h
+  asks-keeps d q (suc n) p i x b h =
+      asks-keeps d q n (suc p) i _ (omega arith)
+      (if-keeps P (d (x .server) i p && not (x .server .asked p))
+      (λ e. k .asks i (holder (x .server .wl p)) p x (omega arith) (shut-by i p x (q (x .server) i p (and-l (d (x .server) i p) _ e))) (not-yes (x .server .asked p) (and-r (d (x .server) i p) _ e)) h)
       (λ e. h))
+
+  pub keepers-keep : (i : ℕ) (x : Serving) → P x → P (askKeepers i x)
+  unfolding askKeepers
+  keepers-keep i x h = asks-keeps shutKept kept-shuts 32 0 i x (omega arith) h
 
   grant-keeps : (i : ℕ) (x : Serving) → i < 8 → x .server .queue i .want ≡ WantWrite → Ready i x → P x → P (grant i x)
   unfolding grant
@@ -276,17 +308,29 @@ module _ (P : Serving → Type 0) (k : Causal P) where
   unfolding gates
   gates-keeps v i x g h =
       if-keeps P (blocked (x .server) i) (λ e. h)
-      (λ e. if-keeps P (any 32 (shut (x .server) i)) (λ f. asks-keeps 32 0 i x (omega arith) h) (λ f. g (record { unblocked = e; unshut = f })))
+      (λ e. if-keeps P (any 32 (shut (x .server) i)) (λ f. asks-keeps shut shut-shuts 32 0 i x (omega arith) h) (λ f. g (record { unblocked = e; unshut = f })))
+
+  judge-keeps : (i : ℕ) (x : Serving) → i < 8 → x .server .queue i .want ≡ WantCommit → P x → P (judge i x)
+  unfolding judge proceed
+  judge-keeps i x b w h =
+      if-keeps P (eqb (fault (x .server) i) 0)
+      (λ e. gates-keeps WantCommit i x (λ c. commit-keeps i x b w (eqb-yes (fault (x .server) i) 0 e) c h) h)
+      (λ e. k .faults i (fault (x .server) i) x b (ap isWant w) (fault-not-1 (eqb (x .server .last) lastNumber) (stale (x .server) (x .server .queue i .work)) (locked (x .server) i)) h)
 
   visit-keeps : (v : Want) (i : ℕ) (x : Serving) → i < 8 → x .server .queue i .want ≡ v → P x → P (visit v i x)
   unfolding visit proceed
   visit-keeps NoWant i x b w h = h
-  visit-keeps WantRead i x b w h = gates-keeps WantRead i x (λ c. k .reads i x b w c h) h
-  visit-keeps WantWrite i x b w h = gates-keeps WantWrite i x (λ c. write-keeps i x b w c h) h
+  visit-keeps WantRead i x b w h =
+      let y : Serving = askKeepers i x in
+      let g : P y = keepers-keep i x h in
+      gates-keeps WantRead i y (λ c. k .reads i y b (keepers-leave (λ s. s .queue i .want) (λ s u. refl) i x ∙ w) c g) g
+  visit-keeps WantWrite i x b w h =
+      let y : Serving = askKeepers i x in
+      let g : P y = keepers-keep i x h in
+      gates-keeps WantWrite i y (λ c. write-keeps i y b (keepers-leave (λ s. s .queue i .want) (λ s u. refl) i x ∙ w) c g) g
   visit-keeps WantCommit i x b w h =
-      if-keeps P (eqb (fault (x .server) i) 0)
-      (λ e. gates-keeps WantCommit i x (λ c. commit-keeps i x b w (eqb-yes (fault (x .server) i) 0 e) c h) h)
-      (λ e. k .faults i (fault (x .server) i) x b (ap isWant w) (fault-not-1 (eqb (x .server .last) lastNumber) (stale (x .server) (x .server .queue i .work)) (locked (x .server) i)) h)
+      if-keeps (λ z. P (judge i z)) (outOfTime (x .server) i) (λ e. judge-keeps i x b w h)
+      (λ e. judge-keeps i (askKeepers i x) b (keepers-leave (λ s. s .queue i .want) (λ s u. refl) i x ∙ w) (keepers-keep i x h))
 
   pass-causal : (l : List ℕ) (x : Serving) → All8 l → P x → P (pass l x)
   unfolding pass

@@ -11,7 +11,7 @@ use Rattle.sets.specs.Base.{any, nowhere, memo}
 use Rattle.sets.specs.Laws.{byB, byEq, eqb-same, eqb-yes, eqb-no, ltb-yes, ltb-no, and-l, and-r, and-both, or-yes, or-no, not-no, any-some, memo-is}
 use Rattle.sets.specs.Reach.{Path, onCycle, on-cycle, cycle-found, path-edge, path-by}
 use Rattle.line.specs.Messages.{pageOf, Up, Work, Committed}
-use Rattle.line.specs.Server.{Server, Serving, ByCommit, send, Want, NoWant, WantRead, WantWrite, WantCommit, waits, abort, finish, leave, sendPage, write, archive, informed, inform, informFrom, install, ask, askFrom, holder, serveRead, concerned, callsFrom, call, callOnce, hinders, grantPage, grantObject, grant, installWaiter, allAnswered, afterCalls, proceed, gates, visit, blocked, shut, fault, order, pass, edge, edges, youngest, victim, moved, settle, fuel, accept, start, serverStep}
+use Rattle.line.specs.Server.{Server, Serving, ByCommit, send, Want, NoWant, WantRead, WantWrite, WantCommit, waits, abort, finish, leave, sendPage, write, archive, informed, inform, informFrom, install, ask, askFrom, holder, serveRead, concerned, callsFrom, call, callOnce, hinders, grantPage, grantObject, grant, installWaiter, allAnswered, afterCalls, proceed, gates, visit, blocked, shut, fault, order, pass, edge, edges, youngest, victim, moved, settle, fuel, accept, start, serverStep, shutKept, askKeepers, outOfTime, judge}
 use Rattle.line.specs.Pass.{if-keeps, young-8, victim-waits}
 use Rattle.line.specs.Fuel.{cost, cost-56, Falls, pass-falls, abort-less}
 
@@ -127,29 +127,39 @@ proceed-still WantRead i x = sends x (serveRead i x) (read-sends i x)
 proceed-still WantWrite i x = turn-still i x (grant i) (grant-sends i)
 proceed-still WantCommit i x = turn-still i x (installWaiter i) (waiter-sends i)
 
-pub asks-still : (n p i : ℕ) (x : Serving) → Still x (askFrom n p i x)
+pub asks-still : (d : Server → ℕ → ℕ → Bool) (n p i : ℕ) (x : Serving) → Still x (askFrom d n p i x)
 unfolding askFrom
-asks-still zero p i x = unmoved x
-asks-still (suc n) p i x =
+asks-still d zero p i x = unmoved x
+asks-still d (suc n) p i x =
     let h : ℕ = holder (x .server .wl p) in
-    let b : Bool = shut (x .server) i p && not (x .server .asked p) in
+    let b : Bool = d (x .server) i p && not (x .server .asked p) in
     let y : Serving = cond b (ask h p x) x in
-    after x y (askFrom n (suc p) i y) (if-keeps (Still x) b (λ e. sends x (ask h p x) (ask-sends h p x)) (λ e. unmoved x)) (asks-still n (suc p) i y)
+    after x y (askFrom d n (suc p) i y) (if-keeps (Still x) b (λ e. sends x (ask h p x) (ask-sends h p x)) (λ e. unmoved x)) (asks-still d n (suc p) i y)
 
-gates-still : (w : Want) (i : ℕ) (x : Serving) → Still x (gates w i x)
+pub keepers-still : (i : ℕ) (x : Serving) → Still x (askKeepers i x)
+unfolding askKeepers
+keepers-still i x = asks-still shutKept 32 0 i x
+
+pub gates-still : (w : Want) (i : ℕ) (x : Serving) → Still x (gates w i x)
 unfolding gates
 gates-still w i x =
     if-keeps (Still x) (blocked (x .server) i) (λ e. unmoved x)
-    (λ e. if-keeps (Still x) (any 32 (shut (x .server) i)) (λ f. asks-still 32 0 i x) (λ f. proceed-still w i x))
+    (λ e. if-keeps (Still x) (any 32 (shut (x .server) i)) (λ f. asks-still shut 32 0 i x) (λ f. proceed-still w i x))
+
+pub judge-still : (i : ℕ) (x : Serving) → Still x (judge i x)
+unfolding judge
+judge-still i x =
+    let c : ℕ = fault (x .server) i in
+    if-keeps (Still x) (eqb c 0) (λ e. gates-still WantCommit i x) (λ e. sends x (abort i c x) (abort-sends i c x))
 
 pub visit-still : (w : Want) (i : ℕ) (x : Serving) → Still x (visit w i x)
 unfolding visit
 visit-still NoWant i x = unmoved x
-visit-still WantRead i x = gates-still WantRead i x
-visit-still WantWrite i x = gates-still WantWrite i x
+visit-still WantRead i x = let y : Serving = askKeepers i x in after x y (gates WantRead i y) (keepers-still i x) (gates-still WantRead i y)
+visit-still WantWrite i x = let y : Serving = askKeepers i x in after x y (gates WantWrite i y) (keepers-still i x) (gates-still WantWrite i y)
 visit-still WantCommit i x =
-    let c : ℕ = fault (x .server) i in
-    if-keeps (Still x) (eqb c 0) (λ e. gates-still WantCommit i x) (λ e. sends x (abort i c x) (abort-sends i c x))
+    let y : Serving = cond (outOfTime (x .server) i) x (askKeepers i x) in
+    after x y (judge i y) (if-keeps (Still x) (outOfTime (x .server) i) (λ e. unmoved x) (λ e. keepers-still i x)) (judge-still i y)
 
 pub pass-still : (l : List ℕ) (x : Serving) → Still x (pass l x)
 unfolding pass

@@ -39,7 +39,7 @@ seenAt c a =
 
 -- what a list of calls shows (the names: all that a run computes)
 unfoldable pub seen : List Call → World → List Step
-unfolding size recordRead writeLocal dropPages mark doCallback doKept doAllKept closed close undo ownBegin readLocal readAsk readAs ownRead writeAsk writeSet ownWrite ownCommit ownAbort ownPurge arrive takeLock answerWait onPage loosen onDeescalate onCallback onCommitted onAborted onInvalidate onDown stationStep S.notice S.finish S.join S.leave S.sendPage S.abort S.write S.archive S.inform S.informFrom S.install S.serveNow S.joinRead S.joinWrite S.joinCommit S.commitNow S.unlist S.markBusy S.answered S.loosen S.accept S.ask S.askFrom S.serveRead S.call S.grantPage S.grantObject S.grant S.installWaiter S.callOnce S.afterCalls S.proceed S.gates S.visit S.pass S.settle S.serverStep act tellWrites tell carryDown carryUp perform ownerActs stationTakes serverTakes
+unfolding size recordRead writeLocal dropPages mark doCallback doKept doAllKept closed close undo ownBegin readLocal readAsk readAs ownRead writeAsk writeSet ownWrite ownCommit ownAbort ownPurge arrive takeLock answerWait onPage loosen onDeescalate onCallback onCommitted onAborted onInvalidate onDown stationStep S.notice S.finish S.join S.leave S.sendPage S.abort S.write S.archive S.inform S.informFrom S.install S.serveNow S.joinRead S.joinWrite S.joinCommit S.commitNow S.unlist S.markBusy S.answered S.loosen S.meet S.heed S.accept S.ask S.askFrom S.serveRead S.call S.grantPage S.grantObject S.grant S.installWaiter S.callOnce S.afterCalls S.proceed S.gates S.judge S.askKeepers S.visit S.pass S.settle S.serverStep act tellWrites tell carryDown carryUp perform ownerActs stationTakes serverTakes
 seen [] w = []
 seen (c ∷ cs) w = let a = act c w in seenAt c a ∷ seen cs (a .world)
 

@@ -9,9 +9,9 @@ use lib.Dec.{eqb}
 use Rattle.sets.specs.Base.{nowhere}
 use Rattle.sets.specs.Laws.{byB, byEq, eqb-yes}
 use Rattle.line.specs.Messages.{pageOf, lastNumber, locking, Work, Lock, NoLock, ObjectLock, WholeLock, Up, ReadRequest, WriteRequest, Commit, Abort, Purge, Busy, Done, WrittenSet, Down, Page, Deescalate, Callback, Committed, Aborted, Invalidate, Sent, To}
-use Rattle.line.specs.Server.{Server, Serving, notice, finish, join, leave, sendPage, unavailable, abort, informed, write, archive, inform, informFrom, install, serveNow, joinRead, joinWrite, joinCommit, commitNow, unlist, openCall, markBusy, answered, openAsk, loosen, accept, ask, serveRead, concerned, callsFrom, call, grantPage, grantObject, installWaiter, start, serverStep}
+use Rattle.line.specs.Server.{Server, Serving, notice, finish, join, leave, sendPage, unavailable, abort, informed, write, archive, inform, informFrom, install, serveNow, joinRead, joinWrite, joinCommit, commitNow, unlist, openCall, markBusy, answered, openAsk, loosen, accept, ask, serveRead, concerned, callsFrom, call, grantPage, grantObject, installWaiter, start, serverStep, heed}
 use Rattle.line.specs.Line.{sentTo}
-use Rattle.line.specs.Pass.{Atomic, if-keeps, step-keeps}
+use Rattle.line.specs.Pass.{Atomic, if-keeps, step-keeps, met-keeps}
 use Rattle.line.specs.All.{All, all-append}
 
 pub record OnPage (a : ℕ) (v : ℕ → ℕ) (u : ℕ → Bool) (x : ℕ → ℕ) : Type 0 where
@@ -97,7 +97,7 @@ unfolding commitNow
 commitNow-says i w x h = if-keeps AllSay (eqb (x .server .last) lastNumber) (λ e. abort-says i 4 x h) (λ e. install-says i w x h)
 
 accept-says : (i : ℕ) (m : Up) (x : Serving) → AllSay x → AllSay (accept i m x)
-unfolding accept joinRead joinWrite joinCommit join serveNow finish unlist markBusy answered loosen
+unfolding accept joinRead joinWrite joinCommit join serveNow finish unlist markBusy answered loosen heed
 accept-says i (ReadRequest a t) x h =
     if-keeps AllSay (locking (x .server .kind i)) (λ e. notice-says i t x h) (λ e. page-says NoLock i a nowhere (notice i t x) (λ b n. refl) (notice-says i t x h))
 accept-says i (WriteRequest p t set) x h = notice-says i t x h
@@ -108,7 +108,7 @@ accept-says i (Abort t) x h = notice-says i t x h
 accept-says i (Purge p) x h = h
 accept-says i (Busy r t) x h = if-keeps AllSay (openCall (x .server) i r t) (λ e. h) (λ e. h)
 accept-says i (Done r t d) x h = if-keeps AllSay (openCall (x .server) i r t) (λ e. h) (λ e. h)
-accept-says i (WrittenSet p t set) x h = if-keeps AllSay (openAsk (x .server) i p t) (λ e. h) (λ e. h)
+accept-says i (WrittenSet p t set) x h = if-keeps AllSay (openAsk (x .server) i p t) (λ e. met-keeps AllSay i t x (notice-says i t x h) h) (λ e. h)
 
 -- every message that a server's step sends
 pub step-says : (i : ℕ) (m : Up) (s : Server) → All SentSays ((serverStep i m s) .sent)

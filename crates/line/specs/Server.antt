@@ -6,7 +6,7 @@ use lib.Dec.{eqb, ltb}
 use lib.ListN.{length}
 use Rattle.sets.specs.Base.{upd, upd2, snoc, has, valOr, noneAt, nowhere, zeros, any, turned, memo}
 use Rattle.sets.specs.Reach.{onCycle}
-use Rattle.line.specs.Messages.{pageOf, address, lastNumber, locking, Work, Up, ReadRequest, WriteRequest, Commit, Abort, Purge, Busy, Done, WrittenSet, Lock, NoLock, ObjectLock, WholeLock, Down, Page, Deescalate, Callback, Committed, Aborted, Invalidate, Sent, To, Rec}
+use Rattle.line.specs.Messages.{pageOf, address, lastNumber, locking, keeps, Work, Up, ReadRequest, WriteRequest, Commit, Abort, Purge, Busy, Done, WrittenSet, Lock, NoLock, ObjectLock, WholeLock, Down, Page, Deescalate, Callback, Committed, Aborted, Invalidate, Sent, To, Rec}
 
 -- what a station waits for at the server; "Every other request, and a validating commit, joins one waiting list by arrival"
 pub data Want : Type 0 where
@@ -64,6 +64,7 @@ pub record Server : Type 0 where
   pub last : ℕ  -- last commit number
   pub ol : ℕ → ℕ  -- object locks, by address
   pub wl : ℕ → ℕ  -- whole locks, by page
+  pub wholeFor : ℕ → ℕ  -- by page: the transaction that the present 18 was given to
   pub asked : ℕ → Bool  -- 19 was sent for the present 18
   pub listed : ℕ → ℕ → Bool  -- station, page
   pub latest : ℕ → ℕ  -- latest transaction seen of the station
@@ -75,53 +76,56 @@ pub record Server : Type 0 where
   pub queue : ℕ → Waiter  -- the waiting list: a station's entry; a station waits for one thing at a time
 
 abbrev pub setKind : Server → (ℕ → ℕ) → Server
-setKind s x = record { kind = x; val = s .val; ver = s .ver; last = s .last; ol = s .ol; wl = s .wl; asked = s .asked; listed = s .listed; latest = s .latest; fin = s .fin; age = s .age; ages = s .ages; ageKept = s .ageKept; arrivals = s .arrivals; queue = s .queue }
+setKind s x = record { kind = x; val = s .val; ver = s .ver; last = s .last; ol = s .ol; wl = s .wl; wholeFor = s .wholeFor; asked = s .asked; listed = s .listed; latest = s .latest; fin = s .fin; age = s .age; ages = s .ages; ageKept = s .ageKept; arrivals = s .arrivals; queue = s .queue }
 
 abbrev pub setVal : Server → (ℕ → ℕ) → Server
-setVal s x = record { kind = s .kind; val = x; ver = s .ver; last = s .last; ol = s .ol; wl = s .wl; asked = s .asked; listed = s .listed; latest = s .latest; fin = s .fin; age = s .age; ages = s .ages; ageKept = s .ageKept; arrivals = s .arrivals; queue = s .queue }
+setVal s x = record { kind = s .kind; val = x; ver = s .ver; last = s .last; ol = s .ol; wl = s .wl; wholeFor = s .wholeFor; asked = s .asked; listed = s .listed; latest = s .latest; fin = s .fin; age = s .age; ages = s .ages; ageKept = s .ageKept; arrivals = s .arrivals; queue = s .queue }
 
 abbrev pub setVer : Server → (ℕ → ℕ) → Server
-setVer s x = record { kind = s .kind; val = s .val; ver = x; last = s .last; ol = s .ol; wl = s .wl; asked = s .asked; listed = s .listed; latest = s .latest; fin = s .fin; age = s .age; ages = s .ages; ageKept = s .ageKept; arrivals = s .arrivals; queue = s .queue }
+setVer s x = record { kind = s .kind; val = s .val; ver = x; last = s .last; ol = s .ol; wl = s .wl; wholeFor = s .wholeFor; asked = s .asked; listed = s .listed; latest = s .latest; fin = s .fin; age = s .age; ages = s .ages; ageKept = s .ageKept; arrivals = s .arrivals; queue = s .queue }
 
 abbrev pub setLast : Server → (ℕ) → Server
-setLast s x = record { kind = s .kind; val = s .val; ver = s .ver; last = x; ol = s .ol; wl = s .wl; asked = s .asked; listed = s .listed; latest = s .latest; fin = s .fin; age = s .age; ages = s .ages; ageKept = s .ageKept; arrivals = s .arrivals; queue = s .queue }
+setLast s x = record { kind = s .kind; val = s .val; ver = s .ver; last = x; ol = s .ol; wl = s .wl; wholeFor = s .wholeFor; asked = s .asked; listed = s .listed; latest = s .latest; fin = s .fin; age = s .age; ages = s .ages; ageKept = s .ageKept; arrivals = s .arrivals; queue = s .queue }
 
 abbrev pub setOl : Server → (ℕ → ℕ) → Server
-setOl s x = record { kind = s .kind; val = s .val; ver = s .ver; last = s .last; ol = x; wl = s .wl; asked = s .asked; listed = s .listed; latest = s .latest; fin = s .fin; age = s .age; ages = s .ages; ageKept = s .ageKept; arrivals = s .arrivals; queue = s .queue }
+setOl s x = record { kind = s .kind; val = s .val; ver = s .ver; last = s .last; ol = x; wl = s .wl; wholeFor = s .wholeFor; asked = s .asked; listed = s .listed; latest = s .latest; fin = s .fin; age = s .age; ages = s .ages; ageKept = s .ageKept; arrivals = s .arrivals; queue = s .queue }
 
 abbrev pub setWl : Server → (ℕ → ℕ) → Server
-setWl s x = record { kind = s .kind; val = s .val; ver = s .ver; last = s .last; ol = s .ol; wl = x; asked = s .asked; listed = s .listed; latest = s .latest; fin = s .fin; age = s .age; ages = s .ages; ageKept = s .ageKept; arrivals = s .arrivals; queue = s .queue }
+setWl s x = record { kind = s .kind; val = s .val; ver = s .ver; last = s .last; ol = s .ol; wl = x; wholeFor = s .wholeFor; asked = s .asked; listed = s .listed; latest = s .latest; fin = s .fin; age = s .age; ages = s .ages; ageKept = s .ageKept; arrivals = s .arrivals; queue = s .queue }
+
+abbrev pub setWholeFor : Server → (ℕ → ℕ) → Server
+setWholeFor s x = record { kind = s .kind; val = s .val; ver = s .ver; last = s .last; ol = s .ol; wl = s .wl; wholeFor = x; asked = s .asked; listed = s .listed; latest = s .latest; fin = s .fin; age = s .age; ages = s .ages; ageKept = s .ageKept; arrivals = s .arrivals; queue = s .queue }
 
 abbrev pub setAsked : Server → (ℕ → Bool) → Server
-setAsked s x = record { kind = s .kind; val = s .val; ver = s .ver; last = s .last; ol = s .ol; wl = s .wl; asked = x; listed = s .listed; latest = s .latest; fin = s .fin; age = s .age; ages = s .ages; ageKept = s .ageKept; arrivals = s .arrivals; queue = s .queue }
+setAsked s x = record { kind = s .kind; val = s .val; ver = s .ver; last = s .last; ol = s .ol; wl = s .wl; wholeFor = s .wholeFor; asked = x; listed = s .listed; latest = s .latest; fin = s .fin; age = s .age; ages = s .ages; ageKept = s .ageKept; arrivals = s .arrivals; queue = s .queue }
 
 abbrev pub setListed : Server → (ℕ → ℕ → Bool) → Server
-setListed s x = record { kind = s .kind; val = s .val; ver = s .ver; last = s .last; ol = s .ol; wl = s .wl; asked = s .asked; listed = x; latest = s .latest; fin = s .fin; age = s .age; ages = s .ages; ageKept = s .ageKept; arrivals = s .arrivals; queue = s .queue }
+setListed s x = record { kind = s .kind; val = s .val; ver = s .ver; last = s .last; ol = s .ol; wl = s .wl; wholeFor = s .wholeFor; asked = s .asked; listed = x; latest = s .latest; fin = s .fin; age = s .age; ages = s .ages; ageKept = s .ageKept; arrivals = s .arrivals; queue = s .queue }
 
 abbrev pub setLatest : Server → (ℕ → ℕ) → Server
-setLatest s x = record { kind = s .kind; val = s .val; ver = s .ver; last = s .last; ol = s .ol; wl = s .wl; asked = s .asked; listed = s .listed; latest = x; fin = s .fin; age = s .age; ages = s .ages; ageKept = s .ageKept; arrivals = s .arrivals; queue = s .queue }
+setLatest s x = record { kind = s .kind; val = s .val; ver = s .ver; last = s .last; ol = s .ol; wl = s .wl; wholeFor = s .wholeFor; asked = s .asked; listed = s .listed; latest = x; fin = s .fin; age = s .age; ages = s .ages; ageKept = s .ageKept; arrivals = s .arrivals; queue = s .queue }
 
 abbrev pub setFin : Server → (ℕ → Bool) → Server
-setFin s x = record { kind = s .kind; val = s .val; ver = s .ver; last = s .last; ol = s .ol; wl = s .wl; asked = s .asked; listed = s .listed; latest = s .latest; fin = x; age = s .age; ages = s .ages; ageKept = s .ageKept; arrivals = s .arrivals; queue = s .queue }
+setFin s x = record { kind = s .kind; val = s .val; ver = s .ver; last = s .last; ol = s .ol; wl = s .wl; wholeFor = s .wholeFor; asked = s .asked; listed = s .listed; latest = s .latest; fin = x; age = s .age; ages = s .ages; ageKept = s .ageKept; arrivals = s .arrivals; queue = s .queue }
 
 abbrev pub setAge : Server → (ℕ → ℕ) → Server
-setAge s x = record { kind = s .kind; val = s .val; ver = s .ver; last = s .last; ol = s .ol; wl = s .wl; asked = s .asked; listed = s .listed; latest = s .latest; fin = s .fin; age = x; ages = s .ages; ageKept = s .ageKept; arrivals = s .arrivals; queue = s .queue }
+setAge s x = record { kind = s .kind; val = s .val; ver = s .ver; last = s .last; ol = s .ol; wl = s .wl; wholeFor = s .wholeFor; asked = s .asked; listed = s .listed; latest = s .latest; fin = s .fin; age = x; ages = s .ages; ageKept = s .ageKept; arrivals = s .arrivals; queue = s .queue }
 
 abbrev pub setAges : Server → (ℕ) → Server
-setAges s x = record { kind = s .kind; val = s .val; ver = s .ver; last = s .last; ol = s .ol; wl = s .wl; asked = s .asked; listed = s .listed; latest = s .latest; fin = s .fin; age = s .age; ages = x; ageKept = s .ageKept; arrivals = s .arrivals; queue = s .queue }
+setAges s x = record { kind = s .kind; val = s .val; ver = s .ver; last = s .last; ol = s .ol; wl = s .wl; wholeFor = s .wholeFor; asked = s .asked; listed = s .listed; latest = s .latest; fin = s .fin; age = s .age; ages = x; ageKept = s .ageKept; arrivals = s .arrivals; queue = s .queue }
 
 abbrev pub setAgeKept : Server → (ℕ → Bool) → Server
-setAgeKept s x = record { kind = s .kind; val = s .val; ver = s .ver; last = s .last; ol = s .ol; wl = s .wl; asked = s .asked; listed = s .listed; latest = s .latest; fin = s .fin; age = s .age; ages = s .ages; ageKept = x; arrivals = s .arrivals; queue = s .queue }
+setAgeKept s x = record { kind = s .kind; val = s .val; ver = s .ver; last = s .last; ol = s .ol; wl = s .wl; wholeFor = s .wholeFor; asked = s .asked; listed = s .listed; latest = s .latest; fin = s .fin; age = s .age; ages = s .ages; ageKept = x; arrivals = s .arrivals; queue = s .queue }
 
 abbrev pub setArrivals : Server → (ℕ) → Server
-setArrivals s x = record { kind = s .kind; val = s .val; ver = s .ver; last = s .last; ol = s .ol; wl = s .wl; asked = s .asked; listed = s .listed; latest = s .latest; fin = s .fin; age = s .age; ages = s .ages; ageKept = s .ageKept; arrivals = x; queue = s .queue }
+setArrivals s x = record { kind = s .kind; val = s .val; ver = s .ver; last = s .last; ol = s .ol; wl = s .wl; wholeFor = s .wholeFor; asked = s .asked; listed = s .listed; latest = s .latest; fin = s .fin; age = s .age; ages = s .ages; ageKept = s .ageKept; arrivals = x; queue = s .queue }
 
 abbrev pub setQueue : Server → (ℕ → Waiter) → Server
-setQueue s x = record { kind = s .kind; val = s .val; ver = s .ver; last = s .last; ol = s .ol; wl = s .wl; asked = s .asked; listed = s .listed; latest = s .latest; fin = s .fin; age = s .age; ages = s .ages; ageKept = s .ageKept; arrivals = s .arrivals; queue = x }
+setQueue s x = record { kind = s .kind; val = s .val; ver = s .ver; last = s .last; ol = s .ol; wl = s .wl; wholeFor = s .wholeFor; asked = s .asked; listed = s .listed; latest = s .latest; fin = s .fin; age = s .age; ages = s .ages; ageKept = s .ageKept; arrivals = s .arrivals; queue = x }
 
 abbrev pub freshServer : (ℕ → ℕ) → Server
 freshServer k =
-    record { kind = k; val = zeros; ver = zeros; last = 0; ol = zeros; wl = zeros; asked = nowhere; listed = λ i p. false; latest = zeros; fin = λ i. true; age = zeros; ages = 1; ageKept = nowhere; arrivals = 1; queue = λ i. noWaiter }
+    record { kind = k; val = zeros; ver = zeros; last = 0; ol = zeros; wl = zeros; wholeFor = zeros; asked = nowhere; listed = λ i p. false; latest = zeros; fin = λ i. true; age = zeros; ages = 1; ageKept = nowhere; arrivals = 1; queue = λ i. noWaiter }
 
 -- a server's step under way: the server, the messages sent in order, the records archived
 pub record Serving : Type 0 where
@@ -180,6 +184,10 @@ lockOn s i p = eqb (s .wl p) (suc i) || any 8 (λ o. eqb (s .ol (address p o)) (
 
 -- number 6 at the server
 
+-- document 02: "naming a transaction above an unfinished one"
+abbrev pub aboveOpen : Server → ℕ → ℕ → Bool
+aboveOpen s i t = ltb (s .latest i) t && not (s .fin i)
+
 -- "1 to 4 with a number below the station's latest, of a finished transaction, above an unfinished locking one or while it waits"
 abbrev pub badNumber : Server → ℕ → ℕ → Bool
 badNumber s i t =
@@ -198,7 +206,7 @@ unexpected i (Abort t) s = badNumber s i t || not (locking (s .kind i))
 unexpected i (Purge p) s = lockOn s i p
 unexpected i (Busy r t) s = not (locking (s .kind i))
 unexpected i (Done r t d) s = not (locking (s .kind i)) || any 32 (λ p. d p && lockOn s i p)
-unexpected i (WrittenSet p t set) s = not (locking (s .kind i))
+unexpected i (WrittenSet p t set) s = not (locking (s .kind i)) || (keeps (s .kind i) && aboveOpen s i t)
 
 -- parts of the actions
 
@@ -235,13 +243,18 @@ keepsAge ByCommit = false  -- ".. one commits"
 keepsAge (ByCause c) = eqb c 1  -- ".. the server aborts one for cause 2, 3 or 4"; another cause 1 keeps it
 keepsAge ByMessage = false  -- ".. or an abort message arrives"
 
--- "every transaction's end frees its locks"
+-- "every transaction's end frees its locks"; of a keeping station document 02 says that its "whole-page lock outlives commit and abort":
+-- whether the whole lock of holder h goes when a transaction of station i, of kind k, ends
+abbrev pub unlocks : ℕ → ℕ → ℕ → Bool
+unlocks k i h = eqb h (suc i) && not (keeps k)
+
 unfoldable pub finish : ℕ → End → Serving → Serving
 finish i e x =
     let s = x .server in
-    onServer x (setAgeKept (setFin (setOl (setWl (setAsked s
-    (λ p. not (eqb (s .wl p) (suc i)) && s .asked p))
-    (λ p. cond (eqb (s .wl p) (suc i)) 0 (s .wl p)))
+    onServer x (setAgeKept (setFin (setOl (setWl (setWholeFor (setAsked s
+    (λ p. not (unlocks (s .kind i) i (s .wl p)) && s .asked p))
+    (λ p. cond (unlocks (s .kind i) i (s .wl p)) 0 (s .wholeFor p)))
+    (λ p. cond (unlocks (s .kind i) i (s .wl p)) 0 (s .wl p)))
     (λ a. cond (eqb (s .ol a) (suc i)) 0 (s .ol a)))
     (upd (s .fin) i true))
     (upd (s .ageKept) i (keepsAge e)))
@@ -349,16 +362,29 @@ answered i r x =
     onServer x (setQueue s (upd (s .queue) r (waiterPend (waiterBusy (s .queue r) (upd (s .queue r .busy) i false)) (upd (s .queue r .pend) i false))))
 
 -- "8 makes it locks on its set"                                                     U8
+-- Document 02 of a keeping station's: it "is heeded either way"
 abbrev pub openAsk : Server → ℕ → ℕ → ℕ → Bool
-openAsk s i p t = eqb (s .wl p) (suc i) && s .asked p && not (s .fin i) && eqb t (s .latest i)
+openAsk s i p t = eqb (s .wl p) (suc i) && s .asked p && (keeps (s .kind i) || (not (s .fin i) && eqb t (s .latest i)))
 
 unfoldable pub loosen : ℕ → ℕ → (ℕ → Bool) → Serving → Serving
 loosen i p set x =
     let s = x .server in
-    onServer x (setOl (setWl (setAsked s
+    onServer x (setOl (setWl (setWholeFor (setAsked s
     (upd (s .asked) p false))
+    (upd (s .wholeFor) p 0))
     (upd (s .wl) p 0))
     (λ a. cond (eqb (pageOf a) p && set a) (suc i) (s .ol a)))
+
+-- "A transaction that the server first meets through such an 8 gets its age then."
+unfoldable pub meet : ℕ → ℕ → Serving → Serving
+meet i t x = cond (ltb (x .server .latest i) t) (notice i t x) x
+
+-- "its set is locked only if that transaction is unfinished"
+abbrev pub heeded : Server → ℕ → ℕ → (ℕ → Bool) → ℕ → Bool
+heeded s i t set a = not (s .fin i) && eqb t (s .latest i) && set a
+
+unfoldable pub heed : ℕ → ℕ → ℕ → (ℕ → Bool) → Serving → Serving
+heed i p t set x = let y = meet i t x in loosen i p (heeded (y .server) i t set) y
 
 unfoldable pub accept : ℕ → Up → Serving → Serving
 accept i (ReadRequest a t) x = cond (locking (x .server .kind i)) (joinRead i a (notice i t x)) (serveNow i a (notice i t x))
@@ -368,7 +394,7 @@ accept i (Abort t) x = finish i ByMessage (notice i t x)
 accept i (Purge p) x = unlist i (λ q. eqb q p) x
 accept i (Busy r t) x = cond (openCall (x .server) i r t) (markBusy i r x) x
 accept i (Done r t d) x = let y = unlist i d x in cond (openCall (x .server) i r t) (answered i r y) y
-accept i (WrittenSet p t set) x = cond (openAsk (x .server) i p t) (loosen i p set x) x
+accept i (WrittenSet p t set) x = cond (openAsk (x .server) i p t) (heed i p t set x) x
 
 -- the pass: its gates
 
@@ -404,25 +430,29 @@ blockedAt s i a = wants s i a && any 8 (blocks s i a)
 abbrev pub blocked : Server → ℕ → Bool
 blocked s i = any 256 (blockedAt s i)
 
--- "Page locked whole by another"
-abbrev pub shut : Server → ℕ → ℕ → Bool
-shut s i p = wantsPage s i p && other (s .wl p) i
-
--- the pass: its actions, each for the waiter of station i
-
--- "send 19, once for each 18"                                                       P.19
-unfoldable pub ask : ℕ → ℕ → Serving → Serving
-ask h p x = let s = x .server in send (onServer x (setAsked s (upd (s .asked) p true))) h (Deescalate p (s .latest h))
-
 -- the station that a lock names
 abbrev pub holder : ℕ → ℕ
 holder zero = 0
 holder (suc h) = h
 
--- "pages rising"
-unfoldable pub askFrom : ℕ → ℕ → ℕ → Serving → Serving
-askFrom zero p i x = x
-askFrom (suc n) p i x = askFrom n (suc p) i (cond (shut (x .server) i p && not (x .server .asked p)) (ask (holder (x .server .wl p)) p x) x)
+-- "Page locked whole by another"
+abbrev pub shut : Server → ℕ → ℕ → Bool
+shut s i p = wantsPage s i p && other (s .wl p) i
+
+-- by a keeping station
+abbrev pub shutKept : Server → ℕ → ℕ → Bool
+shutKept s i p = shut s i p && keeps (s .kind (holder (s .wl p)))
+
+-- the pass: its actions, each for the waiter of station i
+
+-- "send 19, once for each 18"; it names "the 18's transaction, as 19 always does"   P.19
+unfoldable pub ask : ℕ → ℕ → Serving → Serving
+ask h p x = let s = x .server in send (onServer x (setAsked s (upd (s .asked) p true))) h (Deescalate p (s .wholeFor p))
+
+-- "pages rising", of those pages that d says
+unfoldable pub askFrom : (Server → ℕ → ℕ → Bool) → ℕ → ℕ → ℕ → Serving → Serving
+askFrom d zero p i x = x
+askFrom d (suc n) p i x = askFrom d n (suc p) i (cond (d (x .server) i p && not (x .server .asked p)) (ask (holder (x .server .wl p)) p x) x)
 
 -- "Read: send 16."                                                                  P.read
 unfoldable pub serveRead : ℕ → Serving → Serving
@@ -454,7 +484,11 @@ grantPage i x =
     let s = x .server in
     let a = s .queue i .req in
     let y = leave i x in
-    sendPage WholeLock i a (unavailable s i a) (onServer y (setWl (setAsked (y .server) (upd (s .asked) (pageOf a) false)) (upd (s .wl) (pageOf a) (suc i))))
+    sendPage WholeLock i a (unavailable s i a)
+    (onServer y (setWl (setWholeFor (setAsked (y .server)
+    (upd (s .asked) (pageOf a) false))
+    (upd (s .wholeFor) (pageOf a) (s .latest i)))
+    (upd (s .wl) (pageOf a) (suc i))))
 
 -- P.17: "takes them in one step"
 unfoldable pub grantObject : ℕ → Serving → Serving
@@ -495,14 +529,25 @@ proceed WantCommit i x = afterCalls WantCommit i (callOnce i x)
 unfoldable pub gates : Want → ℕ → Serving → Serving
 gates w i x =
     cond (blocked (x .server) i) x
-    (cond (any 32 (shut (x .server) i)) (askFrom 32 0 i x)
+    (cond (any 32 (shut (x .server) i)) (askFrom shut 32 0 i x)
     (proceed w i x))
+
+unfoldable pub judge : ℕ → Serving → Serving
+judge i x = cond (eqb (fault (x .server) i) 0) (gates WantCommit i x) (abort i (fault (x .server) i) x)
+
+-- document 02: a keeping station gets 19 "as soon as another's waiting request or commit wants the page, even one blocked or given cause 3
+-- (19 goes first), not 2 or 4"
+unfoldable pub askKeepers : ℕ → Serving → Serving
+askKeepers i x = askFrom shutKept 32 0 i x
+
+abbrev pub outOfTime : Server → ℕ → Bool
+outOfTime s i = eqb (s .last) lastNumber || stale s (s .queue i .work)
 
 unfoldable pub visit : Want → ℕ → Serving → Serving
 visit NoWant i x = x
-visit WantRead i x = gates WantRead i x
-visit WantWrite i x = gates WantWrite i x
-visit WantCommit i x = cond (eqb (fault (x .server) i) 0) (gates WantCommit i x) (abort i (fault (x .server) i) x)
+visit WantRead i x = gates WantRead i (askKeepers i x)
+visit WantWrite i x = gates WantWrite i (askKeepers i x)
+visit WantCommit i x = judge i (cond (outOfTime (x .server) i) x (askKeepers i x))
 
 -- "the list is passed in order": the stations that wait, by arrival; 8 for none
 abbrev pub firstFrom : ℕ → ℕ → Server → ℕ

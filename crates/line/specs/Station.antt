@@ -6,7 +6,7 @@ use lib.Dec.{eqb, ltb, leb}
 use Rattle.sets.specs.Base.{upd, snoc, Val, none, some, has, valOr, noneAt, nowhere, zeros, any, turned}
 use Rattle.sets.specs.Size.{size}
 use Rattle.limits.specs.Limit.{limit}
-use Rattle.line.specs.Messages.{pageOf, address, lastNumber, locking, Work, Up, ReadRequest, WriteRequest, Commit, Abort, Purge, Busy, Done, WrittenSet, Lock, NoLock, ObjectLock, WholeLock, Down, Page, Deescalate, Callback, Committed, Aborted, Invalidate, Answer, Nothing, Begun, Value, Waits, Written, CommittedAs, AbortedFor, Purged, Refused}
+use Rattle.line.specs.Messages.{pageOf, address, lastNumber, locking, keeps, Work, Up, ReadRequest, WriteRequest, Commit, Abort, Purge, Busy, Done, WrittenSet, Lock, NoLock, ObjectLock, WholeLock, Down, Page, Deescalate, Callback, Committed, Aborted, Invalidate, Answer, Nothing, Begun, Value, Waits, Written, CommittedAs, AbortedFor, Purged, Refused}
 
 -- what the owner waits for
 pub data Wait : Type 0 where
@@ -189,11 +189,16 @@ writeLocal f s =
     (λ a. valOr (f a) (s .copy a)))
     (λ a. cond (has (f a) && not (usedAt s a)) (s .cver a) (s .seen a))
 
+-- a keeping station's lock on a whole page, whatever transaction it was given to
+abbrev pub keptWhole : Station → ℕ → Bool
+keptWhole s p = keeps (s .kind) && s .wl p
+
 -- callbacks
 
--- "drop each cached page named on which the transaction has read or written nothing and for which no request is out"
+-- "drop each cached page named on which the transaction has read or written nothing and for which no request is out"; of a page under a
+-- kept lock: "no callback drops one"
 abbrev pub drops : (ℕ → Bool) → Station → ℕ → Bool
-drops set s p = s .cached p && any 8 (λ o. set (address p o)) && not (usedPage s p) && not (requested (s .wait) p)
+drops set s p = s .cached p && any 8 (λ o. set (address p o)) && not (usedPage s p) && not (requested (s .wait) p) && not (keptWhole s p)
 
 -- "mark the named objects unavailable" (on cached pages)
 unfoldable pub mark : (ℕ → Bool) → Station → Station
@@ -216,8 +221,9 @@ doAllKept (suc n) r d = doAllKept n (suc r) (doKept r (d .station .kept r) d)
 
 -- ends of a transaction
 
+-- a kept lock stays: it "outlives commit and abort"
 unfoldable pub closed : Station → Station
-closed s = setOpened (setWait (setSeen (setRd (setWr (setOl (setWl s nowhere) nowhere) noneAt) noneAt) zeros) Idle) false
+closed s = setOpened (setWait (setSeen (setRd (setWr (setOl (setWl s (keptWhole s)) nowhere) noneAt) noneAt) zeros) Idle) false
 
 unfoldable pub close : Did → Did
 close d = doAllKept 8 0 (didStation d (closed (d .station)))
@@ -275,9 +281,9 @@ badSet p f s = not (ltb p 32) || not (someOn p (λ a. has (f a))) || (not (locki
 abbrev pub checkWrite : ℕ → (ℕ → Val) → Station → ℕ
 checkWrite p f s = turned (badSet p f s) 4 (openThen s (turned (longWrite f s) 15 0))
 
--- 4 Range, 7 Waiting ("a purge counts only for the requested page"), 10 Kept
+-- 4 Range, 7 Waiting ("a purge counts only for the requested page"), 10 Kept: "purging a page under a kept lock is number 10" too
 abbrev pub checkPurge : ℕ → Station → ℕ
-checkPurge p s = turned (not (ltb p 32)) 4 (turned (requested (s .wait) p) 7 (turned (usedPage s p || not (s .cached p)) 10 0))
+checkPurge p s = turned (not (ltb p 32)) 4 (turned (requested (s .wait) p) 7 (turned (usedPage s p || not (s .cached p) || keptWhole s p) 10 0))
 
 unfoldable pub ownBegin : Station → Did
 ownBegin s = unless (checkBegin s) (does (Begun (s .num + 1)) (setOpened (setNum s (s .num + 1)) true) []) s
@@ -399,8 +405,18 @@ writtenOn p t s b = live s t && eqb (pageOf b) p && has (s .wr b)
 unfoldable pub loosen : ℕ → (ℕ → Bool) → Station → Station
 loosen p set s = setWl (setOl s (λ b. s .ol b || set b)) (upd (s .wl) p false)
 
+-- "Such an 8 names the open transaction, else the 18's transaction", of a keeping station; t is what the 19 names
+abbrev pub answersFor : ℕ → Station → ℕ
+answersFor t s = cond (keeps (s .kind) && s .opened) (s .num) t
+
+-- a keeping station "gives up the whole lock", open or not
+abbrev pub givesUp : ℕ → ℕ → Station → Bool
+givesUp p t s = (keeps (s .kind) || live s t) && s .wl p
+
 unfoldable pub onDeescalate : ℕ → ℕ → Station → Did
-onDeescalate p t s = does Nothing (cond (live s t && s .wl p) (loosen p (writtenOn p t s) s) s) (WrittenSet p t (writtenOn p t s) ∷ [])
+onDeescalate p t s =
+    let u = answersFor t s in
+    does Nothing (cond (givesUp p t s) (loosen p (writtenOn p u s) s) s) (WrittenSet p u (writtenOn p u s) ∷ [])
 
 -- "the open transaction has read or written a named object"
 abbrev pub inUse : (ℕ → Bool) → Station → Bool

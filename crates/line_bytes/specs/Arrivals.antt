@@ -3,14 +3,14 @@
 -- transactions up to 4,294,967,295.
 use Prim.Native.Nat.{ℕ, zero, suc, _+_, _*_, _%_, _≤_, _<_}
 use mathlib.Core.Path.{_≡_, refl, sym, ap, subst, _∙_}
-use mathlib.Core.Bool.{Bool, true, false, not, _&&_, _||_, cond, false≢true}
+use mathlib.Core.Bool.{Bool, true, false, not, _||_, cond, false≢true}
 use mathlib.Core.List.{List, [], _∷_, _++_}
 use native.Mathlib.Omega.{arith}
 use lib.Dec.{eqb}
 use Rattle.sets.specs.Base.{upd, snoc, Val, none, some, has, noneAt}
 use Rattle.sets.specs.Laws.{byB, byEq, eqb-same, eqb-yes, and-l, and-r, not-yes, not-no, any-no}
-use Rattle.line.specs.Messages.{pageOf, address, lastNumber, locking, Work, Lock, NoLock, ObjectLock, WholeLock, Up, ReadRequest, WriteRequest, Commit, Abort, Purge, Busy, Done, WrittenSet, Down, Value}
-use Rattle.line.specs.Station.{Station, Did, does, Wait, Idle, ForRead, ForWrite, ForCommit, waiting, forWrite, forCommit, live, writtenOn, someOn, lowestOn, mayWrite, named, orVal, ofPage, dropPages, recordRead, writeLocal, mark, doCallback, closed, close, readLocal, readAsk, writeAsk, arrive, takeLock, onDeescalate, onCommitted, onAborted, stationStep}
+use Rattle.line.specs.Messages.{pageOf, address, lastNumber, locking, keeps, Work, Lock, NoLock, ObjectLock, WholeLock, Up, ReadRequest, WriteRequest, Commit, Abort, Purge, Busy, Done, WrittenSet, Down, Value}
+use Rattle.line.specs.Station.{Station, Did, does, Wait, Idle, ForRead, ForWrite, ForCommit, waiting, forWrite, forCommit, live, writtenOn, answersFor, givesUp, someOn, lowestOn, mayWrite, named, orVal, ofPage, dropPages, recordRead, writeLocal, mark, doCallback, closed, close, readLocal, readAsk, writeAsk, arrive, takeLock, onDeescalate, onCommitted, onAborted, stationStep}
 use Rattle.line.specs.Station as Station
 use Rattle.line.specs.Server.{Server, Serving, notice, finish, join, leave, sendPage, abort, write, archive, install, serveNow, joinRead, joinWrite, joinCommit, commitNow, unlist, markBusy, answered, loosen, accept, ask, serveRead, call, grantPage, grantObject, installWaiter, start, serverStep, unexpected}
 use Rattle.line.specs.Asks.{Asks, lowest-in-range, lowest-in}
@@ -86,7 +86,8 @@ accept-arrived i x =
       busy-late = λ r t e. omega arith;
       dones = λ r t d e. omega arith;
       done-late = λ r t d e. omega arith;
-      loosens = λ p t set e. omega arith;
+      loosens = λ p t set e l. omega arith;
+      loosens-new = λ p t set e k r. omega (arith, noticed-arrivals i t x);
       loosens-late = λ p t set e. omega arith;
     })
 
@@ -156,20 +157,21 @@ record Writing (kind : ℕ) (wr : ℕ → Val) (p : ℕ) (f : ℕ → Val) : Typ
   asked : has (f one) ≡ true
   unwritten : locking kind ≡ true → wr one ≡ none
 
--- what is written is locked; what is waited for is not yet read, or not all of it written
-record Steady (kind : ℕ) (rd wr : ℕ → Val) (w : Wait) (ol wl : ℕ → Bool) : Type 0 where
+-- what is written is locked, and of an open transaction; what is waited for is not yet read, or not all of it written
+record Steady (kind : ℕ) (opened : Bool) (rd wr : ℕ → Val) (w : Wait) (ol wl : ℕ → Bool) : Type 0 where
+  over : opened ≡ false → (a : ℕ) → wr a ≡ none
   locked : locking kind ≡ true → (a : ℕ) → has (wr a) ≡ true → (ol a || wl (pageOf a)) ≡ true
   reading : (a : ℕ) → w ≡ ForRead a → (a < 256) × (rd a ≡ none)
   writing : (p : ℕ) (f : ℕ → Val) → w ≡ ForWrite p f → Writing kind wr p f
 
 abbrev SteadyAt : Station → Type 0
-SteadyAt s = Steady (s .kind) (s .rd) (s .wr) (s .wait) (s .ol) (s .wl)
+SteadyAt s = Steady (s .kind) (s .opened) (s .rd) (s .wr) (s .wait) (s .ol) (s .wl)
 
-asks-most : {k : ℕ} {rd wr : ℕ → Val} {ol wl : ℕ → Bool} (w : Wait) → Steady k rd wr w ol wl → asks k rd wr w ≤ 512
-asks-most {k} {rd} {wr} w h =
+asks-most : {k : ℕ} {o : Bool} {rd wr : ℕ → Val} {ol wl : ℕ → Bool} (w : Wait) → Steady k o rd wr w ol wl → asks k rd wr w ≤ 512
+asks-most {k} {o} {rd} {wr} w h =
     byB (locking k) (λ e. rw e (go w h e)) (λ e. rw e (omega (arith, nb-1 (forCommit w))))
   where
-    go : {ol wl : ℕ → Bool} (w : Wait) → Steady k rd wr w ol wl → locking k ≡ true → used rd + used wr + nb (asking w) ≤ 512
+    go : {ol wl : ℕ → Bool} (w : Wait) → Steady k o rd wr w ol wl → locking k ≡ true → used rd + used wr + nb (asking w) ≤ 512
     go Idle h e = omega (arith, used-most rd, used-most wr)
     go (ForRead a) h e = let q = h .reading a refl in omega (arith, used-less rd a (q .0) (q .1), used-most wr)
     go (ForWrite p f) h e = let q = h .writing p f refl in omega (arith, used-most rd, used-less wr (q .one) (q .in-range) (q .unwritten e))
@@ -235,8 +237,9 @@ record Shut (k n : ℕ) (d : Did) : Type 0 where
 
 module _ (s : Station) (h : SteadyAt s) where
   -- "7. Waiting": while nothing is waited for
-  idle-steady : {k : ℕ} {rd wr : ℕ → Val} {ol wl : ℕ → Bool} (w : Wait) → waiting w ≡ false → (locking k ≡ true → (a : ℕ) → has (wr a) ≡ true → (ol a || wl (pageOf a)) ≡ true) → Steady k rd wr w ol wl
-  idle-steady w e l = record { locked = l; reading = λ a q. not-waiting w (ForRead a) e refl q; writing = λ p f q. not-waiting w (ForWrite p f) e refl q }
+  idle-steady : {k : ℕ} {o : Bool} {rd wr : ℕ → Val} {ol wl : ℕ → Bool} (w : Wait) → waiting w ≡ false → (o ≡ false → (a : ℕ) → wr a ≡ none)
+      → (locking k ≡ true → (a : ℕ) → has (wr a) ≡ true → (ol a || wl (pageOf a)) ≡ true) → Steady k o rd wr w ol wl
+  idle-steady w e c l = record { over = c; locked = l; reading = λ a q. not-waiting w (ForRead a) e refl q; writing = λ p f q. not-waiting w (ForWrite p f) e refl q }
 
   unwritten : (a : ℕ) → locking (s .kind) ≡ true → (s .ol a || s .wl (pageOf a)) ≡ false → s .wr a ≡ none
   unwritten a e f = go (s .wr a) refl
@@ -257,6 +260,7 @@ module _ (s : Station) (h : SteadyAt s) where
       record {
         steady =
             record {
+              over = λ o. z .unwritten;
               locked = λ k a u. absurd (false≢true (sym (ap has (z .unwritten a)) ∙ u));
               reading = λ a q. absurd (false≢true (ap asking (sym (z .idle) ∙ q)));
               writing = λ p f q. absurd (false≢true (ap asking (sym (z .idle) ∙ q)));
@@ -299,7 +303,7 @@ module _ (s : Station) (h : SteadyAt s) where
         begins =
             λ w c.
             record {
-              steady = record { locked = h .locked; reading = h .reading; writing = h .writing };
+              steady = record { over = λ o. absurd (false≢true (sym o)); locked = h .locked; reading = h .reading; writing = h .writing };
               pays = rw c (omega arith);
             };
         reads-own = λ a v r k q. record { steady = h; pays = omega arith };
@@ -307,7 +311,7 @@ module _ (s : Station) (h : SteadyAt s) where
         reads-here =
             λ a r k q f u.
             record {
-              steady = idle-steady (s .wait) (k .idle) (h .locked);
+              steady = idle-steady (s .wait) (k .idle) (h .over) (h .locked);
               pays =
                   open-pays 0 (s .num) (s .opened) _ _ (k .opened)
                   (byB (locking (s .kind)) (λ e. rw e (omega (arith, used-more (s .rd) a (s .copy a)))) (λ e. rw e (omega arith)));
@@ -317,6 +321,7 @@ module _ (s : Station) (h : SteadyAt s) where
             record {
               steady =
                   record {
+                    over = h .over;
                     locked = h .locked;
                     reading = λ b e. let same : a ≡ b = ap (λ (w : Wait). addressIn w) e in rw (← same) (r, f);
                     writing = λ p y e. absurd (false≢true (sym (ap isRead e)));
@@ -328,7 +333,7 @@ module _ (s : Station) (h : SteadyAt s) where
         writes-here =
             λ p f r k q.
             record {
-              steady = idle-steady (s .wait) (k .idle) (λ e b t. at-hand p (ofPage p f) r q e b t);
+              steady = idle-steady (s .wait) (k .idle) (λ o. absurd (false≢true (sym o ∙ k .opened))) (λ e b t. at-hand p (ofPage p f) r q e b t);
               pays =
                   open-pays 0 (s .num) (s .opened) _ _ (k .opened)
                   (byB (locking (s .kind)) (λ e. rw e (omega (arith, set-more (ofPage p f) (s .wr)))) (λ e. rw e (omega arith)));
@@ -338,6 +343,7 @@ module _ (s : Station) (h : SteadyAt s) where
             record {
               steady =
                   record {
+                    over = h .over;
                     locked = h .locked;
                     reading = λ b e. absurd (false≢true (ap isRead e));
                     writing = λ c y e. subst (λ (w : Wait). Writing (s .kind) (s .wr) (addressIn w) (valuesIn w)) e (asked-for p (ofPage p f) r q);
@@ -349,13 +355,13 @@ module _ (s : Station) (h : SteadyAt s) where
         commits =
             λ k.
             record {
-              steady = record { locked = h .locked; reading = λ a e. absurd (false≢true (ap asking e)); writing = λ p f e. absurd (false≢true (ap asking e)) };
+              steady = record { over = h .over; locked = h .locked; reading = λ a e. absurd (false≢true (ap asking e)); writing = λ p f e. absurd (false≢true (ap asking e)) };
               pays =
                   open-pays _ (s .num) (s .opened) _ _ (k .opened)
                   (byB (locking (s .kind)) (λ e. rw (e, idle-asking (s .wait) (k .idle)) (omega arith)) (λ e. rw (e, idle-commit (s .wait) (k .idle)) (omega arith)));
             };
         aborts = λ k. close-paid _ (undo-num s) (byB (locking (s .kind)) (λ e. rw e refl) (λ e. rw e refl));
-        purges = λ p r q f u. record { steady = h; pays = omega arith };
+        purges = λ p r q f u w. record { steady = h; pays = omega arith };
       }
 
   lock-keeps : (l : Lock) (a b : ℕ) → (s .ol b || s .wl (pageOf b)) ≡ true → ((takeLock l a s) .ol b || (takeLock l a s) .wl (pageOf b)) ≡ true
@@ -402,13 +408,22 @@ module _ (s : Station) (h : SteadyAt s) where
       kept true y k = refl
       kept false y k = k
 
+  -- what is written is an open transaction's, and a station that gives up a page of it answers for that one
+  writes-opened : (b : ℕ) → has (s .wr b) ≡ true → s .opened ≡ true
+  writes-opened b w = byB (s .opened) (λ o. o) (λ o. absurd (false≢true (sym (ap has (h .over o b)) ∙ w)))
+
+  answers-live : (p t : ℕ) → givesUp p t s ≡ true → s .opened ≡ true → live s (answersFor t s) ≡ true
+  answers-live p t c o =
+      byB (keeps (s .kind)) (λ k. rw (k, o, eqb-same (s .num)))
+      (λ k. rw k (rw k at (and-l (keeps (s .kind) || live s t) (s .wl p) c)))
+
   page-paid : (a t : ℕ) (v : ℕ → ℕ) (u : ℕ → Bool) (x : ℕ → ℕ) → live s t ≡ true → s .wait ≡ ForRead a
       → Paid s (does (Value ((arrived NoLock a v u x s) .copy a)) (recordRead a (arrived NoLock a v u x s)) [])
   unfolding takeLock recordRead arrive
   page-paid a t v u x f p =
       let q = h .reading a p in
       record {
-        steady = idle-steady Idle refl (h .locked);
+        steady = idle-steady Idle refl (h .over) (h .locked);
         pays =
             open-pays 0 (s .num) (s .opened) _ _ (and-l (s .opened) _ f)
             (byB (locking (s .kind))
@@ -429,8 +444,8 @@ module _ (s : Station) (h : SteadyAt s) where
             let q = h .writing p y w in
             record {
               steady =
-                  rw (z .2, z .4)
-                  (idle-steady Idle refl
+                  rw (z .1, z .2, z .4)
+                  (idle-steady Idle refl (λ o. absurd (false≢true (sym o ∙ and-l (s .opened) _ f)))
                   (λ e b t.
                   byB (has (y b)) (λ g. lock-gives l a p y (sym o ∙ e) w c q b g)
                   (λ g. lock-keeps l a b (h .locked e b (or-has (y b) (s .wr b) t g)))));
@@ -441,11 +456,17 @@ module _ (s : Station) (h : SteadyAt s) where
             };
         deescalates =
             λ p t f.
-            byB (live s t && s .wl p)
+            byB (givesUp p t s)
             (λ c.
             rw c
             (record {
-              steady = record { locked = λ e b w. loosened p t (and-l (live s t) _ c) b w (h .locked e b w); reading = h .reading; writing = h .writing };
+              steady =
+                  record {
+                    over = h .over;
+                    locked = λ e b w. loosened p (answersFor t s) (answers-live p t c (writes-opened b w)) b w (h .locked e b w);
+                    reading = h .reading;
+                    writing = h .writing;
+                  };
               pays = omega arith;
             }))
             (λ c. rw c (record { steady = h; pays = omega arith }));
@@ -540,7 +561,7 @@ joined-run kinds cs =
     run-keeps (λ s t u d. Joined s t u) joined-moves cs (fresh kinds)
     (record {
       kinds = λ i. refl;
-      steady = λ i. record { locked = λ k a e. absurd (false≢true e); reading = λ a e. absurd (false≢true (ap asking e)); writing = λ p f e. absurd (false≢true (ap asking e)) };
+      steady = λ i. record { over = λ o a. refl; locked = λ k a e. absurd (false≢true e); reading = λ a e. absurd (false≢true (ap asking e)); writing = λ p f e. absurd (false≢true (ap asking e)) };
       within = omega arith;
     })
 

@@ -69,7 +69,7 @@ module _ (o c m q : List ℕ) (lo : stationRoom ≤ length o) (lc : commitRoom �
 
   -- the model's run, computed
   computed : (archiveOf (recordsOf (model .archive)) ≡ C12) × (model .told ≡ told) × (model .server .val 8 ≡ 1)
-  unfolding size recordRead writeLocal writeSet dropPages mark doCallback doKept doAllKept closed close undo ownBegin readLocal readAsk readAs ownRead writeAsk ownWrite ownCommit ownAbort ownPurge arrive takeLock answerWait onPage loosen onDeescalate onCallback onCommitted onAborted onInvalidate onDown stationStep S.notice S.finish S.join S.leave S.sendPage S.abort S.write S.archive S.inform S.informFrom S.install S.serveNow S.joinRead S.joinWrite S.joinCommit S.commitNow S.unlist S.markBusy S.answered S.loosen S.accept S.ask S.askFrom S.serveRead S.call S.grantPage S.grantObject S.grant S.installWaiter S.callOnce S.afterCalls S.proceed S.gates S.visit S.pass S.settle S.serverStep act tell tellWrites carryDown carryUp perform ownerActs stationTakes serverTakes run archiveOf bytesOf header bytes entriesOf entriesFrom
+  unfolding size recordRead writeLocal writeSet dropPages mark doCallback doKept doAllKept closed close undo ownBegin readLocal readAsk readAs ownRead writeAsk ownWrite ownCommit ownAbort ownPurge arrive takeLock answerWait onPage loosen onDeescalate onCallback onCommitted onAborted onInvalidate onDown stationStep S.notice S.finish S.join S.leave S.sendPage S.abort S.write S.archive S.inform S.informFrom S.install S.serveNow S.joinRead S.joinWrite S.joinCommit S.commitNow S.unlist S.markBusy S.answered S.loosen S.meet S.heed S.accept S.ask S.askFrom S.askKeepers S.serveRead S.call S.grantPage S.grantObject S.grant S.installWaiter S.callOnce S.afterCalls S.proceed S.gates S.judge S.visit S.pass S.settle S.serverStep act tell tellWrites carryDown carryUp perform ownerActs stationTakes serverTakes run archiveOf bytesOf header bytes entriesOf entriesFrom
   computed = (refl, refl, refl)
 
   abbrev line : WorldB

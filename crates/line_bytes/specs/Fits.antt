@@ -8,30 +8,30 @@ use native.Mathlib.Numerals.{add-one}
 use native.Mathlib.Omega.{arith}
 use lib.Bits.{bitOr}
 use lib.Dec.{eqb, ltb}
-use borrow.Author.Tests.{eqb-true, eqb-false, eq-eqb, ne-eqb, not-true, not-false}
+use borrow.Author.Tests.{eqb-true, eqb-false, ne-eqb, not-true, not-false}
 use Rattle.sets.specs.Base.{has, any}
 use Rattle.sets.specs.Laws.{byB, byEq, eqb-yes, eqb-no, ltb-yes, ltb-no}
 use Rattle.sets.specs.Size.{size, size-same}
 use Rattle.cells.specs.Bits.{tb, tb-or, tb-high}
 use Rattle.cells.specs.Loops.{any-same}
 use Rattle.cells.specs.Cells.{view, view-col, view-row, cell-lt, get32}
-use Rattle.line.specs.Messages.{locking}
+use Rattle.line.specs.Messages.{locking, keeps}
 use Rattle.line.specs.Server.{Server, Want, NoWant, WantRead, WantWrite, WantCommit, isWant}
 use Rattle.line.specs.Station.{someOn}
-use Rattle.line.specs.Apart.{Holder, Locks, Ages, Entry, Waiting, ageCounts}
+use Rattle.line.specs.Apart.{Holder, WholeHolder, GivenTo, Locks, Ages, Entry, Waiting, ageCounts}
 use Rattle.line.specs.Fit.{calls, Owes, OnPage, Form, Forms, Fit}
 use Rattle.station_state.specs.Layout.{numberWidth, hasBit, member, countIn, noneIn}
 use Rattle.station_state.specs.Sets.{none-member}
 use Rattle.station_meaning.specs.Meant.{within}
 use Rattle.station_meaning.specs.Tests.{has-if}
-use Rattle.server_state.specs.Layout.{table, askedCell, kindCell, lockCell, wholeCell, readSetCell, writtenSetCell, readValueCell, writtenValueCell, workCell, workFrom, pendFrom, requestFrom, workNumber, lockOf, wholeOf, readSetFrom, writtenSetFrom, kindOf, wantOf, requestOf, calledOf, pendOf, busyOf, unfinishedOf}
+use Rattle.server_state.specs.Layout.{table, askedCell, wholeForCell, kindCell, lockCell, wholeCell, readSetCell, writtenSetCell, readValueCell, writtenValueCell, workCell, workFrom, pendFrom, requestFrom, workNumber, wholeForOf, lockOf, wholeOf, readSetFrom, writtenSetFrom, wantOf, requestOf, calledOf, pendOf, busyOf, unfinishedOf, lockingB}
 use Rattle.server_state.specs.Valid.{ageless}
 use Rattle.server_state.specs.Facts.{Ranged}
 use Rattle.server_state.specs.Facts as Bytes
 use Rattle.server_state.specs.Sets.{only-member}
 use Rattle.server_state.specs.Pages.{page-some, page-member}
 use Rattle.server_meaning.specs.Meant.{wantAs, Is, start}
-use Rattle.server_meaning.specs.Tests.{bit-is, age-at, arrival-at, ages-at, arrivals-at, latest-at, lock-at, whole-at, kind-at, request-at, called-at, fin-at, ageless-at, want-at, waits-at, work-at, asked-at, pend-at, busy-at, reads-at, writes-at, reads-high, writes-high}
+use Rattle.server_meaning.specs.Tests.{bit-is, age-at, arrival-at, ages-at, arrivals-at, latest-at, lock-at, whole-at, wholeFor-at, kind-at, request-at, called-at, fin-at, ageless-at, want-at, waits-at, work-at, asked-at, pend-at, busy-at, reads-at, writes-at, reads-high, writes-high}
 use Rattle.step_meaning.specs.Relation.{Sound}
 
 -- WHAT IS WAITED FOR, AS A NUMBER
@@ -74,6 +74,9 @@ module _ {s : List ℕ} {m : Server} (h : Is s m) where
 
   whole-high : (p : ℕ) → 32 ≤ p → m .wl p ≡ 0
   whole-high p l = sym (ap (λ (n : Server). n .wl p) (h .is)) ∙ view-col table 0 s wholeCell 0 p (omega arith)
+
+  wholeFor-high : (p : ℕ) → 32 ≤ p → m .wholeFor p ≡ 0
+  wholeFor-high p l = sym (ap (λ (n : Server). n .wholeFor p) (h .is)) ∙ view-col table 0 s wholeForCell 0 p (omega arith)
 
   asked-high : (p : ℕ) → 32 ≤ p → m .asked p ≡ false
   asked-high p l = sym (ap (λ (n : Server). n .asked p) (h .is)) ∙ tb-high 32 p (view table 0 s askedCell 0 0) l (cell-lt (start h) askedCell 0 0)
@@ -129,8 +132,8 @@ module _ {s : List ℕ} {m : Server} (h : Is s m) where
     working : (i : ℕ) → i < 8 → m .fin i ≡ false → unfinishedOf s i ≢ 0
     working i l e = eqb-false (unfinishedOf s i) 0 (fin-at h i l ∙ e)
 
-    locks-at : (i : ℕ) → i < 8 → kindOf s i ≡ 0 → locking (m .kind i) ≡ true
-    locks-at i l e = eq-eqb (m .kind i) 0 (sym (kind-at h i l) ∙ e)
+    locks-at : (i : ℕ) → i < 8 → lockingB s i ≡ true → locking (m .kind i) ≡ true
+    locks-at i l e = ap locking (sym (kind-at h i l)) ∙ e
 
     -- LOCKS
 
@@ -146,10 +149,41 @@ module _ {s : List ℕ} {m : Server} (h : Is s m) where
         (λ a l e. holder-of k (r .lock-held (a / 8) (a % 8) k (omega arith) (omega arith) (ap (lockOf s) (at-page a) ∙ lock-at h a l ∙ e ∙ sym (add-one k))))
         (λ a l e. absurd (omega (arith, lock-high a l, e))) a
 
-    whole-held : (k p : ℕ) → m .wl p ≡ suc k → Holder (m .kind) (m .fin) k
+    -- a whole lock's holder, and the transaction that it was given to
+    whole-bytes : (k p : ℕ) → p < 32 → m .wl p ≡ suc k → Bytes.WholeHolder s k (wholeForOf s p)
+    whole-bytes k p l e = r .whole-held p k l (whole-at h p l ∙ e ∙ sym (add-one k))
+
+    whole-held : (k p : ℕ) → m .wl p ≡ suc k → WholeHolder (m .kind) (m .fin) k
     whole-held k p =
-        upTo {G = λ p. m .wl p ≡ suc k → Holder (m .kind) (m .fin) k} 32
-        (λ p l e. holder-of k (r .whole-held p k l (whole-at h p l ∙ e ∙ sym (add-one k))))
+        upTo {G = λ p. m .wl p ≡ suc k → WholeHolder (m .kind) (m .fin) k} 32
+        (λ p l e.
+        let o = whole-bytes k p l e in
+        record {
+          station = o .station;
+          unfinished = λ n. unfinished k (o .station) (o .unfinished (ap keeps (kind-at h k (o .station)) ∙ n));
+          locks = locks-at k (o .station) (o .locks);
+        })
+        (λ p l e. absurd (omega (arith, whole-high p l, e))) p
+
+    given-to : (k p : ℕ) → m .wl p ≡ suc k → GivenTo (m .kind k) (m .latest k) (m .wholeFor p)
+    given-to k p =
+        upTo {G = λ p. m .wl p ≡ suc k → GivenTo (m .kind k) (m .latest k) (m .wholeFor p)} 32
+        (λ p l e.
+        let o = whole-bytes k p l e in
+        record {
+          seen = rw (← wholeFor-at h p l, ← latest-at h k (o .station)) (o .seen);
+          latest-is = λ n. sym (wholeFor-at h p l) ∙ o .latest-is (ap keeps (kind-at h k (o .station)) ∙ n) ∙ latest-at h k (o .station);
+        })
+        (λ p l e. absurd (omega (arith, whole-high p l, e))) p
+
+    none-given : (p : ℕ) → m .wl p ≡ 0 → m .wholeFor p ≡ 0
+    none-given p =
+        upTo {G = λ p. m .wl p ≡ 0 → m .wholeFor p ≡ 0} 32 (λ p l e. sym (wholeFor-at h p l) ∙ r .none-given p l (whole-at h p l ∙ e))
+        (λ p l e. wholeFor-high p l) p
+
+    given-some : (k p : ℕ) → m .wl p ≡ suc k → m .wholeFor p ≢ 0
+    given-some k p =
+        upTo {G = λ p. m .wl p ≡ suc k → m .wholeFor p ≢ 0} 32 (λ p l e z. whole-bytes k p l e .named (wholeFor-at h p l ∙ z))
         (λ p l e. absurd (omega (arith, whole-high p l, e))) p
 
     alone : (g k a : ℕ) → a < 256 → m .wl (a / 8) ≡ suc k → m .ol a ≡ suc g → g ≡ k
@@ -164,8 +198,8 @@ module _ {s : List ℕ} {m : Server} (h : Is s m) where
         upTo {G = λ p. m .asked p ≡ true → m .wl p ≢ 0} 32 (λ p l e z. r .asked-held p l (asked-at h p ∙ e) (whole-at h p l ∙ z))
         (λ p l e. absurd (false≢true (sym (asked-high p l) ∙ e))) p
 
-    locks-of : Locks (m .kind) (m .fin) (m .ol) (m .wl) (m .asked)
-    locks-of = record { whole-alone = alone; object-open = object-held; whole-open = whole-held; asked-held = asked-held }
+    locks-of : Locks (m .kind) (m .latest) (m .fin) (m .ol) (m .wl) (m .wholeFor) (m .asked)
+    locks-of = record { whole-alone = alone; object-open = object-held; whole-open = whole-held; given = given-to; none-given = none-given; asked-held = asked-held }
 
     counting : (i : ℕ) → i < 8 → ageCounts (m .fin i) (m .ageKept i) ≡ true → ageless s i ≡ false
     counting i l e = ageless-at h i l ∙ ap not e
@@ -243,7 +277,7 @@ module _ {s : List ℕ} {m : Server} (h : Is s m) where
             waits-open = λ e. unfinished i l (r .waiter i l (waiting i l e) .unfinished);
             reads-lock = λ e. locks-at i l (read-bytes e .locks);
             writes-lock = λ e. locks-at i l (write-bytes e .locks);
-            commits-validate = λ e. ne-eqb (m .kind i) 0 (λ z. omega (arith, z, kind-at h i l, commit-bytes e .validates));
+            commits-validate = λ e. ap locking (sym (kind-at h i l) ∙ commit-bytes e .validates);
           }
 
       -- the 20s
@@ -322,7 +356,7 @@ module _ {s : List ℕ} {m : Server} (h : Is s m) where
         }
 
     pub fit-of : Fit m
-    fit-of = record { apart = record { locks = locks-of; aged = ages-of; waiting = waiting-of }; forms = forms-of }
+    fit-of = record { apart = record { locks = locks-of; aged = ages-of; waiting = waiting-of }; forms = forms-of; given = given-some }
 
 -- what messages and records need of it
 pub sound-fit : {m : Server} → Fit m → Sound m
@@ -332,5 +366,5 @@ sound-fit f =
       numbered = λ i l w. f .forms .named i l (f .apart .waiting .entry i l .waits-open w);
       worked = λ i l e z. f .forms .named i l (f .apart .waiting .entry i l .waits-open (ap isWant e)) (sym (f .forms .form i l .commit e .latest-is) ∙ z);
       paged = λ i l e. let o = f .forms .form i l .write e in record { stands = o .stands; page-only = o .page-only };
-      holder = λ p g e. let o = f .apart .locks .whole-open g p e in (o .station, f .forms .named g (o .station) (o .unfinished));
+      holder = λ p g e. (f .apart .locks .whole-open g p e .station, f .given g p e);
     }

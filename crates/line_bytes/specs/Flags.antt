@@ -2,11 +2,11 @@
 -- transaction unfinished and its age kept, stay in range through every step; with them the address that it requests.
 use Prim.Native.Nat.{ℕ, zero, suc, _+_, _*_, _/_, _%_, _≤_, _<_}
 use mathlib.Core.Path.{_≡_, refl}
-use mathlib.Core.Bool.{Bool, true, false, not, _&&_, cond}
+use mathlib.Core.Bool.{Bool, true, false, cond}
 use mathlib.Core.List.{List, [], _∷_}
 use mathlib.Core.Logic.{_≢_, inr}
 use native.Mathlib.Omega.{arith}
-use lib.Dec.{eqb}
+use lib.Dec.{eqb, ltb}
 use lib.ListN.{getD, set, replicate}
 use lib.Seq.{getD-set-other}
 use Rattle.sets.specs.Laws.{byB, byEq, eqb-yes, eqb-no}
@@ -21,12 +21,12 @@ use Rattle.message_meaning.specs.UpAccepted.{UpAccepted, up-accepted}
 use Rattle.station_state.specs.Layout.{pageSetWidth, numberWidth, valueWidth, hasBit, member}
 use Rattle.station_state.specs.Changes.{addTo, pageOn, pageOff, clearTo}
 use Rattle.server_state.specs.Valid.{kindsTo, freshServer}
-use Rattle.server_state.specs.Layout.{ageWidth, valueFrom, valueRow, setRow, ageFrom, arrivalFrom, nextAgeFrom, nextArrivalFrom, versionFrom, workFrom, latestFrom, listedFrom, lastFrom, askedFrom, lockFrom, wholeFrom, kindFrom, wantFrom, requestFrom, calledFrom, pendFrom, busyFrom, unfinishedFrom, ageKeptFrom, readValuesFrom, readVersionsFrom, writtenVersionsFrom, versionRow, readSetFrom, serverLength, agesOf, ageKeptOf, latestOf, lastOf, lockOf, wholeOf, askedOf, arrivalOf, writtenSetFrom, writtenValuesFrom, wantOf, requestOf, calledOf, pendOf, lockingB}
-use Rattle.server_tests.specs.Tests.{openCallB, openAskB, faultB, blockedB, shutB, shutOutB, hinderedB, informedB}
+use Rattle.server_state.specs.Layout.{ageWidth, valueFrom, valueRow, setRow, ageFrom, arrivalFrom, nextAgeFrom, nextArrivalFrom, versionFrom, workFrom, latestFrom, listedFrom, lastFrom, askedFrom, wholeForFrom, lockFrom, wholeFrom, kindFrom, wantFrom, requestFrom, calledFrom, pendFrom, busyFrom, unfinishedFrom, ageKeptFrom, readValuesFrom, readVersionsFrom, writtenVersionsFrom, versionRow, readSetFrom, serverLength, agesOf, ageKeptOf, latestOf, lastOf, lockOf, wholeOf, arrivalOf, writtenSetFrom, writtenValuesFrom, wantOf, requestOf, calledOf, pendOf, lockingB, keepsB}
+use Rattle.server_tests.specs.Tests.{openCallB, openAskB, faultB, blockedB, shutOutB, outOfTimeB, dueB, hinderedB, informedB}
 use Rattle.server_order.specs.Order.{comesFirst, firstTo, edgesTo, youngerB, youngestTo, victimB}
-use Rattle.server_changes.specs.Changes.{newAgeB, ageB, noticeB, keepsAgeB, freePageB, freePagesTo, freeOneB, freeTo, finishB, leaveB, joinB, joinReadB, joinWriteB, unpackOne, unpackTo, unpackB, joinCommitB, listB, unlistB, markBusyB, answeredB, lockOneB, lockTo, loosenB, askedB, calledB, lockPageB, valueOneB, valuesTo, writeB}
+use Rattle.server_changes.specs.Changes.{newAgeB, ageB, noticeB, keepsAgeB, holdB, freePageB, freePagesTo, freePagesB, freeOneB, freeTo, finishB, leaveB, joinB, joinReadB, joinWriteB, unpackOne, unpackTo, unpackB, joinCommitB, listB, unlistB, markBusyB, answeredB, lockOneB, lockTo, loosenB, meetB, heededB, heedB, askedB, calledB, lockPageB, valueOneB, valuesTo, writeB}
 use Rattle.server_actions.specs.Actions.{Serving, serving, sendPageB, abortB, informB, informTo, installB, commitNowB, addressOf, noticedB, onReadB, onWriteB, onCommitB, onAbortB, onPurgeB, onBusyB, onDoneB, onWrittenSetB, acceptB}
-use Rattle.server_actions.specs.Pass.{askB, askTo, serveReadB, callOneB, callTo, callB, callOnceB, grantPageB, grantObjectB, grantB, afterCallsB, proceedB, gatesB, visitB, orderB, passB, movedB, settleB, serverStepB}
+use Rattle.server_actions.specs.Pass.{askB, askTo, serveReadB, callOneB, callTo, callB, callOnceB, grantPageB, grantObjectB, grantB, afterCallsB, proceedB, gatesB, judgeB, askKeepersB, visitB, orderB, passB, movedB, settleB, serverStepB}
 
 pub record Flagged (s : List ℕ) : Type 0 where
   pub wants : (j : ℕ) → j < 8 → getD s (wantFrom + j) 0 ≤ 3
@@ -163,13 +163,22 @@ added : {s : List ℕ} → Flagged s → (at a : ℕ) → at + setRow ≤ wantFr
 unfolding addTo
 added k at a h l = low-set k (at + a / 8) _ (omega arith)
 
+-- a whole lock
+held : {s : List ℕ} → Flagged s → (p h t : ℕ) → p < 32 → Flagged (holdB p h t s)
+unfolding holdB
+held k p h t l = low-u32 (low-set (page-off k askedFrom p (omega arith)) (wholeFrom + p) h (omega arith)) (wholeForFrom + p * numberWidth) t (omega arith)
+
 pages-freed : {s : List ℕ} → Flagged s → (i n : ℕ) → n ≤ 32 → Flagged (freePagesTo i s n)
 unfolding freePagesTo freePageB
 pages-freed k i zero h = k
 pages-freed {s} k i (suc n) h =
     let r = pages-freed k i n (omega arith) in
     let t = freePagesTo i s n in
-    either (eqb (wholeOf t n) (i + 1)) (page-off (low-set r (wholeFrom + n) 0 (omega arith)) askedFrom n (omega arith)) r
+    either (eqb (wholeOf t n) (i + 1)) (held r n 0 0 h) r
+
+pages-ended : {s : List ℕ} → Flagged s → (i : ℕ) → Flagged (freePagesB i s)
+unfolding freePagesB
+pages-ended {s} k i = either (keepsB s i) k (pages-freed k i 32 (omega arith))
 
 locks-freed : {s : List ℕ} → Flagged s → (i n : ℕ) → n ≤ 256 → Flagged (freeTo i s n)
 unfolding freeTo freeOneB
@@ -225,7 +234,7 @@ module _ {s : List ℕ} (k : Flagged s) where
   finished : (i v : ℕ) → i < 8 → v ≤ 1 → Flagged (finishB i v s)
   unfolding finishB
   finished i v l lv =
-      kept-set (unfinished-set (locks-freed (pages-freed k i 32 (omega arith)) i 256 (omega arith)) i 0 l (omega arith)) i v l lv
+      kept-set (unfinished-set (locks-freed (pages-ended k i) i 256 (omega arith)) i 0 l (omega arith)) i v l lv
 
   left : (i : ℕ) → i < 8 → Flagged (leaveB i s)
   unfolding leaveB
@@ -250,7 +259,11 @@ module _ {s : List ℕ} (k : Flagged s) where
 
   loosened : (i p x : ℕ) → p < 32 → Flagged (loosenB i p x s)
   unfolding loosenB
-  loosened i p x l = objects-locked (low-set (page-off k askedFrom p (omega arith)) (wholeFrom + p) 0 (omega arith)) i p x 8 l (omega arith)
+  loosened i p x l = objects-locked (held k p 0 0 l) i p x 8 l (omega arith)
+
+  met : (i t : ℕ) → i < 8 → Flagged (meetB i t s)
+  unfolding meetB
+  met i t l = either (ltb (latestOf s i) t) (noticed i t l) k
 
   asked : (p : ℕ) → Flagged (askedB p s)
   unfolding askedB
@@ -262,7 +275,7 @@ module _ {s : List ℕ} (k : Flagged s) where
 
   page-locked : (i p : ℕ) → p < 32 → Flagged (lockPageB i p s)
   unfolding lockPageB
-  page-locked i p l = low-set (page-off k askedFrom p (omega arith)) (wholeFrom + p) (i + 1) (omega arith)
+  page-locked i p l = held k p (i + 1) (latestOf s i) l
 
   unpacked : (i : ℕ) (x : List ℕ) → i < 8 → AllBytes x → Flagged (unpackB i x s)
   unfolding unpackB
@@ -270,6 +283,10 @@ module _ {s : List ℕ} (k : Flagged s) where
       let number = low-u32 k (workFrom + i * numberWidth) (transactionOf x) (omega arith) in
       let reads = entries-taken number x b (readSetFrom i) (readValuesFrom i) (readVersionsFrom i) 0 (sentReads x) (omega arith) (omega arith) (omega arith) in
       entries-taken reads x b (writtenSetFrom i) (writtenValuesFrom i) (writtenVersionsFrom i) (sentReads x) (sentWrites x) (omega arith) (omega arith) (omega arith)
+
+heeds : {s : List ℕ} → Flagged s → (i p t x : ℕ) → i < 8 → p < 32 → Flagged (heedB i p t x s)
+unfolding heedB
+heeds {s} k i p t x l lp = loosened (met k i t l) i p (heededB i t x (meetB i t s)) lp
 
 joined : {s : List ℕ} → Flagged s → (i w a : ℕ) → i < 8 → w ≤ 3 → a < 256 → Flagged (joinB i w a s)
 unfolding joinB
@@ -384,7 +401,7 @@ module _ (kinds m : List ℕ) (ok : upNumber kinds m ≡ 0) (b : AllBytes m) (x 
   on-written-set : Message.kindOf m ≡ 8 → Fine (onWrittenSetB m x)
   unfolding onWrittenSetB
   on-written-set e =
-      one-of (openAskB (x .state) i (pageOf m) (transactionOf m)) (fine _ _ _ (loosened (h .flags) i (pageOf m) (setOf m 0) (accepted .written-set e .page-is))) h
+      one-of (openAskB (x .state) i (pageOf m) (transactionOf m)) (fine _ _ _ (heeds (h .flags) i (pageOf m) (transactionOf m) (setOf m 0) own (accepted .written-set e .page-is))) h
 
   accepts : Fine (acceptB m x)
   unfolding acceptB
@@ -410,10 +427,10 @@ module _ (kinds m : List ℕ) (ok : upNumber kinds m ≡ 0) (b : AllBytes m) (x 
 
 -- THE PASS
 
-asks : (i : ℕ) (x : Serving) → Fine x → (n : ℕ) → Fine (askTo i x n)
+asks : (k : Bool) (i : ℕ) (x : Serving) → Fine x → (n : ℕ) → Fine (askTo k i x n)
 unfolding askTo askB
-asks i x h zero = h
-asks i x h (suc n) = let r = asks i x h n in one-of (shutB ((askTo i x n) .state) i n && not (hasBit (askedOf ((askTo i x n) .state)) n)) (fine _ _ _ (asked (r .flags) n)) r
+asks k i x h zero = h
+asks k i x h (suc n) = let r = asks k i x h n in one-of (dueB k ((askTo k i x n) .state) i n) (fine _ _ _ (asked (r .flags) n)) r
 
 calls-to : (i d : ℕ) (s : List ℕ) (x : Serving) → Fine x → (n : ℕ) → Fine (callTo i d s x n)
 unfolding callTo callOneB
@@ -458,14 +475,22 @@ module _ (i : ℕ) (l : i < 8) where
 
   gates : (w : ℕ) (x : Serving) → Fine x → Fine (gatesB w i x)
   unfolding gatesB
-  gates w x h = one-of (blockedB (x .state) i) h (one-of (shutOutB (x .state) i) (asks i x h 32) (proceeds w x h))
+  gates w x h = one-of (blockedB (x .state) i) h (one-of (shutOutB (x .state) i) (asks false i x h 32) (proceeds w x h))
+
+  judged : (x : Serving) → Fine x → Fine (judgeB i x)
+  unfolding judgeB
+  judged x h = let f = faultB (x .state) i in one-of (eqb f 0) (gates 3 x h) (aborted i f x l h)
+
+  keepers : (x : Serving) → Fine x → Fine (askKeepersB i x)
+  unfolding askKeepersB
+  keepers x h = asks true i x h 32
 
   visited : (x : Serving) → Fine x → Fine (visitB i x)
   unfolding visitB
   visited x h =
       let w = wantOf (x .state) i in
-      let f = faultB (x .state) i in
-      one-of (eqb w 0) h (one-of (eqb w 3) (one-of (eqb f 0) (gates w x h) (aborted i f x l h)) (gates w x h))
+      let late = outOfTimeB (x .state) i in
+      one-of (eqb w 0) h (one-of (eqb w 3) (judged (cond late x (askKeepersB i x)) (one-of late h (keepers x h))) (gates w (askKeepersB i x) (keepers x h)))
 
 -- the stations of the list, and the victim
 first-most : (s : List ℕ) (b n : ℕ) → n ≤ 8 → firstTo s b n ≤ 8

@@ -10,6 +10,7 @@ use lib.ListN.{length, getD, List·getD-eq-default}
 use borrow.Author.Tests.{leb-true, eq-eqb}
 use Rattle.lists.specs.Tests.{allTo-at, allTo-of, and-r}
 use Rattle.sets.specs.Laws.{byB, ltb-yes, ltb-no}
+use Rattle.kinds.specs.Kinds.{mostKind}
 use Rattle.layout.specs.Record.{archiveOf}
 use Rattle.line.specs.Line.{Op, Begin, Read, WriteSet, Commits, Aborts, Purges, Call, Owner, Broken, World, fresh, act, run}
 use Rattle.archive_truth.specs.Fits.{FitCall, FitCalls}
@@ -28,18 +29,18 @@ use Rattle.line_bytes.specs.Simulates.{Sim, asCall, act-sim}
 -- KINDS
 
 module _ (kinds : List ℕ) (ok : kindsOk kinds ≡ true) where
-  kind-most : (i : ℕ) → i < 8 → leb (getD kinds i 0) 1 ≡ true
+  kind-most : (i : ℕ) → i < 8 → leb (getD kinds i 0) mostKind ≡ true
   unfolding kindsOk most mostAt
-  kind-most i l = rw (zero-add i) at (allTo-at (mostAt kinds 0 1) 8 (and-r (eqb (length kinds) 8) (most kinds 0 1 8) ok) i l)
+  kind-most i l = rw (zero-add i) at (allTo-at (mostAt kinds 0 mostKind) 8 (and-r (eqb (length kinds) 8) (most kinds 0 mostKind 8) ok) i l)
 
   -- number 4 of a fresh server asks the same of the kinds as its step does
   pub same-kinds : Number.kindsOk kinds ≡ true
   unfolding Number.kindsOk kindOk
   same-kinds = rw (eq-eqb (length kinds) 8 (kinds-length kinds ok)) (allTo-of (kindOk kinds) 8 kind-most)
 
-  pub kind-small : (i : ℕ) → getD kinds i 0 ≤ 1
+  pub kind-small : (i : ℕ) → getD kinds i 0 ≤ mostKind
   kind-small i =
-      byB (ltb i 8) (λ e. leb-true (getD kinds i 0) 1 (kind-most i (ltb-yes i 8 e)))
+      byB (ltb i 8) (λ e. leb-true (getD kinds i 0) mostKind (kind-most i (ltb-yes i 8 e)))
       (λ e. rw (List·getD-eq-default kinds 0 {n = i} (omega (arith, kinds-length kinds ok, ltb-no i 8 e))) (omega arith))
 
 -- THE WHOLE RUN

@@ -6,7 +6,7 @@ use mathlib.Core.Logic.{_≢_}
 use mathlib.Core.List.{List}
 use native.Mathlib.Omega.{arith}
 use lib.Bits.{bitOr, or-lt}
-use lib.Dec.{eqb}
+use lib.Dec.{eqb, leb}
 use lib.ListN.{length}
 use borrow.Author.Tests.{eqb-false, eq-eqb, ne-eqb, lt-ltb, le-leb}
 use Rattle.lists.specs.Tests.{allTo, allTo-of}
@@ -14,19 +14,20 @@ use Rattle.sets.specs.Base.{any}
 use Rattle.sets.specs.Laws.{byB, byEq, eqb-yes, eqb-no, not-no}
 use Rattle.cells.specs.Bits.{tb, tb-zero, tb-or, tb-tells}
 use Rattle.cells.specs.Loops.{any-same}
-use Rattle.line.specs.Messages.{locking}
+use Rattle.kinds.specs.Kinds.{mostKind}
+use Rattle.line.specs.Messages.{locking, keeps}
 use Rattle.line.specs.Server.{Server, Want, NoWant, WantRead, WantWrite, WantCommit, isWant, waits}
-use Rattle.line.specs.Apart.{Holder, ageCounts, Entry}
+use Rattle.line.specs.Apart.{Holder, WholeHolder, GivenTo, ageCounts, Entry}
 use Rattle.line.specs.Fit.{calls, OnPage, Form, Fit}
 use Rattle.limits.specs.Limit.{limit}
 use Rattle.station_state.specs.Layout.{hasBit, member, countIn, noneIn}
 use Rattle.station_state.specs.Sets.{members-none}
-use Rattle.server_state.specs.Layout.{counterLimit, kindFrom, wantFrom, calledFrom, unfinishedFrom, pendFrom, busyFrom, serverLength, ageOf, arrivalOf, agesOf, arrivalsOf, workNumber, latestOf, askedOf, lockOf, wholeOf, readSetFrom, writtenSetFrom, kindOf, wantOf, requestOf, calledOf, pendOf, busyOf, unfinishedOf, ageKeptFrom, ageKeptOf}
-use Rattle.server_state.specs.Valid.{mostAt, most, rangesOk, countersOk, onlyIn, pageOnly, blankOk, fewOk, commitOk, writeOk, requestOk, waiterOk, entryOk, owesAt, callsOk, agedOk, stationOk, holderOk, holderAt, besideAt, pageOk, askedAt, apartAt, apartOk, valid, ageless}
+use Rattle.server_state.specs.Layout.{counterLimit, kindFrom, wantFrom, calledFrom, unfinishedFrom, pendFrom, busyFrom, serverLength, ageOf, arrivalOf, agesOf, arrivalsOf, workNumber, latestOf, askedOf, wholeForOf, lockOf, wholeOf, readSetFrom, writtenSetFrom, kindOf, wantOf, requestOf, calledOf, pendOf, busyOf, unfinishedOf, ageKeptFrom, ageKeptOf, lockingB, keepsB}
+use Rattle.server_state.specs.Valid.{mostAt, most, rangesOk, countersOk, onlyIn, pageOnly, blankOk, fewOk, commitOk, writeOk, requestOk, waiterOk, entryOk, owesAt, callsOk, agedOk, stationOk, holderOk, holderAt, besideAt, givenOk, wholeOk, pageOk, askedAt, apartAt, apartOk, valid, ageless}
 use Rattle.server_state.specs.Sets.{members-only}
 use Rattle.server_state.specs.Pages.{members-page}
 use Rattle.server_meaning.specs.Meant.{wantAs, Is}
-use Rattle.server_meaning.specs.Tests.{bit-is, kind-at, lock-at, whole-at, latest-at, fin-at, age-at, ages-at, arrival-at, arrivals-at, request-at, called-at, want-at, waits-at, asked-at, pend-at, busy-at, ageless-at}
+use Rattle.server_meaning.specs.Tests.{bit-is, kind-at, lock-at, whole-at, wholeFor-at, latest-at, fin-at, age-at, ages-at, arrival-at, arrivals-at, request-at, called-at, want-at, waits-at, asked-at, pend-at, busy-at, ageless-at}
 use Rattle.line_bytes.specs.Fits.{wantNumber, read-member, written-member, number-at, reads-count, writes-count}
 use Rattle.line_bytes.specs.Flags.{Flagged}
 
@@ -85,7 +86,7 @@ module _ {s : List ℕ} {m : Server} (h : Is s m) (k : Flagged s) (f : Fit m) wh
       (both _ _
       (both _ _
       (both _ _
-      (allTo-of (mostAt s kindFrom 1) 8 (λ i l. le-leb (kindOf s i) 1 (rw (kind-at h i l) (f .forms .kinds i))))
+      (allTo-of (mostAt s kindFrom mostKind) 8 (λ i l. le-leb (kindOf s i) mostKind (rw (kind-at h i l) (f .forms .kinds i))))
       (allTo-of (mostAt s wantFrom 3) 8 (λ i l. le-leb (wantOf s i) 3 (k .wants i l))))
       (allTo-of (mostAt s calledFrom 1) 8 (λ i l. le-leb (calledOf s i) 1 (k .calleds i l))))
       (allTo-of (mostAt s unfinishedFrom 1) 8 (λ i l. le-leb (unfinishedOf s i) 1 (k .unfinisheds i l))))
@@ -103,8 +104,8 @@ module _ {s : List ℕ} {m : Server} (h : Is s m) (k : Flagged s) (f : Fit m) wh
   working : (i : ℕ) → i < 8 → m .fin i ≡ false → unfinishedOf s i ≢ 0
   working i l e = eqb-false (unfinishedOf s i) 0 (fin-at h i l ∙ e)
 
-  locks-at : (i : ℕ) → i < 8 → locking (m .kind i) ≡ true → kindOf s i ≡ 0
-  locks-at i l e = kind-at h i l ∙ eqb-yes (m .kind i) 0 e
+  locks-at : (i : ℕ) → i < 8 → locking (m .kind i) ≡ true → lockingB s i ≡ true
+  locks-at i l e = ap locking (kind-at h i l) ∙ e
 
   -- A STATION
 
@@ -166,7 +167,7 @@ module _ {s : List ℕ} {m : Server} (h : Is s m) (k : Flagged s) (f : Fit m) wh
     commit-ok e =
         let w : m .queue i .want ≡ WantCommit = want-at h i l ∙ rw e refl in
         let o = form .commit w in
-        let kind : kindOf s i ≡ 1 = omega (arith, kind-at h i l, f .forms .kinds i, eqb-no (m .kind i) 0 (entry .commits-validate w)) in
+        let kind : kindOf s i ≡ 1 = kind-at h i l ∙ eqb-yes (m .kind i) 1 (not-no (eqb (m .kind i) 1) (entry .commits-validate w)) in
         both _ _
         (both _ _ (both _ _ (eq-eqb (kindOf s i) 1 kind) (eq-eqb (requestOf s i) 0 (request-at h i l ∙ o .req-is)))
         (eq-eqb (workNumber s i) (latestOf s i) (number-at h i l e ∙ o .latest-is ∙ sym (latest-at h i l))))
@@ -179,12 +180,12 @@ module _ {s : List ℕ} {m : Server} (h : Is s m) (k : Flagged s) (f : Fit m) wh
         (λ e.
         let w : m .queue i .want ≡ WantRead = want-at h i l ∙ rw (eqb-yes (wantOf s i) 1 e) refl in
         let o = form .read w in
-        both _ _ (eq-eqb (kindOf s i) 0 (locks-at i l (entry .reads-lock w))) (rw e (both _ _ (only-read (o .asked-for)) (none-written (o .nothing-else)))))
+        both _ _ (locks-at i l (entry .reads-lock w)) (rw e (both _ _ (only-read (o .asked-for)) (none-written (o .nothing-else)))))
         (λ e.
         let two : wantOf s i ≡ 2 = omega (arith, k .wants i l, n0, n3, eqb-no (wantOf s i) 1 e) in
         let w : m .queue i .want ≡ WantWrite = want-at h i l ∙ rw two refl in
         let o = form .write w in
-        both _ _ (eq-eqb (kindOf s i) 0 (locks-at i l (entry .writes-lock w))) (rw e (write-ok o)))
+        both _ _ (locks-at i l (entry .writes-lock w)) (rw e (write-ok o)))
 
     waiter-ok : wantOf s i ≢ 0 → waiterOk s i ≡ true
     unfolding waiterOk
@@ -223,7 +224,7 @@ module _ {s : List ℕ} {m : Server} (h : Is s m) (k : Flagged s) (f : Fit m) wh
     unfolding owesAt
     owes-ok j lj =
         unless-not (hasBit (pendOf s i) j) _
-        (λ t. let o = form .owed j (sym (pend-at h i j l) ∙ t) in both (not (eqb j i)) (eqb (kindOf s j) 0) (ap not (o .another)) (eq-eqb (kindOf s j) 0 (locks-at j lj (o .locks))))
+        (λ t. let o = form .owed j (sym (pend-at h i j l) ∙ t) in both (not (eqb j i)) (lockingB s j) (ap not (o .another)) (locks-at j lj (o .locks)))
 
     calls-ok : callsOk s i ≡ true
     unfolding callsOk
@@ -256,7 +257,7 @@ module _ {s : List ℕ} {m : Server} (h : Is s m) (k : Flagged s) (f : Fit m) wh
       let z = o g refl in
       let one : suc g - 1 ≡ g = omega arith in
       or-r (eqb (suc g) 0) _
-      (rw one (both _ _ (both _ _ (le-leb (suc g) 8 (z .station)) (eq-eqb (kindOf s g) 0 (locks-at g (z .station) (z .locks)))) (not-0 (unfinishedOf s g) (working g (z .station) (z .unfinished)))))
+      (rw one (both _ _ (both _ _ (le-leb (suc g) 8 (z .station)) (locks-at g (z .station) (z .locks))) (not-0 (unfinishedOf s g) (working g (z .station) (z .unfinished)))))
 
   -- "a whole lock beside another's lock on that page"
   beside : (p o : ℕ) → p < 32 → o < 8 → wholeOf s p ≢ 0 → lockOf s (p * 8 + o) ≢ 0 → lockOf s (p * 8 + o) ≡ wholeOf s p
@@ -272,15 +273,44 @@ module _ {s : List ℕ} {m : Server} (h : Is s m) (k : Flagged s) (f : Fit m) wh
           let z : j ≡ g = f .apart .locks .whole-alone j g (p * 8 + o) (omega arith) (rw on a) b in
           q ∙ ap suc z ∙ sym e
 
-  page-ok : (p : ℕ) → p < 32 → pageOk s p ≡ true
-  unfolding pageOk besideAt holderAt
-  page-ok p l =
-      either (eqb (wholeOf s p) 0) (allTo (holderAt s p) 8) (holderOk s (wholeOf s p) && allTo (besideAt s p) 8)
-      (λ e. allTo-of (holderAt s p) 8 (λ o lo. holder-ok (lockOf s (p * 8 + o)) (λ g q. f .apart .locks .object-open g (p * 8 + o) (sym (lock-at h (p * 8 + o) (omega arith)) ∙ q))))
+  -- the transaction that a whole lock of station g was given to
+  given-ok : (g t : ℕ) → WholeHolder (m .kind) (m .fin) g → GivenTo (m .kind g) (m .latest g) t → t ≢ 0 → givenOk s g t ≡ true
+  unfolding givenOk
+  given-ok g t w d n =
+      let l = w .station in
+      both _ _ (not-0 t n)
+      (either (keepsB s g) (leb t (latestOf s g)) (not (eqb (unfinishedOf s g) 0) && eqb t (latestOf s g)) (λ e. le-leb t (latestOf s g) (rw (latest-at h g l) (d .seen)))
       (λ e.
-      both _ _ (holder-ok (wholeOf s p) (λ g q. f .apart .locks .whole-open g p (sym (whole-at h p l) ∙ q)))
-      (allTo-of (besideAt s p) 8
-      (λ o lo. unless-0 (lockOf s (p * 8 + o)) _ (λ n. eq-eqb (lockOf s (p * 8 + o)) (wholeOf s p) (beside p o l lo (eqb-no (wholeOf s p) 0 e) n)))))
+      let no : keeps (m .kind g) ≡ false = ap keeps (sym (kind-at h g l)) ∙ e in
+      both _ _ (not-0 (unfinishedOf s g) (working g l (w .unfinished no))) (eq-eqb t (latestOf s g) (d .latest-is no ∙ sym (latest-at h g l)))))
+
+  besides : (p : ℕ) → p < 32 → wholeOf s p ≢ 0 → allTo (besideAt s p) 8 ≡ true
+  unfolding besideAt
+  besides p l e =
+      allTo-of (besideAt s p) 8
+      (λ o lo. unless-0 (lockOf s (p * 8 + o)) _ (λ n. eq-eqb (lockOf s (p * 8 + o)) (wholeOf s p) (beside p o l lo e n)))
+
+  whole-ok : (p : ℕ) → p < 32 → wholeOk s p ≡ true
+  unfolding wholeOk
+  whole-ok p l =
+      let g = wholeOf s p - 1 in
+      either (eqb (wholeOf s p) 0) (eqb (wholeForOf s p) 0) (leb (wholeOf s p) 8 && lockingB s g && givenOk s g (wholeForOf s p) && allTo (besideAt s p) 8)
+      (λ e. eq-eqb (wholeForOf s p) 0 (wholeFor-at h p l ∙ f .apart .locks .none-given p (sym (whole-at h p l) ∙ eqb-yes (wholeOf s p) 0 e)))
+      (λ e.
+      let n = eqb-no (wholeOf s p) 0 e in
+      let q : m .wl p ≡ suc g = omega (arith, whole-at h p l, n) in
+      let w = f .apart .locks .whole-open g p q in
+      let d : GivenTo (m .kind g) (m .latest g) (wholeForOf s p) = rw (wholeFor-at h p l) (f .apart .locks .given g p q) in
+      both _ _
+      (both _ _ (both _ _ (le-leb (wholeOf s p) 8 (omega (arith, w .station, n))) (locks-at g (w .station) (w .locks)))
+      (given-ok g (wholeForOf s p) w d (λ z. f .given g p q (sym (wholeFor-at h p l) ∙ z))))
+      (besides p l n))
+
+  page-ok : (p : ℕ) → p < 32 → pageOk s p ≡ true
+  unfolding pageOk holderAt
+  page-ok p l =
+      both _ _ (whole-ok p l)
+      (allTo-of (holderAt s p) 8 (λ o lo. holder-ok (lockOf s (p * 8 + o)) (λ g q. f .apart .locks .object-open g (p * 8 + o) (sym (lock-at h (p * 8 + o) (omega arith)) ∙ q))))
 
   asked-ok : (p : ℕ) → p < 32 → askedAt s p ≡ true
   unfolding askedAt

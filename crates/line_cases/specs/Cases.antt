@@ -26,7 +26,7 @@ use Rattle.line_cases.specs.Seen.{Step, seenB}
 use Rattle.line_cases.specs.Shown.{inBytes, allRight, seen-is}
 use Rattle.line_cases.specs.Archived.{joined, archive-is}
 use Rattle.line_cases.specs.Rows.{kinds, OfLine, calls, Runs, Comes, PartHolds, Holds, AllHold}
-use Rattle.line_cases.specs.Table.{C1, C2, C3, C4, C5, C6, C7, C8, C9, C10, C11, commits12, readOf8By1, C12, longReads, longWrites, longCommits, neighboursCommit, arrivesOver, sameObject, usedAndUnused, setWhole, setObjects, setBlocked, setCycle, setEdges, setUnavailable, setShown, setAtOnce, setPartly, setRange, setLong, table, C6Again, inUse, wroteNine, besideWhole}
+use Rattle.line_cases.specs.Table.{C1, C2, C3, C4, C5, C6, C7, C8, C9, C10, C11, commits12, readOf8By1, C12, longReads, longWrites, longCommits, neighboursCommit, arrivesOver, sameObject, usedAndUnused, setWhole, setObjects, setBlocked, setCycle, setEdges, setUnavailable, setShown, setAtOnce, setPartly, setRange, setLong, keepAlone, keepIdleRead, keepOpenRead, keepCommitOut, keepWrite, keepCommit, keepAbort, keepAsked, keepCallback, table, C6Again, inUse, wroteNine, besideWhole}
 
 kinds-ok : kindsOk kinds ≡ true
 unfolding kindsOk most mostAt allTo
@@ -191,10 +191,47 @@ setLong-holds : Holds setLong
 unfolding setLong seen message bytes bytesOf header
 setLong-holds = (runs _ _ refl refl refl, tt)
 
--- C1 to C12, the limit, the versions by object and the sets, of the steps over bytes
+-- wish 10
+keepAlone-holds : Holds keepAlone
+unfolding keepAlone seen message bytes bytesOf header
+keepAlone-holds = (runs _ _ refl refl refl, tt)
+
+keepIdleRead-holds : Holds keepIdleRead
+unfolding keepIdleRead seen message bytes bytesOf header
+keepIdleRead-holds = (runs _ _ refl refl refl, tt)
+
+keepOpenRead-holds : Holds keepOpenRead
+unfolding keepOpenRead seen message bytes bytesOf header
+keepOpenRead-holds = (runs _ _ refl refl refl, tt)
+
+keepCommitOut-holds : Holds keepCommitOut
+unfolding keepCommitOut seen message bytes bytesOf header
+keepCommitOut-holds = (runs _ _ refl refl refl, tt)
+
+keepWrite-holds : Holds keepWrite
+unfolding keepWrite seen message bytes bytesOf header
+keepWrite-holds = (runs _ _ refl refl refl, tt)
+
+keepCommit-holds : Holds keepCommit
+unfolding keepCommit seen message bytes bytesOf header
+keepCommit-holds = (runs _ _ refl refl refl, tt)
+
+keepAbort-holds : Holds keepAbort
+unfolding keepAbort seen message bytes bytesOf header
+keepAbort-holds = (runs _ _ refl refl refl, tt)
+
+keepAsked-holds : Holds keepAsked
+unfolding keepAsked seen message bytes bytesOf header
+keepAsked-holds = (runs _ _ refl refl refl, tt)
+
+keepCallback-holds : Holds keepCallback
+unfolding keepCallback seen message bytes bytesOf header
+keepCallback-holds = (runs _ _ refl refl refl, tt)
+
+-- C1 to C12, the limit, the versions by object, the sets and the keeping heads, of the steps over bytes
 pub table-of-bytes : AllHold table
 unfolding table
-table-of-bytes = (C1-holds, (C2-holds, (C3-holds, (C4-holds, (C5-holds, (C6-holds, (C7-holds, (C8-holds, (inUse-holds, (wroteNine-holds, (besideWhole-holds, (C9-holds, (C10-holds, (C11-holds, (C12-holds, (longReads-holds, (longWrites-holds, (longCommits-holds, (neighboursCommit-holds, (arrivesOver-holds, (sameObject-holds, (usedAndUnused-holds, (setWhole-holds, (setObjects-holds, (setBlocked-holds, (setCycle-holds, (setEdges-holds, (setUnavailable-holds, (setShown-holds, (setAtOnce-holds, (setPartly-holds, (setRange-holds, (setLong-holds, tt)))))))))))))))))))))))))))))))))
+table-of-bytes = (C1-holds, (C2-holds, (C3-holds, (C4-holds, (C5-holds, (C6-holds, (C7-holds, (C8-holds, (inUse-holds, (wroteNine-holds, (besideWhole-holds, (C9-holds, (C10-holds, (C11-holds, (C12-holds, (longReads-holds, (longWrites-holds, (longCommits-holds, (neighboursCommit-holds, (arrivesOver-holds, (sameObject-holds, (usedAndUnused-holds, (setWhole-holds, (setObjects-holds, (setBlocked-holds, (setCycle-holds, (setEdges-holds, (setUnavailable-holds, (setShown-holds, (setAtOnce-holds, (setPartly-holds, (setRange-holds, (setLong-holds, (keepAlone-holds, (keepIdleRead-holds, (keepOpenRead-holds, (keepCommitOut-holds, (keepWrite-holds, (keepCommit-holds, (keepAbort-holds, (keepAsked-holds, (keepCallback-holds, tt))))))))))))))))))))))))))))))))))))))))))
 
 -- wish 2
 pub C6-again-of-bytes : Holds C6Again

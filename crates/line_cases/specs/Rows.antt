@@ -15,9 +15,9 @@ use Rattle.line_bytes.specs.Bytes.{freshB, CallB, runB}
 use Rattle.line_bytes.specs.Whole.{namesOf, AllRoom}
 use Rattle.line_cases.specs.Seen.{Step, seenB}
 
--- "locking 0 and 2, validating 1"; and for document 02's wish 6 a second validating head, 3
+-- "locking 0 and 2, validating 1"; for document 02's wish 6 a second validating head, 3, and for its wish 10 a keeping one, 5
 abbrev pub kinds : List ℕ
-kinds = 0 ∷ 1 ∷ 0 ∷ 1 ∷ 0 ∷ 0 ∷ 0 ∷ 0 ∷ []
+kinds = 0 ∷ 1 ∷ 0 ∷ 1 ∷ 0 ∷ 2 ∷ 0 ∷ 0 ∷ []
 
 -- what a case says, in parts
 pub data Part : Type 0 where

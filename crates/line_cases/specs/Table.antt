@@ -1,4 +1,4 @@
--- Document 01's cases C1 to C12, C8 as document 02's wish 11 has it, and its wishes 1, 6 and 9, as one table: of each call its answer, the bytes
+-- Document 01's cases C1 to C12, C8 as document 02's wish 11 has it, and its wishes 1, 6, 9 and 10, as one table: of each call its answer, the bytes
 -- of the messages that it sends and the bytes that it archives. 8 is page 1, object 0; 9 is page 1, object 1.
 use Prim.Native.Nat.{ℕ, zero, suc, _+_, _*_, _-_}
 use mathlib.Core.List.{List, [], _∷_, _++_}
@@ -47,9 +47,12 @@ versions (v ∷ l) = padded versionWidth (v ∷ []) ++ versions l
 abbrev commit : ℕ → ℕ → ℕ → List ℕ → List ℕ → List ℕ
 commit i t d v r = message 3 i 0 0 t d 0 [] ++ (versions v ++ r)
 
--- 16, 17 or 18 of page 1 with these values and versions: kind, station, object, transaction
+-- 16, 17 or 18 of page 1 with these values and versions, without the objects u: kind, station, object, transaction
+abbrev pageWithout : List ℕ → ℕ → ℕ → ℕ → ℕ → List ℕ → List ℕ → List ℕ
+pageWithout u k i o t x v = message k i 1 o t 0 0 (padded setsLength u ++ (padded valuesLength (values x) ++ versions v))
+
 abbrev pageOne : ℕ → ℕ → ℕ → ℕ → List ℕ → List ℕ → List ℕ
-pageOne k i o t x v = message k i 1 o t 0 0 (padded setsLength [] ++ (padded valuesLength (values x) ++ versions v))
+pageOne = pageWithout []
 
 -- PARTS OF ROWS
 
@@ -795,8 +798,229 @@ setLong =
     []
     ∷ [])
 
+-- WISH 10, HEADS THAT KEEP THE PAGE: station 5 is a head alone on its counters, 8 and 9
+
+-- it asks for page 1 by its first write, 1 to 8, and gets it whole
+abbrev getsPage : List Step
+getsPage =
+    answers (Owner 5 Begin) (Begun 1)
+    ∷ sends (Owner 5 (Write 8 1)) Waits (message 2 5 1 0 1 0 0 (1 ∷ []) ∷ [])
+    ∷ serves 5 (message 18 5 1 0 1 0 0 [] ∷ [])
+    ∷ answers (StationTakes 5) Written
+    ∷ []
+
+-- the record of its transaction t, which wrote v to 8 alone, as commit n
+abbrev keepers : ℕ → ℕ → ℕ → List ℕ
+keepers n t v = recorded 0 1 n t 5 2 (8 ∷ []) (v ∷ [])
+
+abbrev asksToCommit : ℕ → ℕ → Step
+asksToCommit t v = sends (Owner 5 Commits) Waits (commit 5 t 2 (0 ∷ []) (keepers 0 t v) ∷ [])
+
+abbrev keeperCommits : ℕ → ℕ → ℕ → List Step
+keeperCommits t v n = asksToCommit t v ∷ step (ServerTakes 5) Nothing (message 21 5 0 0 t 0 n [] ∷ []) (keepers n t v) ∷ answers (StationTakes 5) (CommittedAs n) ∷ []
+
+-- it has committed once, and keeps the page
+abbrev keepsPage : List Step
+keepsPage = getsPage ++ keeperCommits 1 1 1
+
+-- its next transaction t: begin and a write of t to 8 send nothing
+abbrev writesHere : ℕ → List Step
+writesHere t = answers (Owner 5 Begin) (Begun t) ∷ answers (Owner 5 (Write 8 t)) Written ∷ []
+
+-- n such transactions, from t on, and their records
+abbrev countsOn : ℕ → ℕ → List Step
+countsOn zero t = []
+countsOn (suc n) t = writesHere t ++ keeperCommits t t t ++ countsOn n (suc t)
+
+abbrev keepersFrom : ℕ → ℕ → List ℕ
+keepersFrom zero t = []
+keepersFrom (suc n) t = keepers t t t ++ keepersFrom n (suc t)
+
+unfoldable pub keepAlone : Row
+keepAlone =
+    row "A head alone on its counters commits ten times with one write request." (OfLine (keepsPage ++ countsOn 9 2) (keepersFrom 10 1) ∷ [])
+
+-- the page as it was committed once, to station i for object o of transaction t; u are unavailable
+abbrev committedOnce : List ℕ → ℕ → ℕ → ℕ → ℕ → List ℕ
+committedOnce u k i o t = pageWithout u k i o t (1 ∷ []) (1 ∷ [])
+
+-- 2 reads 9: 19 goes at once, and names the 18's transaction
+abbrev readTakesBack : List Step
+readTakesBack =
+    answers (Owner 2 Begin) (Begun 1)
+    ∷ sends (Owner 2 (Read 9)) Waits (message 1 2 1 1 1 0 0 [] ∷ [])
+    ∷ serves 2 (message 19 5 1 0 1 0 0 [] ∷ [])
+    ∷ []
+
+-- the head gives up the page, its transaction t having written u there
+abbrev givesUp : ℕ → List ℕ → Step
+givesUp t u = sends (StationTakes 5) Nothing (message 8 5 1 0 t 0 0 u ∷ [])
+
+unfoldable pub keepIdleRead : Row
+keepIdleRead =
+    row "Another's read takes the page back, the head idle: its 8 names the 18's transaction, with no set."
+    (OfLine
+    (keepsPage ++ readTakesBack
+    ++ (givesUp 1 []
+    ∷ serves 5 (committedOnce [] 16 2 1 1 ∷ [])
+    ∷ answers (StationTakes 2) (Value 0)
+    ∷ answers (Owner 5 Begin) (Begun 2)
+    ∷ answers (Owner 5 (Read 8)) (Value 1)
+    ∷ sends (Owner 5 (Write 8 2)) Waits (message 2 5 1 0 2 0 0 (1 ∷ []) ∷ [])
+    ∷ []))
+    (keepers 1 1 1)
+    ∷ [])
+
+-- transaction 2 of the head is open, and the server has not met it
+unfoldable pub keepOpenRead : Row
+keepOpenRead =
+    row "The head open: 8 names its open transaction, which the server meets through it, and what it wrote there is locked."
+    (OfLine
+    (keepsPage ++ writesHere 2 ++ readTakesBack
+    ++ (givesUp 2 (1 ∷ [])
+    ∷ serves 5 (committedOnce (1 ∷ []) 16 2 1 1 ∷ [])
+    ∷ answers (StationTakes 2) (Value 0)
+    ∷ sends (Owner 2 (Read 8)) Waits (message 1 2 1 0 1 0 0 [] ∷ [])
+    ∷ serves 2 []
+    ∷ sends (Owner 5 (Write 10 7)) Waits (message 2 5 1 0 2 0 0 (4 ∷ []) ∷ [])
+    ∷ []))
+    (keepers 1 1 1)
+    ∷ [])
+
+unfoldable pub keepCommitOut : Row
+keepCommitOut =
+    row "The head with its commit out: the 8 comes behind the 3, of a transaction that is finished then; it is heeded, and nothing is locked."
+    (OfLine
+    (keepsPage ++ writesHere 2
+    ++ (asksToCommit 2 2 ∷ readTakesBack)
+    ++ (givesUp 2 (1 ∷ [])
+    ∷ step (ServerTakes 5) Nothing (message 21 5 0 0 2 0 2 [] ∷ []) (keepers 2 2 2)
+    ∷ serves 5 (pageOne 16 2 1 1 (2 ∷ []) (2 ∷ []) ∷ [])
+    ∷ []))
+    (keepersFrom 2 1)
+    ∷ [])
+
+-- 2 writes 8; the copy of 5 goes by a callback then
+unfoldable pub keepWrite : Row
+keepWrite =
+    row "Another's write takes the page back: 19, 8, then 20 and 18."
+    (OfLine
+    (keepsPage
+    ++ (answers (Owner 2 Begin) (Begun 1)
+    ∷ sends (Owner 2 (Write 8 9)) Waits (message 2 2 1 0 1 0 0 (1 ∷ []) ∷ [])
+    ∷ serves 2 (message 19 5 1 0 1 0 0 [] ∷ [])
+    ∷ givesUp 1 []
+    ∷ serves 5 (message 20 5 2 0 1 0 0 (0 ∷ 1 ∷ []) ∷ [])
+    ∷ sends (StationTakes 5) Nothing (message 7 5 2 0 1 2 0 [] ∷ [])
+    ∷ serves 5 (committedOnce [] 18 2 0 1 ∷ [])
+    ∷ answers (StationTakes 2) Written
+    ∷ []))
+    (keepers 1 1 1)
+    ∷ [])
+
+-- 1 commits a write of 9, whose page it has asked for before
+unfoldable pub keepCommit : Row
+keepCommit =
+    row "Another's commit takes the page back: 19, 8, 20 to the head's copy, 7, 21."
+    (OfLine
+    (keepsPage
+    ++ (answers (Owner 1 Begin) (Begun 1)
+    ∷ sends (Owner 1 (Write 9 4)) Waits (message 1 1 1 1 1 0 0 [] ∷ [])
+    ∷ serves 1 (committedOnce [] 16 1 1 1 ∷ [])
+    ∷ answers (StationTakes 1) Written
+    ∷ sends (Owner 1 Commits) Waits (commit 1 1 2 (0 ∷ []) (recorded 0 1 0 1 1 1 (9 ∷ []) (4 ∷ [])) ∷ [])
+    ∷ serves 1 (message 19 5 1 0 1 0 0 [] ∷ [])
+    ∷ givesUp 1 []
+    ∷ serves 5 (message 20 5 1 0 1 0 0 (0 ∷ 2 ∷ []) ∷ [])
+    ∷ sends (StationTakes 5) Nothing (message 7 5 1 0 1 2 0 [] ∷ [])
+    ∷ step (ServerTakes 5) Nothing (message 21 1 0 0 1 0 2 [] ∷ []) (recorded 0 1 2 1 1 1 (9 ∷ []) (4 ∷ []))
+    ∷ []))
+    (keepers 1 1 1 ++ recorded 0 1 2 1 1 1 (9 ∷ []) (4 ∷ []))
+    ∷ [])
+
+unfoldable pub keepAbort : Row
+keepAbort =
+    row "An abort under the kept lock marks what was written: a read behind it asks by 1, a write is local, and the page is not purged."
+    (OfLine
+    (keepsPage ++ writesHere 2
+    ++ (sends (Owner 5 Aborts) (AbortedFor 0) (message 4 5 0 0 2 0 0 [] ∷ [])
+    ∷ answers (Owner 5 (Purges 1)) (Refused 10)
+    ∷ serves 5 []
+    ∷ answers (Owner 5 Begin) (Begun 3)
+    ∷ sends (Owner 5 (Read 8)) Waits (message 1 5 1 0 3 0 0 [] ∷ [])
+    ∷ serves 5 (committedOnce [] 16 5 0 3 ∷ [])
+    ∷ answers (StationTakes 5) (Value 1)
+    ∷ answers (Owner 5 (Write 8 3)) Written
+    ∷ []))
+    (keepers 1 1 1)
+    ∷ [])
+
+-- 1 is blocked by 2, which waits to write 16, in use at 0; 1 wants 16 and, of the head's page, 9
+unfoldable pub keepAsked : Row
+keepAsked =
+    row "19 goes even for one that is blocked, and once for each 18, whatever transactions end."
+    (OfLine
+    (keepsPage
+    ++ (answers (Owner 0 Begin) (Begun 1)
+    ∷ sends (Owner 0 (Read 16)) Waits (message 1 0 2 0 1 0 0 [] ∷ [])
+    ∷ serves 0 (message 16 0 2 0 1 0 0 [] ∷ [])
+    ∷ answers (StationTakes 0) (Value 0)
+    ∷ answers (Owner 2 Begin) (Begun 1)
+    ∷ sends (Owner 2 (Write 16 5)) Waits (message 2 2 2 0 1 0 0 (1 ∷ []) ∷ [])
+    ∷ serves 2 (message 20 0 2 0 1 0 0 (0 ∷ 0 ∷ 1 ∷ []) ∷ [])
+    ∷ sends (StationTakes 0) Nothing (message 6 0 2 0 1 0 0 [] ∷ [])
+    ∷ serves 0 []
+    ∷ answers (Owner 1 Begin) (Begun 1)
+    ∷ sends (Owner 1 (Read 16)) Waits (message 1 1 2 0 1 0 0 [] ∷ [])
+    ∷ serves 1 (message 16 1 2 0 1 0 0 [] ∷ [])
+    ∷ answers (StationTakes 1) (Value 0)
+    ∷ sends (Owner 1 (Write 9 4)) Waits (message 1 1 1 1 1 0 0 [] ∷ [])
+    ∷ serves 1 (committedOnce [] 16 1 1 1 ∷ [])
+    ∷ answers (StationTakes 1) Written
+    ∷ sends (Owner 1 Commits) Waits (commit 1 1 6 (0 ∷ 0 ∷ []) (recorded 1 1 0 1 1 1 (16 ∷ 9 ∷ []) (0 ∷ 4 ∷ [])) ∷ [])
+    ∷ serves 1 (message 19 5 1 0 1 0 0 [] ∷ [])
+    ∷ (writesHere 2 ++ (sends (Owner 5 Aborts) (AbortedFor 0) (message 4 5 0 0 2 0 0 [] ∷ []) ∷ serves 5 [] ∷ []))))
+    (keepers 1 1 1)
+    ∷ [])
+
+-- the head's record when it has read 8 and written 8 and 16, as commit n
+abbrev wroteBoth : ℕ → List ℕ
+wroteBoth n = recorded 1 2 n 1 5 2 (8 ∷ 8 ∷ 16 ∷ []) (0 ∷ 1 ∷ 3 ∷ [])
+
+-- 5 has read 8 and 2 waits to write it; 2 has read 16 and 5 waits to write it: 2 is the younger
+unfoldable pub keepCallback : Row
+keepCallback =
+    row "A callback kept for one that was aborted since, done under the kept lock: what it names is marked, and the page is not dropped."
+    (OfLine
+    (reads 5 0
+    ++ (answers (Owner 2 Begin) (Begun 1)
+    ∷ sends (Owner 2 (Read 16)) Waits (message 1 2 2 0 1 0 0 [] ∷ [])
+    ∷ serves 2 (message 16 2 2 0 1 0 0 [] ∷ [])
+    ∷ answers (StationTakes 2) (Value 0)
+    ∷ sends (Owner 2 (Write 8 9)) Waits (message 2 2 1 0 1 0 0 (1 ∷ []) ∷ [])
+    ∷ serves 2 (message 20 5 2 0 1 0 0 (0 ∷ 1 ∷ []) ∷ [])
+    ∷ sends (StationTakes 5) Nothing (message 6 5 2 0 1 0 0 [] ∷ [])
+    ∷ serves 5 []
+    ∷ sends (Owner 5 (Write 16 3)) Waits (message 2 5 2 0 1 0 0 (1 ∷ []) ∷ [])
+    ∷ serves 5 (message 20 2 5 0 1 0 0 (0 ∷ 0 ∷ 1 ∷ []) ∷ [])
+    ∷ sends (StationTakes 2) Nothing (message 6 2 5 0 1 0 0 [] ∷ [])
+    ∷ serves 2 (loses ∷ [])
+    ∷ sends (StationTakes 2) (AbortedFor 1) (message 7 2 5 0 1 4 0 [] ∷ [])
+    ∷ serves 2 (message 18 5 2 0 1 0 0 [] ∷ [])
+    ∷ answers (StationTakes 5) Written
+    ∷ sends (Owner 5 (Write 8 1)) Waits (message 2 5 1 0 1 0 0 (1 ∷ []) ∷ [])
+    ∷ serves 5 (message 18 5 1 0 1 0 0 [] ∷ [])
+    ∷ answers (StationTakes 5) Written
+    ∷ sends (Owner 5 Commits) Waits (commit 5 1 6 (0 ∷ 0 ∷ 0 ∷ []) (wroteBoth 0) ∷ [])
+    ∷ step (ServerTakes 5) Nothing (message 21 5 0 0 1 0 1 [] ∷ []) (wroteBoth 1)
+    ∷ sends (StationTakes 5) (CommittedAs 1) (message 7 5 2 0 1 0 0 [] ∷ [])
+    ∷ serves 5 []
+    ∷ writesHere 2))
+    (wroteBoth 1)
+    ∷ [])
+
 unfoldable pub table : List Row
-table = C1 ∷ C2 ∷ C3 ∷ C4 ∷ C5 ∷ C6 ∷ C7 ∷ C8 ∷ inUse ∷ wroteNine ∷ besideWhole ∷ C9 ∷ C10 ∷ C11 ∷ C12 ∷ longReads ∷ longWrites ∷ longCommits ∷ neighboursCommit ∷ arrivesOver ∷ sameObject ∷ usedAndUnused ∷ setWhole ∷ setObjects ∷ setBlocked ∷ setCycle ∷ setEdges ∷ setUnavailable ∷ setShown ∷ setAtOnce ∷ setPartly ∷ setRange ∷ setLong ∷ []
+table = C1 ∷ C2 ∷ C3 ∷ C4 ∷ C5 ∷ C6 ∷ C7 ∷ C8 ∷ inUse ∷ wroteNine ∷ besideWhole ∷ C9 ∷ C10 ∷ C11 ∷ C12 ∷ longReads ∷ longWrites ∷ longCommits ∷ neighboursCommit ∷ arrivesOver ∷ sameObject ∷ usedAndUnused ∷ setWhole ∷ setObjects ∷ setBlocked ∷ setCycle ∷ setEdges ∷ setUnavailable ∷ setShown ∷ setAtOnce ∷ setPartly ∷ setRange ∷ setLong ∷ keepAlone ∷ keepIdleRead ∷ keepOpenRead ∷ keepCommitOut ∷ keepWrite ∷ keepCommit ∷ keepAbort ∷ keepAsked ∷ keepCallback ∷ []
 
 -- WISH 2: "A beaten transaction keeps its age."
 

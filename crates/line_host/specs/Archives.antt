@@ -70,7 +70,8 @@ module _ (i : ℕ) (x : Serving) (h : AnsweredBy x) where
         busy-late = λ r t e. h;
         dones = λ r t d e. h;
         done-late = λ r t d e. h;
-        loosens = λ p t set e. h;
+        loosens = λ p t set e l. h;
+        loosens-new = λ p t set e k r. noticed t;
         loosens-late = λ p t set e. h;
       })
 

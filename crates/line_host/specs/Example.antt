@@ -55,7 +55,7 @@ module _ (o c t m q u : List ℕ) (lo : stationRoom ≤ length o) (lc : commitRo
 
   aborts-computed : (historyM (namesH aborts) (fresh (λ i. getD kinds i 0)) ≡ Began 0 1 ∷ Archived 0 0 ∷ EndedByOwner 0 1 ∷ [])
       × ((run (namesH aborts) (fresh (λ i. getD kinds i 0))) .told ≡ ToldRead 0 1 8 0 ∷ ToldAbort 0 1 0 ∷ [])
-  unfolding size recordRead writeLocal writeSet dropPages mark doCallback doKept doAllKept closed close undo ownBegin readLocal readAsk readAs ownRead writeAsk ownWrite ownCommit ownAbort ownPurge arrive takeLock answerWait onPage loosen onDeescalate onCallback onCommitted onAborted onInvalidate onDown stationStep S.notice S.finish S.join S.leave S.sendPage S.abort S.write S.archive S.inform S.informFrom S.install S.serveNow S.joinRead S.joinWrite S.joinCommit S.commitNow S.unlist S.markBusy S.answered S.loosen S.accept S.ask S.askFrom S.serveRead S.call S.grantPage S.grantObject S.grant S.installWaiter S.callOnce S.afterCalls S.proceed S.gates S.visit S.pass S.settle S.serverStep act tell tellWrites carryDown carryUp perform ownerActs stationTakes serverTakes run archiveOf bytesOf header bytes entriesOf entriesFrom
+  unfolding size recordRead writeLocal writeSet dropPages mark doCallback doKept doAllKept closed close undo ownBegin readLocal readAsk readAs ownRead writeAsk ownWrite ownCommit ownAbort ownPurge arrive takeLock answerWait onPage loosen onDeescalate onCallback onCommitted onAborted onInvalidate onDown stationStep S.notice S.finish S.join S.leave S.sendPage S.abort S.write S.archive S.inform S.informFrom S.install S.serveNow S.joinRead S.joinWrite S.joinCommit S.commitNow S.unlist S.markBusy S.answered S.loosen S.meet S.heed S.accept S.ask S.askFrom S.askKeepers S.serveRead S.call S.grantPage S.grantObject S.grant S.installWaiter S.callOnce S.afterCalls S.proceed S.gates S.judge S.visit S.pass S.settle S.serverStep act tell tellWrites carryDown carryUp perform ownerActs stationTakes serverTakes run archiveOf bytesOf header bytes entriesOf entriesFrom
   aborts-computed = (refl, refl)
 
   pub aborts-happened : (runH aborts (freshH kinds)) .history ≡ Began 0 1 ∷ Archived 0 0 ∷ EndedByOwner 0 1 ∷ []
@@ -94,7 +94,7 @@ module _ (o c t m q u : List ℕ) (lo : stationRoom ≤ length o) (lc : commitRo
   told = ToldRead 1 1 8 0 ∷ ToldWrite 0 1 8 5 ∷ ToldAbort 1 1 2 ∷ ToldCommit 0 1 1 ∷ []
 
   invalidated-computed : (historyM (namesH invalidated) (fresh (λ i. getD kinds i 0)) ≡ happened) × ((run (namesH invalidated) (fresh (λ i. getD kinds i 0))) .told ≡ told)
-  unfolding size recordRead writeLocal writeSet dropPages mark doCallback doKept doAllKept closed close undo ownBegin readLocal readAsk readAs ownRead writeAsk ownWrite ownCommit ownAbort ownPurge arrive takeLock answerWait onPage loosen onDeescalate onCallback onCommitted onAborted onInvalidate onDown stationStep S.notice S.finish S.join S.leave S.sendPage S.abort S.write S.archive S.inform S.informFrom S.install S.serveNow S.joinRead S.joinWrite S.joinCommit S.commitNow S.unlist S.markBusy S.answered S.loosen S.accept S.ask S.askFrom S.serveRead S.call S.grantPage S.grantObject S.grant S.installWaiter S.callOnce S.afterCalls S.proceed S.gates S.visit S.pass S.settle S.serverStep act tell tellWrites carryDown carryUp perform ownerActs stationTakes serverTakes run archiveOf bytesOf header bytes entriesOf entriesFrom
+  unfolding size recordRead writeLocal writeSet dropPages mark doCallback doKept doAllKept closed close undo ownBegin readLocal readAsk readAs ownRead writeAsk ownWrite ownCommit ownAbort ownPurge arrive takeLock answerWait onPage loosen onDeescalate onCallback onCommitted onAborted onInvalidate onDown stationStep S.notice S.finish S.join S.leave S.sendPage S.abort S.write S.archive S.inform S.informFrom S.install S.serveNow S.joinRead S.joinWrite S.joinCommit S.commitNow S.unlist S.markBusy S.answered S.loosen S.meet S.heed S.accept S.ask S.askFrom S.askKeepers S.serveRead S.call S.grantPage S.grantObject S.grant S.installWaiter S.callOnce S.afterCalls S.proceed S.gates S.judge S.visit S.pass S.settle S.serverStep act tell tellWrites carryDown carryUp perform ownerActs stationTakes serverTakes run archiveOf bytesOf header bytes entriesOf entriesFrom
   invalidated-computed = (refl, refl)
 
   pub invalidated-happened : (runH invalidated (freshH kinds)) .history ≡ happened

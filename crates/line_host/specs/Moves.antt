@@ -5,7 +5,7 @@ use mathlib.Core.Bool.{Bool, true, false, not, _&&_, false≢true}
 use mathlib.Core.List.{[]}
 use Rattle.sets.specs.Laws.{byB}
 use Rattle.line.specs.Messages.{Lock, NoLock, ObjectLock, WholeLock, Down, Page, Deescalate, Callback, Committed, Aborted, Invalidate, Answer, Begun, Waits, CommittedAs, AbortedFor}
-use Rattle.line.specs.Station.{Station, Did, Wait, Idle, ForRead, ForWrite, ForCommit, waiting, forCommit, live, dropPages, recordRead, writeLocal, mark, doCallback, readLocal, readAsk, writeAsk, arrive, takeLock, loosen, onDeescalate, onCommitted, onAborted, stationStep}
+use Rattle.line.specs.Station.{Station, Did, Wait, Idle, ForRead, ForWrite, ForCommit, waiting, forCommit, givesUp, dropPages, recordRead, writeLocal, mark, doCallback, readLocal, readAsk, writeAsk, arrive, takeLock, loosen, onDeescalate, onCommitted, onAborted, stationStep}
 use Rattle.line.specs.Line.{Op, Commits, perform, isRefused}
 use Rattle.truth.specs.Frame.{Owns, performs, Takes, takes}
 use Rattle.truth.specs.GoalsOwner.{Ended, close-ends, undo-num}
@@ -68,7 +68,7 @@ owns s =
       writes-ask = λ p f r k q. stays-so (stays refl refl no-commit);
       commits = λ k. asks refl refl (k .opened) (k .opened) refl;
       aborts = λ k. let e = close-ends (s .num) (AbortedFor 0) _ (undo-num s) refl in stays-so (over e (e .says));
-      purges = λ p r q f u. stays-so (stays refl refl (λ e. e));
+      purges = λ p r q f u w. stays-so (stays refl refl (λ e. e));
     }
 
 pub owner-moves : (op : Op) (s : Station) → OwnerMove s op (perform op s)
@@ -110,7 +110,7 @@ station-takes s =
       page-write = λ m a t v u x p y f w o c. stays (lock-open m a s) (lock-num m a s) no-commit;
       deescalates =
           λ p t f.
-          byB (live s t && s .wl p) (λ c. rw c (stays refl refl (λ e. e))) (λ c. rw c (stays refl refl (λ e. e)));
+          byB (givesUp p t s) (λ c. rw c (stays refl refl (λ e. e))) (λ c. rw c (stays refl refl (λ e. e)));
       keeps = λ r t set f u. stays refl refl (λ e. e);
       dones = λ r t set f u. stays refl refl (λ e. e);
       commits = λ t n f p. let e = close-ends (s .num) (CommittedAs n) _ refl refl in over e (ap isRefused (e .says), no-commit);

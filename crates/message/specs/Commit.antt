@@ -2,10 +2,11 @@
 -- all are 0". Its length, and number 5.
 use Prim.Native.Nat.{ℕ, zero, suc, _+_, _-_, _*_, _/_, _^_}
 use mathlib.Core.List.{List}
-use mathlib.Core.Bool.{Bool, _&&_, _||_, cond}
+use mathlib.Core.Bool.{Bool, not, _&&_, _||_, cond}
 use lib.ListN.{length, getD, drop}
 use lib.Bits.{bitOr}
 use lib.Dec.{eqb, leb}
+use Rattle.kinds.specs.Kinds.{locking}
 use Rattle.lists.specs.Tests.{allTo}
 use Rattle.le.specs.Le.{u16At, u32At}
 use Rattle.limits.specs.Limit.{limit}
@@ -73,7 +74,7 @@ fewOk m = leb (sentReads m) limit && leb (sentWrites m) limit
 
 -- "a version that must be 0 isn't": it may be another from a validating station
 unfoldable pub versionOk : ℕ → List ℕ → ℕ → Bool
-versionOk kind m e = eqb (entryVersion m e) 0 || eqb kind 1
+versionOk kind m e = eqb (entryVersion m e) 0 || not (locking kind)
 
 -- the pages of n addresses from `at`
 unfoldable pub pagesTo : List ℕ → ℕ → ℕ → ℕ

@@ -4,6 +4,7 @@ use mathlib.Core.List.{List}
 use mathlib.Core.Bool.{Bool, _&&_, cond}
 use lib.ListN.{length, getD}
 use lib.Dec.{eqb, leb}
+use Rattle.kinds.specs.Kinds.{mostKind}
 use Rattle.lists.specs.Tests.{allTo}
 use Rattle.message.specs.Layout.{messageLength, kindOf, stationOf}
 use Rattle.message.specs.Range.{stationOk, upFieldsOk, downFieldsOk}
@@ -26,7 +27,7 @@ downNumber at m = cond (lengthOk m) (downRange at m) 2
 
 -- the kinds of the eight stations, as the server knows them
 unfoldable pub kindOk : List ℕ → ℕ → Bool
-kindOk kinds i = leb (getD kinds i 0) 1
+kindOk kinds i = leb (getD kinds i 0) mostKind
 
 unfoldable pub kindsOk : List ℕ → Bool
 kindsOk kinds = eqb (length kinds) 8 && allTo (kindOk kinds) 8

@@ -493,7 +493,7 @@ fn version_ok(kind: u8, m: &[u8], e: usize) -> bool
     requires { ⌜ versionsAt + e * versionWidth + versionWidth ≤ length (now m) ⌝ }
     ensures { λ r. ⌜ r ≡ versionOk kind (now (m .entry)) e ⌝ }
 {
-    (le::get_u32(m, VERSIONS + e * VERSION_WIDTH) == 0) | (kind == 1)
+    (le::get_u32(m, VERSIONS + e * VERSION_WIDTH) == 0) | !kinds::locking(kind)
 }
 
 // The first n versions.
@@ -561,7 +561,7 @@ fn kind_ok(kinds: &[u8], i: usize) -> bool
     requires { ⌜ i < length (now kinds) ⌝ }
     ensures { λ r. ⌜ r ≡ kindOk (now (kinds .entry)) i ⌝ }
 {
-    kinds[i] <= 1
+    kinds[i] <= kinds::MOST
 }
 
 // Whether these are the kinds of eight stations.

@@ -10,6 +10,7 @@ use lib.ListN.{length, drop, getD, replicate, length-append}
 use lib.Seq.{getD-drop, drop-at}
 use lib.Dec.{eqb}
 use borrow.Author.Tests.{eq-eqb, ne-eqb, le-leb}
+use Rattle.kinds.specs.Kinds.{locking}
 use Rattle.lists.specs.Tests.{allTo, allTo-of}
 use Rattle.lists.specs.Bytes.{Bytes, bytes-append}
 use Rattle.lists.specs.Parts.{drop-behind}
@@ -131,7 +132,7 @@ pub record Sendable (kinds : List ℕ) (r : Record) (used : ℕ) (v : ℕ → �
   pub pages-are : (p : ℕ) → p < 32 → tb used p ≡ usedPage (workIn r v) p
   -- "from a locking station all are 0"
   pub versions-fit : (e : ℕ) → e < entryCount r → v e < 2 ^ 32
-  pub versions-0 : (e : ℕ) → e < entryCount r → eqb (r .kind) 1 ≡ false → v e ≡ 0
+  pub versions-0 : (e : ℕ) → e < entryCount r → locking (r .kind) ≡ true → v e ≡ 0
 
 module _ {kinds : List ℕ} {r : Record} {used : ℕ} {v : ℕ → ℕ} (h : Sendable kinds r used v) where
   -- where its parts stand
@@ -214,7 +215,7 @@ module _ {kinds : List ℕ} {r : Record} {used : ℕ} {v : ℕ → ℕ} (h : Sen
   version-ok : (e : ℕ) → e < entryCount r → versionOk (r .kind) (commitMessage r used v) e ≡ true
   unfolding versionOk
   version-ok e l =
-      rw (version-read e l) (byB (eqb (r .kind) 1) (λ k. rw k (or-true (eqb (v e) 0))) (λ k. rw (k, h .versions-0 e l k)))
+      rw (version-read e l) (byB (locking (r .kind)) (λ k. rw (k, h .versions-0 e l k)) (λ k. rw k (or-true (eqb (v e) 0))))
 
   -- the mask of the record's addresses is the message's set
   pages-agree : pagesTo (commitMessage r used v) (addressesAt (commitMessage r used v)) (entriesIn (commitMessage r used v)) ≡ used

@@ -9,6 +9,7 @@ use lib.ListN.{length, getD, drop, length-drop}
 use lib.Seq.{getD-drop}
 use lib.Dec.{eqb, leb}
 use borrow.Author.Tests.{eqb-true, eqb-false, ne-eqb, leb-true, not-true}
+use Rattle.kinds.specs.Kinds.{locking}
 use Rattle.lists.specs.Tests.{allTo, and-l, and-r, allTo-at}
 use Rattle.lists.specs.Bytes.{Bytes, bytes-drop}
 use Rattle.le.specs.Le.{u16At, u32At}
@@ -169,7 +170,7 @@ pub record CommitFields (kind : ℕ) (m : List ℕ) : Type 0 where
   pub station-is : (recordOf (drop (recordAt m) m)) .station ≡ stationOf m
   pub kind-is : (recordOf (drop (recordAt m) m)) .kind ≡ kind
   pub parts-are : Commit m
-  pub versions-0 : (e : ℕ) → e < entriesIn m → eqb kind 1 ≡ false → entryVersion m e ≡ 0
+  pub versions-0 : (e : ℕ) → e < entriesIn m → locking kind ≡ true → entryVersion m e ≡ 0
   pub pages-are : (p : ℕ) → tb (pagesOf m) p ≡ usedPage (workAt m) p
 
 commit-length : (m : List ℕ) → commitLengthOk m ≡ true → length m ≡ recordAt m + lengthOf (drop (recordAt m) m)
@@ -181,7 +182,7 @@ commit-length m h =
 record-there : (m : List ℕ) → length m ≡ recordAt m + lengthOf (drop (recordAt m) m) → lengthOf (drop (recordAt m) m) ≤ length (drop (recordAt m) m)
 record-there m h = rw (length-drop (recordAt m) m) (omega arith)
 
-version-0 : (kind : ℕ) (m : List ℕ) (e : ℕ) → versionOk kind m e ≡ true → eqb kind 1 ≡ false → entryVersion m e ≡ 0
+version-0 : (kind : ℕ) (m : List ℕ) (e : ℕ) → versionOk kind m e ≡ true → locking kind ≡ true → entryVersion m e ≡ 0
 unfolding versionOk
 version-0 kind m e h k = eqb-true (entryVersion m e) 0 (rw (k, or-false) at h)
 
@@ -332,7 +333,7 @@ module _ (kind : ℕ) (m : List ℕ) (hm : Bytes m) (c : CommitFields kind m) wh
       rw (u16-behind (recordAt m) m readCountFrom, u16-behind (recordAt m) m writeCountFrom, reads-are s, writes-are s)
 
   -- "from a locking station all are 0"
-  pub commit-none : eqb kind 1 ≡ false → (a : ℕ) → ((workAt m) .readVersions a ≡ 0) × ((workAt m) .writtenVersions a ≡ 0)
+  pub commit-none : locking kind ≡ true → (a : ℕ) → ((workAt m) .readVersions a ≡ 0) × ((workAt m) .writtenVersions a ≡ 0)
   unfolding workAt
   commit-none k a =
       let r = recordOf (drop (recordAt m) m) in (

@@ -9,6 +9,7 @@ use native.Mathlib.Omega.{arith}
 use lib.ListN.{length, getD}
 use lib.Dec.{eqb, ltb}
 use borrow.Author.Tests.{leb-true, lt-ltb, le-ltb}
+use Rattle.kinds.specs.Kinds.{mostKind, locking}
 use Rattle.lists.specs.Tests.{allTo, and-r, allTo-at}
 use Rattle.sets.specs.Base.{Val, has}
 use Rattle.sets.specs.Laws.{byB, byEq, eqb-yes}
@@ -42,7 +43,7 @@ pub record WorkFits (w : Work) : Type 0 where
   pub written-versions-within : (a : ℕ) → has ((w .writes) a) ≡ false → (w .writtenVersions) a ≡ 0
   pub few : LimitedWork w
 
-pub record-well : (station kind : ℕ) (w : Work) → station < 8 → kind ≤ 1 → WorkFits w → WellFormed (recordUp station kind w)
+pub record-well : (station kind : ℕ) (w : Work) → station < 8 → kind ≤ mostKind → WorkFits w → WellFormed (recordUp station kind w)
 record-well st k w hs hk f =
     record {
       reads-count = entries-count (w .reads);
@@ -103,13 +104,13 @@ work-back st k w f =
     let written-are = versions-back (versionsUp w) (w .writes) (w .writtenVersions) (length es) (f .writes-within) (f .written-versions-within) second in
     λ i. record { transaction = w .transaction; reads = reads-are i; writes = writes-are i; readVersions = read-are i; writtenVersions = written-are i }
 
-pub kind-most : (kinds : List ℕ) → kindsOk kinds ≡ true → (i : ℕ) → i < 8 → getD kinds i 0 ≤ 1
+pub kind-most : (kinds : List ℕ) → kindsOk kinds ≡ true → (i : ℕ) → i < 8 → getD kinds i 0 ≤ mostKind
 unfolding kindsOk kindOk
-kind-most kinds ok i l = leb-true (getD kinds i 0) 1 (allTo-at (kindOk kinds) 8 (and-r (eqb (length kinds) 8) (allTo (kindOk kinds) 8) ok) i l)
+kind-most kinds ok i l = leb-true (getD kinds i 0) mostKind (allTo-at (kindOk kinds) 8 (and-r (eqb (length kinds) 8) (allTo (kindOk kinds) 8) ok) i l)
 
 pub work-sent : (kinds : List ℕ) (station kind used : ℕ) (w : Work) → kindsOk kinds ≡ true → station < 8 → getD kinds station 0 ≡ kind → WorkFits w → used < 2 ^ 32
     → ((p : ℕ) → p < 32 → tb used p ≡ usedPage w p)
-    → (eqb kind 1 ≡ false → (a : ℕ) → ((w .readVersions) a ≡ 0) × ((w .writtenVersions) a ≡ 0))
+    → (locking kind ≡ true → (a : ℕ) → ((w .readVersions) a ≡ 0) × ((w .writtenVersions) a ≡ 0))
     → Reads kinds station (placeIn (recordUp station kind w) + length (bytesOf (recordUp station kind w))) (commitMessage (recordUp station kind w) used (versionsUp w)) (Commit w)
 work-sent kinds st k used w ok hs hk f hu pages zero-is =
     let back = work-back st k w f in

@@ -7,8 +7,8 @@ use lib.Dec.{eqb}
 use Rattle.sets.specs.Base.{any}
 use Rattle.sets.specs.Laws.{byB}
 use Rattle.line.specs.Messages.{pageOf, lastNumber, locking, Work, Up, ReadRequest, WriteRequest, Commit, Abort, Purge, Busy, Done, WrittenSet, NoLock, ObjectLock, WholeLock, Down, Page, Deescalate, Callback, Committed, Aborted, Invalidate, Sent, To}
-use Rattle.line.specs.Server.{ByCommit, Server, Serving, send, Want, NoWant, WantRead, WantWrite, WantCommit, notice, finish, join, leave, sendPage, abort, write, archive, informed, inform, informFrom, install, serveNow, joinRead, joinWrite, joinCommit, commitNow, unlist, openCall, markBusy, answered, openAsk, loosen, accept, ask, askFrom, holder, serveRead, concerned, callsFrom, call, callOnce, hinders, grantPage, grantObject, grant, installWaiter, allAnswered, afterCalls, proceed, gates, visit, blocked, shut, stale, locked, fault, pass}
-use Rattle.line.specs.Pass.{if-keeps}
+use Rattle.line.specs.Server.{ByCommit, Server, Serving, send, Want, NoWant, WantRead, WantWrite, WantCommit, notice, finish, join, leave, sendPage, abort, write, archive, informed, inform, informFrom, install, serveNow, joinRead, joinWrite, joinCommit, commitNow, unlist, openCall, markBusy, answered, openAsk, loosen, accept, ask, askFrom, holder, serveRead, concerned, callsFrom, call, callOnce, hinders, grantPage, grantObject, grant, installWaiter, allAnswered, afterCalls, proceed, gates, visit, blocked, shut, stale, locked, fault, pass, heed, shutKept, outOfTime, judge, askKeepers}
+use Rattle.line.specs.Pass.{if-keeps, met-keeps}
 use Rattle.truth.specs.Frame.{append-nil, append-assoc, noticed-sent}
 
 -- who is sent 22 with cause 1, in the order sent
@@ -42,7 +42,7 @@ abort-other i c x e = other (x .sent) (To i (Aborted (x .server .latest i) c) �
 
 ask-other : (h p : ℕ) (x : Serving) → Same x (ask h p x)
 unfolding ask
-ask-other h p x = other (x .sent) (To h (Deescalate p (x .server .latest h)) ∷ []) refl
+ask-other h p x = other (x .sent) (To h (Deescalate p (x .server .wholeFor p)) ∷ []) refl
 
 read-other : (i : ℕ) (x : Serving) → Same x (serveRead i x)
 unfolding serveRead sendPage leave
@@ -88,16 +88,16 @@ proceed-other WantRead i x = read-other i x
 proceed-other WantWrite i x = turn-other i x (grant i) (grant-other i)
 proceed-other WantCommit i x = turn-other i x (installWaiter i) (λ y. install-other i (y .server .queue i .work) y)
 
-asks-other : (n p i : ℕ) (x : Serving) → Same x (askFrom n p i x)
+asks-other : (d : Server → ℕ → ℕ → Bool) (n p i : ℕ) (x : Serving) → Same x (askFrom d n p i x)
 unfolding askFrom
-asks-other zero p i x = refl
-asks-other (suc n) p i x =
-    let b : Bool = shut (x .server) i p && not (x .server .asked p) in
-    asks-other n (suc p) i (cond b (ask (holder (x .server .wl p)) p x) x) ∙ if-keeps (Same x) b (λ e. ask-other (holder (x .server .wl p)) p x) (λ e. refl)
+asks-other d zero p i x = refl
+asks-other d (suc n) p i x =
+    let b : Bool = d (x .server) i p && not (x .server .asked p) in
+    asks-other d n (suc p) i (cond b (ask (holder (x .server .wl p)) p x) x) ∙ if-keeps (Same x) b (λ e. ask-other (holder (x .server .wl p)) p x) (λ e. refl)
 
 gates-other : (v : Want) (i : ℕ) (x : Serving) → Same x (gates v i x)
 unfolding gates
-gates-other v i x = if-keeps (Same x) (blocked (x .server) i) (λ e. refl) (λ e. if-keeps (Same x) (any 32 (shut (x .server) i)) (λ f. asks-other 32 0 i x) (λ f. proceed-other v i x))
+gates-other v i x = if-keeps (Same x) (blocked (x .server) i) (λ e. refl) (λ e. if-keeps (Same x) (any 32 (shut (x .server) i)) (λ f. asks-other shut 32 0 i x) (λ f. proceed-other v i x))
 
 -- a fault is 2, 3 or 4
 fault-other : (s : Server) (i : ℕ) → eqb (fault s i) 1 ≡ false
@@ -105,13 +105,22 @@ fault-other s i =
     byB (eqb (s .last) lastNumber) (λ a. rw a refl)
     (λ a. byB (stale s (s .queue i .work)) (λ b. rw (a, b) refl) (λ b. byB (locked s i) (λ c. rw (a, b, c) refl) (λ c. rw (a, b, c) refl)))
 
+keepers-other : (i : ℕ) (x : Serving) → Same x (askKeepers i x)
+unfolding askKeepers
+keepers-other i x = asks-other shutKept 32 0 i x
+
+judge-other : (i : ℕ) (x : Serving) → Same x (judge i x)
+unfolding judge
+judge-other i x =
+    if-keeps (Same x) (eqb (fault (x .server) i) 0) (λ e. gates-other WantCommit i x) (λ e. abort-other i (fault (x .server) i) x (fault-other (x .server) i))
+
 visit-other : (v : Want) (i : ℕ) (x : Serving) → Same x (visit v i x)
 unfolding visit
 visit-other NoWant i x = refl
-visit-other WantRead i x = gates-other WantRead i x
-visit-other WantWrite i x = gates-other WantWrite i x
+visit-other WantRead i x = gates-other WantRead i (askKeepers i x) ∙ keepers-other i x
+visit-other WantWrite i x = gates-other WantWrite i (askKeepers i x) ∙ keepers-other i x
 visit-other WantCommit i x =
-    if-keeps (Same x) (eqb (fault (x .server) i) 0) (λ e. gates-other WantCommit i x) (λ e. abort-other i (fault (x .server) i) x (fault-other (x .server) i))
+    judge-other i (cond (outOfTime (x .server) i) x (askKeepers i x)) ∙ if-keeps (Same x) (outOfTime (x .server) i) (λ e. refl) (λ e. keepers-other i x)
 
 pub pass-other : (l : List ℕ) (x : Serving) → Same x (pass l x)
 unfolding pass
@@ -124,7 +133,7 @@ unfolding commitNow
 commit-other i w x = if-keeps (Same x) (eqb (x .server .last) lastNumber) (λ e. abort-other i 4 x refl) (λ e. install-other i w x)
 
 pub accept-other : (i : ℕ) (m : Up) (x : Serving) → Same x (accept i m x)
-unfolding accept joinRead joinWrite joinCommit join serveNow sendPage finish unlist markBusy answered loosen
+unfolding accept joinRead joinWrite joinCommit join serveNow sendPage finish unlist markBusy answered loosen heed
 accept-other i (ReadRequest a t) x =
     if-keeps (Same x) (locking (x .server .kind i)) (λ e. ap beaten (noticed-sent i t x)) (λ e. other ((notice i t x) .sent) (To i (Page NoLock _ _ _ _ _) ∷ []) refl ∙ ap beaten (noticed-sent i t x))
 accept-other i (WriteRequest p t set) x = ap beaten (noticed-sent i t x)
@@ -135,4 +144,4 @@ accept-other i (Abort t) x = ap beaten (noticed-sent i t x)
 accept-other i (Purge p) x = refl
 accept-other i (Busy r t) x = if-keeps (Same x) (openCall (x .server) i r t) (λ e. refl) (λ e. refl)
 accept-other i (Done r t d) x = if-keeps (Same x) (openCall (x .server) i r t) (λ e. refl) (λ e. refl)
-accept-other i (WrittenSet p t set) x = if-keeps (Same x) (openAsk (x .server) i p t) (λ e. refl) (λ e. refl)
+accept-other i (WrittenSet p t set) x = if-keeps (Same x) (openAsk (x .server) i p t) (λ e. met-keeps (Same x) i t x (ap beaten (noticed-sent i t x)) refl) (λ e. refl)

@@ -1,17 +1,17 @@
 -- What holds while somebody waits, beside the invariant of crate truth: statements only.
 use mathlib.Core.Path.{_≡_}
-use mathlib.Core.Bool.{Bool, true, false, _&&_}
+use mathlib.Core.Bool.{Bool, true, false, _&&_, _||_, cond}
 use mathlib.Core.List.{List, [], _∷_}
 use mathlib.Core.Logic.{_⊎_}
-use Prim.Native.Nat.{ℕ, suc, _≤_, _<_}
+use Prim.Native.Nat.{ℕ, suc, _+_, _≤_, _<_}
 use lib.Dec.{eqb}
-use Rattle.line.specs.Messages.{locking, Up, ReadRequest, WriteRequest, Commit, Abort, Purge, Busy, Done, WrittenSet, Down, Page, Deescalate, Callback, Committed, Aborted, Invalidate}
+use Rattle.line.specs.Messages.{locking, keeps, Up, ReadRequest, WriteRequest, Commit, Abort, Purge, Busy, Done, WrittenSet, Down, Page, Deescalate, Callback, Committed, Aborted, Invalidate}
 use Rattle.line.specs.Station.{Station, Wait, waiting, Kept, NotKept, KeptCall}
 use Rattle.line.specs.Server.{Server, Waiter, Want}
 use Rattle.line.specs.Line.{World}
 use Rattle.line.specs.Runs.{Of}
 use Rattle.line.specs.Truth.{count}
-use Rattle.truth.specs.Clauses.{stale, tokens, callTokens, keptOf, askTokens}
+use Rattle.truth.specs.Clauses.{stale, tokens, callTokens, keptOf}
 use Rattle.truth.specs.Inv.{Inv}
 
 -- P1: an owner that waits has its token under way or at the server
@@ -63,9 +63,35 @@ pub record Owed (r j t : ℕ) (q : Waiter) (kind : ℕ) (opened : Bool) (kept : 
 abbrev pub OwedAt : Server → (ℕ → Station) → (ℕ → List Up) → (ℕ → List Down) → ℕ → ℕ → Type 0
 OwedAt s t u d r j = Owed r j (s .latest r) (s .queue r) (t j .kind) (t j .opened) (t j .kept r) (u j) (d j)
 
+-- a 19 for the page, an 8 for it: of transaction t, or of any, where the station keeps the page
+abbrev pub askIs : Bool → ℕ → ℕ → Down → Bool
+askIs k p t (Page l a u v x y) = false
+askIs k p t (Deescalate q u) = eqb q p && (k || eqb u t)
+askIs k p t (Callback r u set) = false
+askIs k p t (Committed u n) = false
+askIs k p t (Aborted u c) = false
+askIs k p t (Invalidate d) = false
+
+abbrev pub setIs : Bool → ℕ → ℕ → Up → Bool
+setIs k p t (ReadRequest a u) = false
+setIs k p t (WriteRequest q u set) = false
+setIs k p t (Commit w) = false
+setIs k p t (Abort u) = false
+setIs k p t (Purge q) = false
+setIs k p t (Busy r u) = false
+setIs k p t (Done r u d) = false
+setIs k p t (WrittenSet q u set) = eqb q p && (k || eqb u t)
+
+abbrev pub asksOut : Bool → ℕ → ℕ → List Up → List Down → ℕ
+asksOut k p t U D = count (askIs k p t) D + count (setIs k p t) U
+
+-- the transaction that counts: the latest, none where the station keeps the page
+abbrev pub askedFor : ℕ → ℕ → ℕ
+askedFor kind latest = cond (keeps kind) 0 latest
+
 -- P5: a page asked for is held, and its holder's token exists
 abbrev pub P5At : Server → (ℕ → List Up) → (ℕ → List Down) → ℕ → ℕ → Type 0
-P5At s u d p h = s .wl p ≡ suc h → s .asked p ≡ true → 1 ≤ askTokens p (s .latest h) (u h) (d h)
+P5At s u d p h = s .wl p ≡ suc h → s .asked p ≡ true → 1 ≤ asksOut (keeps (s .kind h)) p (askedFor (s .kind h) (s .latest h)) (u h) (d h)
 
 -- of a world
 abbrev pub P1Of : Server → (ℕ → Station) → (ℕ → List Up) → (ℕ → List Down) → Type 0

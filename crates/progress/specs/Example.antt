@@ -48,7 +48,7 @@ calls =
     ∷ []
 
 happens : let w = run calls (fresh kinds) in (any 8 (underWay w) ≡ false) × (waiting (w .station 0 .wait) ≡ true) × (S.edge (w .server) 0 2 ≡ true) × (w .station 2 .opened ≡ true) × (waiting (w .station 2 .wait) ≡ false)
-unfolding size recordRead writeLocal dropPages mark doCallback doKept doAllKept closed close undo ownBegin readLocal readAsk readAs ownRead writeAsk writeSet ownWrite ownCommit ownAbort ownPurge arrive takeLock answerWait onPage loosen onDeescalate onCallback onCommitted onAborted onInvalidate onDown stationStep S.notice S.finish S.join S.leave S.sendPage S.abort S.write S.archive S.inform S.informFrom S.install S.serveNow S.joinRead S.joinWrite S.joinCommit S.commitNow S.unlist S.markBusy S.answered S.loosen S.accept S.ask S.askFrom S.serveRead S.call S.grantPage S.grantObject S.grant S.installWaiter S.callOnce S.afterCalls S.proceed S.gates S.visit S.pass S.settle S.serverStep act tell carryDown carryUp perform ownerActs stationTakes serverTakes run
+unfolding size recordRead writeLocal dropPages mark doCallback doKept doAllKept closed close undo ownBegin readLocal readAsk readAs ownRead writeAsk writeSet ownWrite ownCommit ownAbort ownPurge arrive takeLock answerWait onPage loosen onDeescalate onCallback onCommitted onAborted onInvalidate onDown stationStep S.notice S.finish S.join S.leave S.sendPage S.abort S.write S.archive S.inform S.informFrom S.install S.serveNow S.joinRead S.joinWrite S.joinCommit S.commitNow S.unlist S.markBusy S.answered S.loosen S.meet S.heed S.accept S.ask S.askFrom S.serveRead S.call S.grantPage S.grantObject S.grant S.installWaiter S.callOnce S.afterCalls S.proceed S.gates S.judge S.askKeepers S.visit S.pass S.settle S.serverStep act tell carryDown carryUp perform ownerActs stationTakes serverTakes run
 happens = (refl, refl, refl, refl, refl)
 
 pub waits-there : LeadsOut (run calls (fresh kinds)) 0

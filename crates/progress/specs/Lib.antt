@@ -10,6 +10,7 @@ pub mod Moving
 pub mod Held
 pub mod Ring
 pub mod Edges
+pub mod Kept
 pub mod Out
 pub mod Causes
 pub mod Victims

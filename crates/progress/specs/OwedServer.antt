@@ -7,14 +7,14 @@ use native.Mathlib.Omega.{arith}
 use lib.Dec.{eqb, ltb}
 use Rattle.sets.specs.Base.{upd, snoc, has}
 use Rattle.sets.specs.Laws.{byB, byEq, eqb-same, eqb-yes, eqb-no, and-l, and-r, not-yes}
-use Rattle.line.specs.Messages.{lastNumber, locking, Work, Up, ReadRequest, WriteRequest, Commit, Abort, Purge, Busy, Done, WrittenSet, NoLock, ObjectLock, WholeLock, Down, Page, Deescalate, Committed, Aborted, Invalidate, Sent, To}
+use Rattle.line.specs.Messages.{lastNumber, locking, Work, Up, ReadRequest, WriteRequest, Commit, Abort, Purge, Busy, Done, WrittenSet, NoLock, ObjectLock, WholeLock, Down, Page, Deescalate, Committed, Aborted, Invalidate, Sent, To, keeps}
 use Rattle.line.specs.Station.{Station}
 use Rattle.line.specs.Server.{Server, Serving, Waiter, noWaiter, waiterPend, waiterBusy, waits, badNumber, notice, finish, join, leave, sendPage, abort, write, archive, install, serveNow, joinRead, joinWrite, joinCommit, commitNow, unlist, openCall, markBusy, answered, loosen, ask, serveRead, concerned, call, grantPage, grantObject, installWaiter, start}
 use Rattle.line.specs.Line.{World, carryUp, carryDown, sentTo}
-use Rattle.line.specs.Apart.{good-number}
+use Rattle.line.specs.Apart.{good-number, Renews}
 use Rattle.line.specs.Runs.{Of, tell-keeps}
 use Rattle.truth.specs.Clauses.{keptOf, doneOf, callTokens, CallbacksAt}
-use Rattle.truth.specs.Inv.{Over}
+use Rattle.truth.specs.Inv.{Over, heard-good}
 use Rattle.truth.specs.Frame.{append-nil, send-own, send-far, call-own, call-far, if-serving, noticed-latest, noticed-queue, noticed-sent, Accepts, accepts, installs}
 use Rattle.truth.specs.Callbacks.{no-token}
 use Rattle.truth.specs.Tokens.{no-entry}
@@ -62,7 +62,7 @@ module _ (t : ℕ → Station) (u : ℕ → List Up) (d : ℕ → List Down) (r 
 
   ask-owed : (k p : ℕ) (x : Serving) → OwedIn x → OwedIn (ask k p x)
   unfolding ask
-  ask-owed k p x h = further (x .server .latest r) (x .server .queue r) (x .sent) k (Deescalate p (x .server .latest k)) (λ g. refl) h
+  ask-owed k p x h = further (x .server .latest r) (x .server .queue r) (x .sent) k (Deescalate p (x .server .wholeFor p)) (λ g. refl) h
 
   read-owed : (i : ℕ) (x : Serving) → OwedIn x → OwedIn (serveRead i x)
   unfolding serveRead sendPage leave
@@ -128,7 +128,7 @@ module _ (t : ℕ → Station) (u : ℕ → List Up) (d : ℕ → List Down) (r 
   join-owed i v x b p h = byEq r i (λ f. rw f (free (x .server .latest r) v b p h)) (λ f. rw f h)
 
 -- m, the head of up line i
-module _ (i : ℕ) (l : List Up) (w : World) (b : i < 8) (h : Of OwedOf w) (none : (k : ℕ) → waits (w .server) k ≡ false → w .server .queue k ≡ noWaiter) where
+module _ (i : ℕ) (l : List Up) (w : World) (b : i < 8) (h : Of OwedOf w) (none : (k : ℕ) → waits (w .server) k ≡ false → w .server .queue k ≡ noWaiter) (good : (T : ℕ) → keeps (w .server .kind i) ≡ true → Renews (w .server .kind i) (w .server .latest i) T (w .server .fin i) → badNumber (w .server) i T ≡ false) where
   abbrev In : ℕ → ℕ → Serving → Type 0
   In r j x = OwedIn (w .station) (upd (w .up) i l) (w .down) r j x
 
@@ -238,7 +238,8 @@ module _ (i : ℕ) (l : List Up) (w : World) (b : i < 8) (h : Of OwedOf w) (none
         busy-late = λ k T e. late k T (Busy k T) (λ r t z. (z, refl)) e;
         dones = λ k T p e. done-owed k T p;
         done-late = λ k T p e. late k T (Done k T p) (λ r t z. (refl, z)) e;
-        loosens = λ p T set e. lost-head (WrittenSet p T set) (λ r t. refl) (λ r t. refl);
+        loosens = λ p T set e c. lost-head (WrittenSet p T set) (λ r t. refl) (λ r t. refl);
+        loosens-new = λ p T set e k v. noticed (WrittenSet p T set) T (λ r t. refl) (λ r t. refl) (good T k v);
         loosens-late = λ p T set e. lost-head (WrittenSet p T set) (λ r t. refl) (λ r t. refl);
       }
 
@@ -266,7 +267,7 @@ owed-layer =
           (λ e. rw e (h .owed r j a c)));
       accepted = λ i m l w b q n h.
           let none : (k : ℕ) → waits (w .server) k ≡ false → w .server .queue k ≡ noWaiter = λ k e. no-entry (w .server .queue k .want) (w .server .queue k) e (h .inv .tokens k .S7) in
-          accepts i (start (w .server)) (Accepted i l w b (h .owed) none) (accepts-owed i l w b (h .owed) none) m n q;
+          accepts i (start (w .server)) (Accepted i l w b (h .owed) none (heard-good w (h .inv) i b)) (accepts-owed i l w b (h .owed) none (heard-good w (h .inv) i b)) m n q;
       acts = λ w.
           let t = w .station in
           let u = w .up in

@@ -7,7 +7,7 @@ use native.Mathlib.Omega.{arith}
 use Rattle.sets.specs.Base.{upd, none}
 use Rattle.sets.specs.Laws.{byB, byEq, eqb-same, eqb-yes, eqb-no, and-r, any-some}
 use Rattle.line.specs.Messages.{locking, Up, Busy, Done, WrittenSet, Lock, NoLock, ObjectLock, WholeLock, Down, Page, Deescalate, Callback, Committed, Aborted, Invalidate, Nothing}
-use Rattle.line.specs.Station.{Station, Did, does, didStation, setKept, Kept, NotKept, KeptCall, live, usedAt, inUse, drops, mark, dropPages, recordRead, writeLocal, doCallback, doKept, doAllKept, closed, close, readLocal, readAsk, writeAsk, arrive, takeLock, writtenOn, loosen, onDeescalate, onCommitted, onAborted, stationStep}
+use Rattle.line.specs.Station.{answersFor, Station, Did, does, didStation, setKept, Kept, NotKept, KeptCall, live, usedAt, inUse, drops, mark, dropPages, recordRead, writeLocal, doCallback, doKept, doAllKept, closed, close, readLocal, readAsk, writeAsk, arrive, takeLock, writtenOn, loosen, onDeescalate, onCommitted, onAborted, stationStep, givesUp}
 use Rattle.line.specs.Server.{Waiter}
 use Rattle.line.specs.Line.{Op, perform, isRefused}
 use Rattle.line.specs.Bounds.{kept-stays, undo-kept}
@@ -100,7 +100,7 @@ module _ (r j t : ℕ) (q : Waiter) (U : List Up) (D : List Down) (b : r < 8) wh
           writes-ask = λ p v c e f. push-up _ h;
           commits = λ c. push-up _ h;
           aborts = λ c. close-owed (s .kind) _ (rw (undo-kept s) (opens (push-up _ h)));
-          purges = λ p c e f g. push-up _ h;
+          purges = λ p c e f g k. push-up _ h;
         }
 
     -- THE STATION: m is taken from the down line
@@ -136,8 +136,8 @@ module _ (r j t : ℕ) (q : Waiter) (U : List Up) (D : List Down) (b : r < 8) wh
             page-read = λ a u v x y e f n c h. landed NoLock a v x y s (U ++ []) D (past (Page NoLock a u v x y) [] refl h);
             page-write = λ l a u v x y q z e f g i n c h. landed l a v x y s (U ++ []) D (past (Page l a u v x y) [] refl h);
             deescalates = λ p u e n c h.
-                let g = past (Deescalate p u) (WrittenSet p u (writtenOn p u s) ∷ []) refl h in
-                byB (live s u && s .wl p) (λ z. rw z g) (λ z. rw z g);
+                let g = past (Deescalate p u) (WrittenSet p (answersFor u s) (writtenOn p (answersFor u s) s) ∷ []) refl h in
+                byB (givesUp p u s) (λ z. rw z g) (λ z. rw z g);
             keeps = λ k u set e f. keep-owed k u set e f;
             dones = λ k u set e f. done-owed k u set;
             commits = λ u v e f n c h. close-owed (s .kind) _ (opens (past (Committed u v) [] refl h));

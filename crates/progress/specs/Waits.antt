@@ -8,8 +8,8 @@ use lib.Dec.{eqb}
 use Rattle.sets.specs.Base.{upd, upd2, snoc, nowhere, has, Val}
 use Rattle.sets.specs.Laws.{byB, byEq, eqb-same, eqb-yes, and-l, and-r}
 use Rattle.line.specs.Messages.{pageOf, lastNumber, locking, Work, Up, ReadRequest, WriteRequest, Commit, Abort, Purge, Busy, Done, WrittenSet, Lock, NoLock, ObjectLock, WholeLock, Down, Page, Deescalate, Callback, Committed, Aborted, Invalidate, Sent, To}
-use Rattle.line.specs.Station.{Station, Did, waiting, live, ended, dropPages, mark, recordRead, writeLocal, doCallback, closed, close, readLocal, readAsk, writeAsk, workOf, onDeescalate, loosen, onCommitted, onAborted, stationStep, named, lowestOn, ofPage}
-use Rattle.line.specs.Server.{Server, Serving, send, valuesOn, Waiter, Want, WantRead, isWant, badNumber, unexpected, notice, finish, join, leave, sendPage, abort, write, archive, install, serveNow, joinRead, joinWrite, joinCommit, commitNow, unlist, markBusy, answered, loosen as loosened, accept, ask, serveRead, callsFrom, call, grantPage, grantObject, installWaiter, start, ByCommit, ByMessage, wrotePage}
+use Rattle.line.specs.Station.{Station, Did, waiting, live, ended, dropPages, mark, recordRead, writeLocal, doCallback, closed, close, readLocal, readAsk, writeAsk, workOf, onDeescalate, loosen, onCommitted, onAborted, stationStep, named, lowestOn, ofPage, givesUp}
+use Rattle.line.specs.Server.{Server, Serving, send, valuesOn, Waiter, Want, WantRead, isWant, badNumber, unexpected, notice, finish, join, leave, sendPage, abort, write, archive, install, serveNow, joinRead, joinWrite, joinCommit, commitNow, unlist, markBusy, answered, heeded, loosen as loosened, accept, ask, serveRead, callsFrom, call, grantPage, grantObject, installWaiter, start, ByCommit, ByMessage, wrotePage}
 use Rattle.line.specs.Line.{World, Op, perform, carryUp, carryDown, sentTo, isRefused}
 use Rattle.line.specs.Runs.{Of, tell-keeps}
 use Rattle.line.specs.Truth.{count}
@@ -80,7 +80,7 @@ module _ (v : Want) (U : List Up) (D : List Down) where
           writes-ask = λ p x b c e q. asks-either p (ofPage p x) c;
           commits = λ c q. omega (arith, asks (Commit (workOf s)) refl);
           aborts = λ c. closing _;
-          purges = λ p b r n e. beside (Purge p ∷ []) h;
+          purges = λ p b r n e k. beside (Purge p ∷ []) h;
         }
 
     -- m is taken from the down line, and is not the token
@@ -99,8 +99,8 @@ module _ (v : Want) (U : List Up) (D : List Down) where
           page-read = λ a t x y z e f n h q. absurd (false≢true q);
           page-write = λ l a t x y z p k e f g i n h q. absurd (false≢true q);
           deescalates = λ p t e n h.
-              let g = took (Deescalate p t) (WrittenSet p t _ ∷ []) refl h in
-              byB (live s t && s .wl p) (λ z. rw z g) (λ z. rw z g);
+              let g = took (Deescalate p t) (WrittenSet p _ _ ∷ []) refl h in
+              byB (givesUp p t s) (λ z. rw z g) (λ z. rw z g);
           keeps = λ r t set e f n h. took (Callback r t set) (Busy r t ∷ []) refl h;
           dones = λ r t set e f n h. took (Callback r t set) (Done r t _ ∷ []) refl h;
           commits = λ t n e f k h. closing _;
@@ -151,7 +151,7 @@ module _ (t : ℕ → Station) (u : ℕ → List Up) (d : ℕ → List Down) (j 
 
   ask-waits : (g p : ℕ) (x : Serving) → WaitsIn x → WaitsIn (ask g p x)
   unfolding ask
-  ask-waits g p x h = sends x (ask g p x) (To g (Deescalate p (x .server .latest g)) ∷ []) refl refl h
+  ask-waits g p x h = sends x (ask g p x) (To g (Deescalate p (x .server .wholeFor p)) ∷ []) refl refl h
 
   call-waits : (i : ℕ) (x : Serving) → WaitsIn x → WaitsIn (call i x)
   unfolding call
@@ -238,7 +238,8 @@ module _ (i : ℕ) (l : List Up) (w : World) (h : Of P1Of w) where
         busy-late = λ k T e q. lost-head (Busy k T) (λ f. refl) q;
         dones = λ k T p e q j b. sends t u d j x (answered i k (unlist i p x)) [] (byEq j k (λ f. rw (f, eqb-yes j k f) refl) (λ f. rw f refl)) refl (lost-head (Done k T p) (λ f. refl) q j b);
         done-late = λ k T p e q. lost-head (Done k T p) (λ f. refl) q;
-        loosens = λ p T set e q. lost-head (WrittenSet p T set) (λ f. refl) q;
+        loosens = λ p T set e c q. lost-head (WrittenSet p T set) (λ f. refl) q;
+        loosens-new = λ p T set e k r q j b. sends t u d j x (loosened i p (heeded ((notice i T x) .server) i T set) (notice i T x)) [] (rw (noticed-queue i T x) refl) (noticed-sent i T x) (lost-head (WrittenSet p T set) (λ f. refl) q j b);
         loosens-late = λ p T set e q. lost-head (WrittenSet p T set) (λ f. refl) q;
       }
 

@@ -6,7 +6,7 @@ use native.Mathlib.Omega.{arith}
 use lib.Dec.{eqb}
 use Rattle.sets.specs.Base.{upd}
 use Rattle.line.specs.Messages.{locking, Work}
-use Rattle.line.specs.Server.{Server, Serving, noWaiter, isWant, finish, leave, sendPage, abort, write, archive, install, ask, serveRead, call, grantObject, grantPage}
+use Rattle.line.specs.Server.{Server, Serving, noWaiter, isWant, finish, leave, sendPage, abort, write, archive, install, ask, serveRead, call, grantObject, grantPage, unlocks}
 use Rattle.line.specs.Fuel.{sumTo, nb}
 use Rattle.queues.specs.Count.{sentAt, one-to, informs-leave, informs-one}
 use Rattle.queues.specs.Left.{own, caller, callers, wholes, wholes-freed}
@@ -62,8 +62,8 @@ module _ (j i : ℕ) (w : Work) (x : Serving) where
 
   pub install-wholes : wholes j ((install i w x) .server) ≤ wholes j (x .server)
   unfolding install finish archive write leave
-  install-wholes = rw (informs-leave (wholes j) (λ s l. refl) 8 0 i w) (wholes-freed j i (x .server .wl) (x .server .asked))
+  install-wholes = rw (informs-leave (wholes j) (λ s l. refl) 8 0 i w) (wholes-freed (x .server .kind i) j i (x .server .wl) (x .server .asked))
 
-pub install-wl : (i : ℕ) (w : Work) (x : Serving) (p : ℕ) → (install i w x) .server .wl p ≡ cond (eqb (x .server .wl p) (suc i)) 0 (x .server .wl p)
+pub install-wl : (i : ℕ) (w : Work) (x : Serving) (p : ℕ) → (install i w x) .server .wl p ≡ cond (unlocks (x .server .kind i) i (x .server .wl p)) 0 (x .server .wl p)
 unfolding install finish archive write leave
 install-wl i w x p = informs-leave (λ s. s .wl p) (λ s l. refl) 8 0 i w _

@@ -10,7 +10,7 @@ use lib.ListN.{length}
 use Rattle.sets.specs.Base.{upd, any}
 use Rattle.sets.specs.Laws.{byB, byEq, eqb-same, eqb-yes, eqb-no, and-l, and-r}
 use Rattle.line.specs.Messages.{locking}
-use Rattle.line.specs.Server.{Server, Serving, Waiter, noWaiter, isWant, waits}
+use Rattle.line.specs.Server.{Server, Serving, Waiter, noWaiter, isWant, waits, unlocks}
 use Rattle.line.specs.Fuel.{sumTo, nb, sum-le, sum-at, sum-1, nb-1, marked}
 
 abbrev pub own : ℕ → Server → ℕ
@@ -114,9 +114,9 @@ whole-none j n a =
     let free : eqb 0 (suc j) ≡ false = byEq 0 (suc j) (λ e. absurd (omega (arith, eqb-yes 0 (suc j) e))) (λ e. e) in
     rw free (omega arith)
 
-pub wholes-freed : (j i : ℕ) (wl : ℕ → ℕ) (asked : ℕ → Bool) → sumTo 32 (λ p. whole j (cond (eqb (wl p) (suc i)) 0 (wl p)) (not (eqb (wl p) (suc i)) && asked p)) ≤ sumTo 32 (λ p. whole j (wl p) (asked p))
-wholes-freed j i wl asked =
-    sum-le 32 _ (λ p. whole j (wl p) (asked p)) (λ p. byB (eqb (wl p) (suc i)) (λ e. rw e (whole-none j (whole j (wl p) (asked p)) false)) (λ e. rw e (omega arith)))
+pub wholes-freed : (k j i : ℕ) (wl : ℕ → ℕ) (asked : ℕ → Bool) → sumTo 32 (λ p. whole j (cond (unlocks k i (wl p)) 0 (wl p)) (not (unlocks k i (wl p)) && asked p)) ≤ sumTo 32 (λ p. whole j (wl p) (asked p))
+wholes-freed k j i wl asked =
+    sum-le 32 _ (λ p. whole j (wl p) (asked p)) (λ p. byB (unlocks k i (wl p)) (λ e. rw e (whole-none j (whole j (wl p) (asked p)) false)) (λ e. rw e (omega arith)))
 
 pub wholes-asked : (j h p : ℕ) (wl : ℕ → ℕ) (asked : ℕ → Bool) → p < 32 → wl p ≡ suc h → asked p ≡ false
     → sumTo 32 (λ q. whole j (wl q) (upd asked p true q)) + nb (eqb j h) ≤ sumTo 32 (λ q. whole j (wl q) (asked q))

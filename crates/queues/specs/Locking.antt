@@ -11,7 +11,7 @@ use lib.ListN.{length}
 use Rattle.sets.specs.Base.{upd, any}
 use Rattle.sets.specs.Laws.{byB, byEq, eqb-same, eqb-yes, eqb-no, and-l, and-r, not-yes, not-no, any-no, any-yes, any-some}
 use Rattle.line.specs.Messages.{pageOf, address, locking, Work}
-use Rattle.line.specs.Server.{Server, Serving, Waiter, noWaiter, isWant, waits, wantsPage, writesPage, wants, other, shut, concerned, callsFrom, finish, leave, sendPage, abort, write, archive, informFrom, install, installWaiter, ask, serveRead, call, grantObject, grantPage}
+use Rattle.line.specs.Server.{Server, Serving, Waiter, noWaiter, isWant, waits, wantsPage, writesPage, wants, other, shut, concerned, callsFrom, finish, leave, sendPage, abort, write, archive, informFrom, install, installWaiter, ask, serveRead, call, grantObject, grantPage, unlocks}
 use Rattle.line.specs.Pass.{Atomic, Clear, Ready, Shut}
 use Rattle.line.specs.Fuel.{sumTo, nb, nb-1}
 use Rattle.queues.specs.Count.{sentAt, one-to, both-to, calls-one}
@@ -34,8 +34,8 @@ other-sure j i e =
     byEq (suc j) 0 (λ f. absurd (omega (arith, eqb-yes (suc j) 0 f)))
     (λ f. byEq (suc j) (suc i) (λ g. absurd (eqb-no j i e (let z = eqb-yes (suc j) (suc i) g in omega arith))) (λ g. rw (f, g) refl))
 
-freed-full : (j i h : ℕ) → eqb j i ≡ false → h ≡ suc j → cond (eqb h (suc i)) 0 h ≡ suc j
-freed-full j i h e f =
+freed-full : (k j i h : ℕ) → eqb j i ≡ false → h ≡ suc j → cond (unlocks k i h) 0 h ≡ suc j
+freed-full k j i h e f =
     byEq h (suc i) (λ g. absurd (eqb-no j i e (let z = eqb-yes h (suc i) g in omega arith))) (λ g. rw g f)
 
 turn : (j i : ℕ) → not (eqb j i) ≡ true → not (eqb i j) ≡ true
@@ -77,15 +77,15 @@ module _ (j : ℕ) (b8 : j < 8) where
   abort-safe : (i c : ℕ) (x : Serving) → i < 8 → waits (x .server) i ≡ true → Safe j x → Safe j (abort i c x)
   unfolding abort finish leave
   abort-safe i c x b t (inl h) =
-      inl (rw (one-to j i) (omega (arith, own-goes j i (x .server .queue) t, callers-go j i (x .server .kind) (x .server .queue) b, wholes-freed j i (x .server .wl) (x .server .asked))))
+      inl (rw (one-to j i) (omega (arith, own-goes j i (x .server .queue) t, callers-go j i (x .server .kind) (x .server .queue) b, wholes-freed (x .server .kind i) j i (x .server .wl) (x .server .asked))))
   abort-safe i c x b t (inr h) =
       let n = own-goes j i (x .server .queue) t in
       let g = callers-7 j (x .server .kind) (upd (x .server .queue) i noWaiter) b8 in
-      let w = wholes-freed j i (x .server .wl) (x .server .asked) in
+      let w = wholes-freed (x .server .kind i) j i (x .server .wl) (x .server .asked) in
       let l = h .1 in
       byEq j i
       (λ e. inl (rw (one-to j i) (omega (arith, ap nb e))))
-      (λ e. inr ((λ p q. freed-full j i (x .server .wl p) e (h .0 p q)), rw (one-to j i) (omega (arith, ap nb e))))
+      (λ e. inr ((λ p q. freed-full (x .server .kind i) j i (x .server .wl p) e (h .0 p q)), rw (one-to j i) (omega (arith, ap nb e))))
 
   ask-safe : (i h p : ℕ) (x : Serving) → p < 32 → Shut i h p x → x .server .asked p ≡ false → Safe j x → Safe j (ask h p x)
   unfolding ask
@@ -151,7 +151,7 @@ module _ (j : ℕ) (b8 : j < 8) where
       let p = install-wholes j i w x in
       byEq j i
       (λ e. inl (omega (arith, ap nb e, callers-7 j ((install i w x) .server .kind) ((install i w x) .server .queue) b8)))
-      (λ e. inr ((λ p q. install-wl i w x p ∙ freed-full j i (x .server .wl p) e (h .0 p q)), omega (arith, ap nb e)))
+      (λ e. inr ((λ p q. install-wl i w x p ∙ freed-full (x .server .kind i) j i (x .server .wl p) e (h .0 p q)), omega (arith, ap nb e)))
 
   pub atomic-held : Atomic (Held j)
   unfolding installWaiter

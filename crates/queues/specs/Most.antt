@@ -10,11 +10,11 @@ use lib.ListN.{length, length-append}
 use Rattle.sets.specs.Base.{upd}
 use Rattle.sets.specs.Laws.{byB, byEq, eqb-same, eqb-yes}
 use Rattle.line.specs.Messages.{lastNumber, locking, Work, Up, Down, ReadRequest, WriteRequest, Commit, Abort, Purge, Busy, Done, WrittenSet}
-use Rattle.line.specs.Server.{Server, Serving, isWant, waits, unexpected, notice, finish, join, leave, sendPage, abort, install, serveNow, joinRead, joinWrite, joinCommit, commitNow, unlist, openCall, markBusy, answered, openAsk, loosen, accept, start, serverStep}
+use Rattle.line.specs.Server.{Server, Serving, isWant, waits, unexpected, notice, finish, join, leave, sendPage, abort, install, serveNow, joinRead, joinWrite, joinCommit, commitNow, unlist, openCall, markBusy, answered, openAsk, loosen, accept, start, serverStep, heeded, heed}
 use Rattle.line.specs.Station.{Station}
 use Rattle.line.specs.Line.{World, Call, sentTo, act}
 use Rattle.line.specs.Runs.{Moves, act-moves}
-use Rattle.line.specs.Pass.{step-keeps}
+use Rattle.line.specs.Pass.{step-keeps, met-keeps}
 use Rattle.line.specs.Apart.{Apart, good-number, noticed-kind, noticed-queue, accept-apart}
 use Rattle.line.specs.Fuel.{nb, nb-1}
 use Rattle.queues.specs.Count.{sentAt, one-to}
@@ -76,7 +76,7 @@ module _ (j i : ℕ) (s : Server) where
   locks-still t = notice-locks j i t (start s)
 
   accepted : (m : Up) → unexpected i m s ≡ false → Accepted j i s (accept i m (start s))
-  unfolding accept joinRead joinWrite joinCommit join finish unlist markBusy answered loosen
+  unfolding accept joinRead joinWrite joinCommit join finish unlist markBusy answered loosen heed
   accepted (ReadRequest a t) u =
       either j i s (locking (s .kind i))
       (λ e. record { kind = locks-still t; said = inl (still t) })
@@ -91,7 +91,10 @@ module _ (j i : ℕ) (s : Server) where
   accepted (Purge p) u = record { kind = refl; said = inl refl }
   accepted (Busy r t) u = either j i s (openCall s i r t) (λ e. record { kind = refl; said = inl refl }) (λ e. record { kind = refl; said = inl refl })
   accepted (Done r t d) u = either j i s (openCall s i r t) (λ e. record { kind = refl; said = inl refl }) (λ e. record { kind = refl; said = inl refl })
-  accepted (WrittenSet p t set) u = either j i s (openAsk s i p t) (λ e. record { kind = refl; said = inl refl }) (λ e. record { kind = refl; said = inl refl })
+  accepted (WrittenSet p t set) u =
+      either j i s (openAsk s i p t)
+      (λ e. met-keeps (λ y. Accepted j i s (loosen i p (heeded (y .server) i t set) y)) i t (start s) (record { kind = locks-still t; said = inl (still t) }) (record { kind = refl; said = inl refl }))
+      (λ e. record { kind = refl; said = inl refl })
 
 -- A LOCKING STATION
 

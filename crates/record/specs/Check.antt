@@ -7,6 +7,7 @@ use lib.Dec.{eqb, ltb, leb}
 use Rattle.lists.specs.Tests.{allTo}
 use Rattle.le.specs.Le.{u16At, u32At}
 use Rattle.layout.specs.Record.{headerLength, mostEntries, recordLength}
+use Rattle.kinds.specs.Kinds.{mostKind}
 
 -- the fields of a record, at their places: "sizes first: reads n (2 bytes), writes m (2), commit number (4), transaction (4), station (1), its kind (1)"
 abbrev pub readCountFrom : ℕ
@@ -57,9 +58,9 @@ lengthOf s = recordLength (readCount s) (writeCount s)
 unfoldable pub claimedLength : List ℕ → ℕ
 claimedLength s = cond (ltb (length s) headerLength) headerLength (lengthOf s)
 
--- "n and m are 0 to 256"; "(also station above 7, kind above 1, transaction 0)"
+-- "n and m are 0 to 256"; "(also station above 7, kind above 1, transaction 0)", the kind as wish 10 has it
 unfoldable pub headOk : ℕ → ℕ → ℕ → ℕ → ℕ → Bool
-headOk n m transaction station kind = leb n mostEntries && leb m mostEntries && not (eqb transaction 0) && leb station 7 && leb kind 1
+headOk n m transaction station kind = leb n mostEntries && leb m mostEntries && not (eqb transaction 0) && leb station 7 && leb kind mostKind
 
 -- the header: its numbers, and "two zero bytes"
 unfoldable pub headAt : List ℕ → Bool

@@ -11,6 +11,7 @@ use Rattle.lists.specs.Tests.{and-l, and-r}
 use Rattle.layout.specs.Record.{headerLength, valueLength, mostEntries}
 use Rattle.record.specs.Check.{headOk, rises, lengthOf, laidOut, checkOf}
 use Rattle.record.specs.Write.{fits}
+use Rattle.kinds.specs.Kinds.{mostKind}
 
 pub record Accepted (s : List ℕ) : Type 0 where
   pub header-there : headerLength ≤ length s
@@ -33,7 +34,7 @@ pub record HeadFits (n m transaction station kind : ℕ) : Type 0 where
   pub writes-count : m ≤ mostEntries
   pub transaction-not-0 : eqb transaction 0 ≡ false
   pub station-is : station ≤ 7
-  pub kind-is : kind ≤ 1
+  pub kind-is : kind ≤ mostKind
 
 pub head-fits : (n m transaction station kind : ℕ) → headOk n m transaction station kind ≡ true → HeadFits n m transaction station kind
 unfolding headOk
@@ -42,7 +43,7 @@ head-fits n m t s k h =
     let b = leb m mostEntries in
     let d = not (eqb t 0) in
     let f = leb s 7 in
-    let h4 = and-l (a && b && d && f) (leb k 1) h in
+    let h4 = and-l (a && b && d && f) (leb k mostKind) h in
     let h3 = and-l (a && b && d) f h4 in
     let h2 = and-l (a && b) d h3 in
     record {
@@ -50,7 +51,7 @@ head-fits n m t s k h =
       writes-count = leb-true _ _ (and-r a b h2);
       transaction-not-0 = not-true (eqb t 0) (and-r (a && b) d h3);
       station-is = leb-true _ _ (and-r (a && b && d) f h4);
-      kind-is = leb-true _ _ (and-r (a && b && d && f) (leb k 1) h);
+      kind-is = leb-true _ _ (and-r (a && b && d && f) (leb k mostKind) h);
     }
 
 -- what arguments that fit tell

@@ -36,13 +36,15 @@ pub const ENTRY: usize = 1 + VALUE;
 // The most reads, and the most writes, that a record has; the length of a record with both.
 pub const MOST: u32 = 256;
 
+const MOST_KIND: u32 = kinds::MOST as u32;
+
 pub const LONGEST: usize = HEADER + ENTRY * (2 * MOST as usize);
 
 // Whether the numbers of a header are in range.
 fn head_ok(reads: u32, writes: u32, transaction: u32, station: u32, kind: u32) -> bool
     ensures { λ r. ⌜ r ≡ headOk reads writes transaction station kind ⌝ }
 {
-    (reads <= MOST) & (writes <= MOST) & (transaction != 0) & (station <= 7) & (kind <= 1)
+    (reads <= MOST) & (writes <= MOST) & (transaction != 0) & (station <= 7) & (kind <= MOST_KIND)
 }
 
 fn rise_at(s: &[u8], a: usize, i: usize) -> bool

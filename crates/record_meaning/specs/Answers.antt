@@ -19,6 +19,7 @@ use Rattle.record.specs.Stores.{length-header}
 use Rattle.record_meaning.specs.Layout.{recordBytes-front, length-recordBytes, addresses-append, length-addresses, length-values}
 use Rattle.record_meaning.specs.Rise.{rises-behind, rises-of-rising}
 use Rattle.record_meaning.specs.Head.{Head, header-read}
+use Rattle.kinds.specs.Kinds.{mostKind}
 
 -- what a layout that is not broken tells
 pub record LaidOut (s : List ℕ) : Type 0 where
@@ -72,9 +73,9 @@ short-take k s hk h = short (take k s) (rw (length-take-le k s hk) (by-test (ltb
     by-test true e = let l = ltb-true k 4 e in omega arith
     by-test false e = rw (lengthOf-take k s (ltb-false k 4 e)) h
 
-head-ok : (n m transaction station kind : ℕ) → n ≤ mostEntries → m ≤ mostEntries → 0 < transaction → station ≤ 7 → kind ≤ 1 → headOk n m transaction station kind ≡ true
+head-ok : (n m transaction station kind : ℕ) → n ≤ mostEntries → m ≤ mostEntries → 0 < transaction → station ≤ 7 → kind ≤ mostKind → headOk n m transaction station kind ≡ true
 unfolding headOk
-head-ok n m t s k hn hm ht hs hk = rw (le-leb n mostEntries hn, le-leb m mostEntries hm, ne-eqb t 0 (omega arith), le-leb s 7 hs, le-leb k 1 hk)
+head-ok n m t s k hn hm ht hs hk = rw (le-leb n mostEntries hn, le-leb m mostEntries hm, ne-eqb t 0 (omega arith), le-leb s 7 hs, le-leb k mostKind hk)
 
 -- the fields of a record fit
 pub fit-of : (r : Record) → WellFormed r → Fit (length (r .reads)) (length (r .writes)) (r .transaction) (r .station) (r .kind) (addresses (entries r)) (values (entries r))

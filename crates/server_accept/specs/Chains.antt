@@ -9,7 +9,7 @@ use Rattle.sets.specs.Laws.{byB}
 use Rattle.message.specs.Layout.{kindOf, stationOf, pageOf, requesterOf, transactionOf, pagesOf, setOf}
 use Rattle.server_state.specs.Layout.{lastOf, lockingB}
 use Rattle.server_tests.specs.Tests.{openCallB, openAskB}
-use Rattle.server_changes.specs.Changes.{noticeB, leaveB, joinReadB, joinCommitB, unpackB, unlistB, markBusyB, answeredB, loosenB}
+use Rattle.server_changes.specs.Changes.{noticeB, leaveB, joinReadB, joinCommitB, unpackB, unlistB, markBusyB, answeredB, heedB}
 use Rattle.server_actions.specs.Actions.{Serving, sendPageB, abortB, installB, commitNowB, addressOf, noticedB, onReadB, onWriteB, onCommitB, onAbortB, onPurgeB, onBusyB, onDoneB, onWrittenSetB, acceptB}
 use Rattle.server_actions.specs.declared.Counts.{Counts}
 use Rattle.server_actions.specs.Posting.{from, Posted, posted, post, post-none, Room}
@@ -89,9 +89,9 @@ module _ (m s : List ℕ) {i r t : ℕ} {w : Bool} (ei : i ≡ stationOf m) (er 
     asks : openAskB s (stationOf m) (pageOf m) (transactionOf m) ≡ w
     asks = rw (ew, ei, er, et)
 
-    pub set-open : {s₁ : List ℕ} → w ≡ true → s₁ ≡ loosenB i r (setOf m 0) s → s₁ ≡ onWrittenSetB m (from s) .state
+    pub set-open : {s₁ : List ℕ} → w ≡ true → s₁ ≡ heedB i r t (setOf m 0) s → s₁ ≡ onWrittenSetB m (from s) .state
     unfolding onWrittenSetB
-    set-open h e = rw (asks ∙ h, e, ei, er)
+    set-open h e = rw (asks ∙ h, e, ei, er, et)
 
     pub set-late : w ≡ false → s ≡ onWrittenSetB m (from s) .state
     unfolding onWrittenSetB

@@ -10,7 +10,6 @@ ghost use Rattle.server_actions.specs.Actions.{commitNowB, addressOf, onReadB, 
 ghost use Rattle.server_actions.specs.Posting.{from as Posting·from, posted, post, Room};
 ghost use Rattle.server_accept.specs.Facts.{LastKept, Packed, Acceptable};
 use server_actions::Counts;
-use server_state::KIND;
 
 fn station(m: &[u8]) -> usize
     requires { ⌜ messageLength ≤ length (now m) ⌝ }
@@ -34,13 +33,6 @@ fn address(m: &[u8]) -> usize
     named(m) * station_state::OBJECTS + le::index(le::wide(m[message::OBJECT]))
 }
 
-fn locking(s: &[u8], i: usize) -> bool
-    requires { ⌜ (length (now s) ≡ serverLength) × (i < 8) ⌝ }
-    ensures { λ r. ⌜ r ≡ lockingB (now (s .entry)) i ⌝ }
-{
-    s[KIND + i] == 0
-}
-
 // With its first message a transaction is unfinished and has an age.
 fn noticed(s: &mut [u8], m: &[u8])
     requires { ⌜ (length (now s) ≡ serverLength) × (messageLength ≤ length (now m)) × (stationOf (now m) < 8) × (agesOf (now s) < counterLimit) ⌝ }
@@ -56,7 +48,7 @@ fn on_read(s: &mut [u8], o: &mut [u8], q: &mut [u8], c: Counts, m: &[u8]) -> Cou
 {
     let i = station(m);
     let a = address(m);
-    let waits = locking(s, i);
+    let waits = server_state::locking(s, i);
     noticed(s, m);
     if waits {
         server_changes::join_read(s, i, a);
@@ -93,7 +85,7 @@ fn on_commit(s: &mut [u8], o: &mut [u8], q: &mut [u8], c: Counts, m: &[u8]) -> C
     ensures { λ r. ⌜ posted (now (s .exit)) (now (o .exit)) (now (q .exit)) r ≡ post (now (o .entry)) (now (q .entry)) c (onCommitB (now (m .entry)) (Posting·from (now (s .entry)))) ⌝ }
 {
     let i = station(m);
-    let goes = locking(s, i);
+    let goes = server_state::locking(s, i);
     noticed(s, m);
     if goes {
         return commit_now(s, o, q, c, m, i);
@@ -147,13 +139,14 @@ fn on_done(s: &mut [u8], m: &[u8])
 
 // An 8 is void where the lock went in the meantime.
 fn on_written_set(s: &mut [u8], m: &[u8])
-    requires { ⌜ (length (now s) ≡ serverLength) × (messageLength ≤ length (now m)) × (stationOf (now m) < 8) × (pageOf (now m) < 32) ⌝ }
+    requires { ⌜ (length (now s) ≡ serverLength) × (messageLength ≤ length (now m)) × (stationOf (now m) < 8) × (pageOf (now m) < 32) × (agesOf (now s) < counterLimit) ⌝ }
     ensures { λ _. ⌜ now (s .exit) ≡ onWrittenSetB (now (m .entry)) (Posting·from (now (s .entry))) .state ⌝ }
 {
     let i = station(m);
     let p = named(m);
-    if server_tests::open_ask(s, i, p, le::get_u32(m, message::TRANSACTION)) {
-        server_changes::loosen(s, i, p, m[message::SETS]);
+    let t = le::get_u32(m, message::TRANSACTION);
+    if server_tests::open_ask(s, i, p, t) {
+        server_changes::heed(s, i, p, t, m[message::SETS]);
         return;
     }
 }

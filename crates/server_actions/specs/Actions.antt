@@ -11,9 +11,9 @@ use Rattle.message.specs.Layout.{setsLength, behindLength, message, single, sta
 use Rattle.message.specs.Layout as Message
 use Rattle.station_state.specs.Layout.{hasBit}
 use Rattle.set_record.specs.Record.{recordFrom}
-use Rattle.server_state.specs.Layout.{pageRow, pageVersionRow, setRow, pageValuesFrom, pageVersionsFrom, readValuesFrom, writtenValuesFrom, workNumber, latestOf, lastOf, askedOf, wholeOf, readSetFrom, writtenSetFrom, kindOf, requestOf, lockingB}
+use Rattle.server_state.specs.Layout.{pageRow, pageVersionRow, setRow, pageValuesFrom, pageVersionsFrom, readValuesFrom, writtenValuesFrom, workNumber, latestOf, lastOf, wholeForOf, askedOf, wholeOf, readSetFrom, writtenSetFrom, kindOf, requestOf, lockingB}
 use Rattle.server_tests.specs.Tests.{openCallB, openAskB, shutB, concernedSet, hinderedB, unavailableB, writtenPagesB, informedB}
-use Rattle.server_changes.specs.Changes.{noticeB, keepsAgeB, finishB, leaveB, joinReadB, joinWriteB, joinCommitB, unpackB, listB, unlistB, markBusyB, answeredB, loosenB, askedB, calledB, lockPageB, writeB}
+use Rattle.server_changes.specs.Changes.{noticeB, keepsAgeB, finishB, leaveB, joinReadB, joinWriteB, joinCommitB, unpackB, listB, unlistB, markBusyB, answeredB, heedB, askedB, calledB, lockPageB, writeB}
 
 -- a step under way: the state, the messages sent in order, the records archived
 pub record Serving : Type 0 where
@@ -41,7 +41,7 @@ pageB kind i a u s =
     message kind i (a / 8) (a % 8) (latestOf s i) 0 0 (single u) (take pageRow (drop (pageValuesFrom (a / 8)) s) ++ take pageVersionRow (drop (pageVersionsFrom (a / 8)) s))
 
 abbrev pub deescalateB : ℕ → ℕ → List ℕ → List ℕ
-deescalateB h p s = plain 19 h p 0 (latestOf s h) 0 0
+deescalateB h p s = plain 19 h p 0 (wholeForOf s p) 0 0
 
 -- object sets by page: what i's entry writes
 abbrev pub writtenSets : ℕ → List ℕ → List ℕ
@@ -137,7 +137,7 @@ onDoneB m x =
 
 unfoldable pub onWrittenSetB : List ℕ → Serving → Serving
 onWrittenSetB m x =
-    cond (openAskB (x .state) (stationOf m) (pageOf m) (transactionOf m)) (onState x (loosenB (stationOf m) (pageOf m) (setOf m 0) (x .state))) x
+    cond (openAskB (x .state) (stationOf m) (pageOf m) (transactionOf m)) (onState x (heedB (stationOf m) (pageOf m) (transactionOf m) (setOf m 0) (x .state))) x
 
 unfoldable pub acceptB : List ℕ → Serving → Serving
 acceptB m x =

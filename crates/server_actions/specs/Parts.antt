@@ -1,18 +1,18 @@
 -- Each action of the server adds to what was sent and archived, and depends on the state alone.
 use Prim.Native.Nat.{ℕ, _-_, _/_, _^_}
 use mathlib.Core.Path.{_≡_, refl}
-use mathlib.Core.Bool.{Bool, not, _&&_, cond}
+use mathlib.Core.Bool.{Bool, true, false, cond}
 use mathlib.Core.List.{List, [], _∷_}
 use lib.Dec.{eqb}
 use Rattle.sets.specs.Base.{snoc}
 use Rattle.message.specs.Layout.{stationOf, pageOf, requesterOf, transactionOf, pagesOf, setOf}
 use Rattle.message.specs.Layout as Message
 use Rattle.station_state.specs.Layout.{hasBit}
-use Rattle.server_state.specs.Layout.{lastOf, latestOf, workNumber, askedOf, wholeOf, writtenSet, wantOf, requestOf, calledOf, pendOf, lockingB}
-use Rattle.server_tests.specs.Tests.{openCallB, openAskB, faultB, blockedB, shutB, shutOutB, concernedSet, hinderedB, unavailableB, writtenPagesB, informedB}
-use Rattle.server_changes.specs.Changes.{keepsAgeB, noticeB, finishB, leaveB, joinReadB, joinWriteB, joinCommitB, unpackB, listB, unlistB, markBusyB, answeredB, loosenB, askedB, calledB, lockPageB, lockTo, writeB}
+use Rattle.server_state.specs.Layout.{lastOf, latestOf, workNumber, wholeOf, writtenSet, wantOf, requestOf, calledOf, pendOf, lockingB}
+use Rattle.server_tests.specs.Tests.{openCallB, openAskB, faultB, blockedB, shutOutB, outOfTimeB, dueB, concernedSet, hinderedB, unavailableB, writtenPagesB, informedB}
+use Rattle.server_changes.specs.Changes.{keepsAgeB, noticeB, finishB, leaveB, joinReadB, joinWriteB, joinCommitB, unpackB, listB, unlistB, markBusyB, answeredB, heedB, askedB, calledB, lockPageB, lockTo, writeB}
 use Rattle.server_actions.specs.Actions.{Serving, serving, onState, send, pageB, deescalateB, callbackB, committedB, abortedB, invalidateB, recordB, sendPageB, abortB, informB, informTo, installB, commitNowB, addressOf, noticedB, onReadB, onWriteB, onCommitB, onAbortB, onPurgeB, onBusyB, onDoneB, onWrittenSetB, acceptB, writtenSets}
-use Rattle.server_actions.specs.Pass.{askB, askTo, serveReadB, callOneB, callTo, callB, callOnceB, grantPageB, grantObjectB, grantB, afterCallsB, proceedB, gatesB, visitB, passB}
+use Rattle.server_actions.specs.Pass.{askB, askTo, serveReadB, callOneB, callTo, callB, callOnceB, grantPageB, grantObjectB, grantB, afterCallsB, proceedB, gatesB, judgeB, askKeepersB, visitB, passB}
 use Rattle.server_actions.specs.Posting.{Acts, acts-not, acts-state, acts-send, acts-archive, acts-cond, acts-with, acts-then, Turns, acts-turns}
 
 -- ACTIONS
@@ -113,7 +113,7 @@ acts-done m =
 acts-writtenSet : (m : List ℕ) → Acts (onWrittenSetB m)
 unfolding onWrittenSetB
 acts-writtenSet m =
-    acts-cond (λ s. openAskB s (stationOf m) (pageOf m) (transactionOf m)) (acts-state (loosenB (stationOf m) (pageOf m) (setOf m 0))) acts-not
+    acts-cond (λ s. openAskB s (stationOf m) (pageOf m) (transactionOf m)) (acts-state (heedB (stationOf m) (pageOf m) (transactionOf m) (setOf m 0))) acts-not
 
 -- a case of what is not in the state
 acts-if : (b : Bool) {f g : Serving → Serving} → Acts f → Acts g → Acts (λ x. cond b (f x) (g x))
@@ -133,16 +133,16 @@ acts-accept m =
 
 -- THE PASS
 
-pub acts-ask : (i p : ℕ) → Acts (λ x. askB i x p)
+pub acts-ask : (k : Bool) (i p : ℕ) → Acts (λ x. askB k i x p)
 unfolding askB
-acts-ask i p =
+acts-ask k i p =
     acts-with
-    (λ s x. cond (shutB (x .state) i p && not (hasBit (askedOf (x .state)) p)) (send (onState x (askedB p (x .state))) (deescalateB (wholeOf s p - 1) p s)) x)
-    (λ s. acts-cond (λ t. shutB t i p && not (hasBit (askedOf t) p)) (acts-then (acts-state (askedB p)) (acts-send (deescalateB (wholeOf s p - 1) p s))) acts-not)
+    (λ s x. cond (dueB k (x .state) i p) (send (onState x (askedB p (x .state))) (deescalateB (wholeOf s p - 1) p s)) x)
+    (λ s. acts-cond (λ t. dueB k t i p) (acts-then (acts-state (askedB p)) (acts-send (deescalateB (wholeOf s p - 1) p s))) acts-not)
 
-pub turns-asks : (i : ℕ) → Turns (askTo i) (askB i)
+pub turns-asks : (k : Bool) (i : ℕ) → Turns (askTo k i) (askB k i)
 unfolding askTo
-turns-asks i = record { none = λ x. refl; next = λ x n. refl; acts = acts-ask i }
+turns-asks k i = record { none = λ x. refl; next = λ x n. refl; acts = acts-ask k i }
 
 pub acts-serveRead : (i : ℕ) → Acts (serveReadB i)
 unfolding serveReadB
@@ -194,7 +194,16 @@ acts-proceed w i = acts-if (eqb w 1) (acts-serveRead i) (acts-then (acts-callOnc
 
 pub acts-gates : (w i : ℕ) → Acts (gatesB w i)
 unfolding gatesB
-acts-gates w i = acts-cond (λ s. blockedB s i) acts-not (acts-cond (λ s. shutOutB s i) (acts-turns (turns-asks i) 32) (acts-proceed w i))
+acts-gates w i = acts-cond (λ s. blockedB s i) acts-not (acts-cond (λ s. shutOutB s i) (acts-turns (turns-asks false i) 32) (acts-proceed w i))
+
+pub acts-judge : (i : ℕ) → Acts (judgeB i)
+unfolding judgeB
+acts-judge i =
+    acts-with (λ s x. cond (eqb (faultB s i) 0) (gatesB 3 i x) (abortB i (faultB s i) x)) (λ s. acts-if (eqb (faultB s i) 0) (acts-gates 3 i) (acts-abort i (faultB s i)))
+
+pub acts-askKeepers : (i : ℕ) → Acts (askKeepersB i)
+unfolding askKeepersB
+acts-askKeepers i = acts-turns (turns-asks true i) 32
 
 pub acts-visit : (i : ℕ) → Acts (visitB i)
 unfolding visitB
@@ -202,11 +211,11 @@ acts-visit i =
     acts-with
     (λ s x.
     let w = wantOf s i in
-    cond (eqb w 0) x (cond (eqb w 3) (cond (eqb (faultB s i) 0) (gatesB w i x) (abortB i (faultB s i) x)) (gatesB w i x)))
+    cond (eqb w 0) x (cond (eqb w 3) (judgeB i (cond (outOfTimeB (x .state) i) x (askKeepersB i x))) (gatesB w i (askKeepersB i x))))
     (λ s.
     let w = wantOf s i in
     acts-if (eqb w 0) acts-not
-    (acts-if (eqb w 3) (acts-if (eqb (faultB s i) 0) (acts-gates w i) (acts-abort i (faultB s i))) (acts-gates w i)))
+    (acts-if (eqb w 3) (acts-then (acts-cond (λ t. outOfTimeB t i) acts-not (acts-askKeepers i)) (acts-judge i)) (acts-then (acts-askKeepers i) (acts-gates w i))))
 
 pub acts-pass : (l : List ℕ) → Acts (passB l)
 unfolding passB

@@ -1,25 +1,25 @@
 -- The pass: one waiter's turn, the list in order, cycles, until nothing changes.
 use Prim.Native.Nat.{ℕ, zero, suc, _+_, _-_, _*_, _/_}
 use mathlib.Core.List.{List, [], _∷_}
-use mathlib.Core.Bool.{Bool, not, _&&_, cond}
+use mathlib.Core.Bool.{Bool, true, false, not, cond}
 use lib.ListN.{length}
 use lib.Dec.{eqb}
 use Rattle.station_state.specs.Layout.{hasBit}
 use Rattle.server_state.specs.Layout.{arrivalOf, latestOf, askedOf, wholeOf, writtenSet, wantOf, requestOf, calledOf, pendOf}
-use Rattle.server_tests.specs.Tests.{unexpectedB, faultB, blockedB, shutB, shutOutB, concernedSet, hinderedB, unavailableB}
+use Rattle.server_tests.specs.Tests.{unexpectedB, faultB, blockedB, outOfTimeB, dueB, shutOutB, concernedSet, hinderedB, unavailableB}
 use Rattle.server_order.specs.Order.{firstTo, victimB}
 use Rattle.server_changes.specs.Changes.{leaveB, askedB, calledB, lockPageB, lockTo}
 use Rattle.server_actions.specs.Actions.{Serving, serving, onState, send, deescalateB, callbackB, sendPageB, abortB, installB, acceptB}
 
--- "send 19, once for each 18, pages rising"
-unfoldable pub askB : ℕ → Serving → ℕ → Serving
-askB i x p =
+-- "send 19, once for each 18, pages rising"; k, only to keeping holders
+unfoldable pub askB : Bool → ℕ → Serving → ℕ → Serving
+askB k i x p =
     let s = x .state in
-    cond (shutB s i p && not (hasBit (askedOf s) p)) (send (onState x (askedB p s)) (deescalateB (wholeOf s p - 1) p s)) x
+    cond (dueB k s i p) (send (onState x (askedB p s)) (deescalateB (wholeOf s p - 1) p s)) x
 
-unfoldable pub askTo : ℕ → Serving → ℕ → Serving
-askTo i x zero = x
-askTo i x (suc p) = askB i (askTo i x p) p
+unfoldable pub askTo : Bool → ℕ → Serving → ℕ → Serving
+askTo k i x zero = x
+askTo k i x (suc p) = askB k i (askTo k i x p) p
 
 -- "Read: send 16."
 unfoldable pub serveReadB : ℕ → Serving → Serving
@@ -70,13 +70,22 @@ proceedB w i x = cond (eqb w 1) (serveReadB i x) (afterCallsB w i (callOnceB i x
 -- the bullets are gates, looked at anew at every visit
 unfoldable pub gatesB : ℕ → ℕ → Serving → Serving
 gatesB w i x =
-    cond (blockedB (x .state) i) x (cond (shutOutB (x .state) i) (askTo i x 32) (proceedB w i x))
+    cond (blockedB (x .state) i) x (cond (shutOutB (x .state) i) (askTo false i x 32) (proceedB w i x))
+
+-- a commit that cannot be installed any more is aborted
+unfoldable pub judgeB : ℕ → Serving → Serving
+judgeB i x = cond (eqb (faultB (x .state) i) 0) (gatesB 3 i x) (abortB i (faultB (x .state) i) x)
+
+-- document 02, wish 10: "The server sends it 19 as soon as another's waiting request or commit wants the page, even one blocked or given
+-- cause 3 (19 goes first), not 2 or 4"
+unfoldable pub askKeepersB : ℕ → Serving → Serving
+askKeepersB i x = askTo true i x 32
 
 unfoldable pub visitB : ℕ → Serving → Serving
 visitB i x =
     let w = wantOf (x .state) i in
     cond (eqb w 0) x
-    (cond (eqb w 3) (cond (eqb (faultB (x .state) i) 0) (gatesB w i x) (abortB i (faultB (x .state) i) x)) (gatesB w i x))
+    (cond (eqb w 3) (judgeB i (cond (outOfTimeB (x .state) i) x (askKeepersB i x))) (gatesB w i (askKeepersB i x)))
 
 -- "the list is passed in order": the n stations that wait and arrived from b on
 unfoldable pub orderB : List ℕ → ℕ → ℕ → List ℕ

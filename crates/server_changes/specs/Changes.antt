@@ -1,17 +1,17 @@
 -- "Server steps": the changes of the server's state. Each definition carries out the one of crate line that has its name.
 use Prim.Native.Nat.{ℕ, zero, suc, _+_, _-_, _*_, _/_, _^_}
 use mathlib.Core.List.{List}
-use mathlib.Core.Bool.{Bool, not, cond}
+use mathlib.Core.Bool.{Bool, not, _&&_, cond}
 use lib.ListN.{getD, set}
 use lib.Bits.{bitAnd, bitOr}
-use lib.Dec.{eqb}
+use lib.Dec.{eqb, ltb}
 use Rattle.le.specs.Le.{u64At, setU32, setU64}
 use Rattle.message.specs.Layout.{transactionOf}
 use Rattle.message.specs.Commit.{addressesAt, sentReads, sentWrites, entriesOf, entryVersion}
 use Rattle.layout.specs.Record.{valueLength}
 use Rattle.station_state.specs.Layout.{pageSetWidth, numberWidth, valueWidth, hasBit, member}
 use Rattle.station_state.specs.Changes.{addTo, pageOn, pageOff, clearTo}
-use Rattle.server_state.specs.Layout.{ageWidth, setRow, valueFrom, ageFrom, arrivalFrom, nextAgeFrom, nextArrivalFrom, versionFrom, workFrom, latestFrom, listedFrom, lastFrom, askedFrom, lockFrom, wholeFrom, wantFrom, requestFrom, calledFrom, pendFrom, busyFrom, unfinishedFrom, ageKeptFrom, readVersionsFrom, writtenVersionsFrom, readValuesFrom, writtenValuesFrom, agesOf, arrivalsOf, latestOf, listedOf, lastOf, lockOf, wholeOf, readSetFrom, writtenSetFrom, pendOf, busyOf, ageKeptOf}
+use Rattle.server_state.specs.Layout.{ageWidth, setRow, valueFrom, ageFrom, arrivalFrom, nextAgeFrom, nextArrivalFrom, versionFrom, workFrom, latestFrom, listedFrom, lastFrom, askedFrom, wholeForFrom, lockFrom, wholeFrom, wantFrom, requestFrom, calledFrom, pendFrom, busyFrom, unfinishedFrom, ageKeptFrom, readVersionsFrom, writtenVersionsFrom, readValuesFrom, writtenValuesFrom, agesOf, arrivalsOf, latestOf, listedOf, lastOf, lockOf, wholeOf, readSetFrom, writtenSetFrom, pendOf, busyOf, unfinishedOf, ageKeptOf, keepsB}
 
 -- the next age, and the counter one higher
 unfoldable pub newAgeB : ℕ → List ℕ → List ℕ
@@ -27,13 +27,21 @@ noticeB i t s = cond (eqb t (latestOf s i)) s (setU32 (set (ageB i s) (unfinishe
 
 -- "every transaction's end frees its locks"
 
+-- page p's whole lock is h's (0 for none), given to its transaction t, and no 19 is out for it
+unfoldable pub holdB : ℕ → ℕ → ℕ → List ℕ → List ℕ
+holdB p h t s = setU32 (set (pageOff s askedFrom p) (wholeFrom + p) h) (wholeForFrom + p * numberWidth) t
+
 -- a page locked whole by i, with its 19
 unfoldable pub freePageB : ℕ → List ℕ → ℕ → List ℕ
-freePageB i s p = cond (eqb (wholeOf s p) (i + 1)) (pageOff (set s (wholeFrom + p) 0) askedFrom p) s
+freePageB i s p = cond (eqb (wholeOf s p) (i + 1)) (holdB p 0 0 s) s
 
 unfoldable pub freePagesTo : ℕ → List ℕ → ℕ → List ℕ
 freePagesTo i s zero = s
 freePagesTo i s (suc p) = freePageB i (freePagesTo i s p) p
+
+-- document 02, wish 10: a keeping station's "whole-page lock outlives commit and abort"
+unfoldable pub freePagesB : ℕ → List ℕ → List ℕ
+freePagesB i s = cond (keepsB s i) s (freePagesTo i s 32)
 
 unfoldable pub freeOneB : ℕ → List ℕ → ℕ → List ℕ
 freeOneB i s a = cond (eqb (lockOf s a) (i + 1)) (set s (lockFrom + a) 0) s
@@ -48,7 +56,7 @@ keepsAgeB c = cond (eqb c 1) 1 0
 
 -- k is 1 where the station keeps its age
 unfoldable pub finishB : ℕ → ℕ → List ℕ → List ℕ
-finishB i k s = set (set (freeTo i (freePagesTo i s 32) 256) (unfinishedFrom + i) 0) (ageKeptFrom + i) k
+finishB i k s = set (set (freeTo i (freePagesB i s) 256) (unfinishedFrom + i) 0) (ageKeptFrom + i) k
 
 -- a station's entry in the waiting list goes
 unfoldable pub leaveB : ℕ → List ℕ → List ℕ
@@ -114,7 +122,19 @@ lockTo i p x s zero = s
 lockTo i p x s (suc o) = lockOneB i p x (lockTo i p x s o) o
 
 unfoldable pub loosenB : ℕ → ℕ → ℕ → List ℕ → List ℕ
-loosenB i p x s = lockTo i p x (set (pageOff s askedFrom p) (wholeFrom + p) 0) 8
+loosenB i p x s = lockTo i p x (holdB p 0 0 s) 8
+
+-- "A transaction that the server first meets through such an 8 gets its age then."
+unfoldable pub meetB : ℕ → ℕ → List ℕ → List ℕ
+meetB i t s = cond (ltb (latestOf s i) t) (noticeB i t s) s
+
+-- "its set is locked only if that transaction is unfinished"
+unfoldable pub heededB : ℕ → ℕ → ℕ → List ℕ → ℕ
+heededB i t x s = cond (not (eqb (unfinishedOf s i) 0) && eqb t (latestOf s i)) x 0
+
+-- an 8 of transaction t that answers
+unfoldable pub heedB : ℕ → ℕ → ℕ → ℕ → List ℕ → List ℕ
+heedB i p t x s = let u = meetB i t s in loosenB i p (heededB i t x u) u
 
 -- "send 19, once for each 18"
 unfoldable pub askedB : ℕ → List ℕ → List ℕ
@@ -126,7 +146,7 @@ calledB i x s = set (set s (calledFrom + i) 1) (pendFrom + i) x
 
 -- 18
 unfoldable pub lockPageB : ℕ → ℕ → List ℕ → List ℕ
-lockPageB i p s = set (pageOff s askedFrom p) (wholeFrom + p) (i + 1)
+lockPageB i p s = holdB p (i + 1) (latestOf s i) s
 
 -- "write values", from i's entry; written objects take the new number n as version
 

@@ -7,7 +7,7 @@ ghost use Rattle.message.specs.Layout.{versionWidth};
 ghost use Rattle.message.specs.Commit.{versionsAt, shortestCommit, addressesAt, entriesOf};
 ghost use Rattle.layout.specs.Record.{entryLength};
 ghost use Rattle.server_state.specs.Layout.{ageWidth, serverLength, valueRow, versionRow, setRow, counterLimit, ageFrom, nextAgeFrom, agesOf, arrivalsOf, lastOf};
-ghost use Rattle.server_changes.specs.Changes.{newAgeB, ageB, noticeB, keepsAgeB, freePageB, freePagesTo, freeOneB, freeTo, finishB, leaveB, joinB, joinReadB, joinWriteB, unpackOne, unpackTo, unpackB, joinCommitB, listB, unlistB, markBusyB, answeredB, lockOneB, lockTo, loosenB, askedB, calledB, lockPageB, valueOneB, valuesTo, writeB};
+ghost use Rattle.server_changes.specs.Changes.{newAgeB, ageB, noticeB, keepsAgeB, holdB, freePageB, freePagesTo, freePagesB, freeOneB, freeTo, finishB, leaveB, joinB, joinReadB, joinWriteB, unpackOne, unpackTo, unpackB, joinCommitB, listB, unlistB, markBusyB, answeredB, lockOneB, lockTo, loosenB, meetB, heededB, heedB, askedB, calledB, lockPageB, valueOneB, valuesTo, writeB};
 ghost use Rattle.server_changes.specs.Frees.{freeFrom};
 use server_state::AGE;
 use server_state::AGE_KEPT;
@@ -35,6 +35,7 @@ use server_state::VERSION;
 use server_state::VERSION_ROW;
 use server_state::WANT;
 use server_state::WHOLE;
+use server_state::WHOLE_FOR;
 use server_state::WORK;
 use server_state::WRITTEN_SET;
 use server_state::WRITTEN_VALUE;
@@ -91,19 +92,28 @@ pub fn notice(s: &mut [u8], i: usize, t: u32)
     le::put_u32(s, LATEST + i * NUMBER_WIDTH, t);
 }
 
+// Page p's whole lock is h's (0 for none), given to its transaction t, and no 19 is out for it.
+fn hold(s: &mut [u8], p: usize, h: u8, t: u32)
+    requires { ⌜ (length (now s) ≡ serverLength) × (p < 32) ⌝ }
+    ensures { λ _. ⌜ now (s .exit) ≡ holdB p h t (now (s .entry)) ⌝ }
+{
+    station_state::page_off(s, ASKED, p);
+    le::put_u8(s, WHOLE + p, h);
+    le::put_u32(s, WHOLE_FOR + p * NUMBER_WIDTH, t);
+}
+
 // The 19 of a page goes with its whole lock.
 fn free_page(s: &mut [u8], i: usize, p: usize)
     requires { ⌜ (length (now s) ≡ serverLength) × (i < 8) × (p < 32) ⌝ }
     ensures { λ _. ⌜ now (s .exit) ≡ freePageB i (now (s .entry)) p ⌝ }
 {
     if s[WHOLE + p] == holder(i) {
-        le::put_u8(s, WHOLE + p, 0);
-        station_state::page_off(s, ASKED, p);
+        hold(s, p, 0, 0);
         return;
     }
 }
 
-fn free_pages(s: &mut [u8], i: usize)
+fn free_all_pages(s: &mut [u8], i: usize)
     requires { ⌜ (length (now s) ≡ serverLength) × (i < 8) ⌝ }
     ensures { λ _. ⌜ now (s .exit) ≡ freePagesTo i (now (s .entry)) 32 ⌝ }
 {
@@ -112,6 +122,17 @@ fn free_pages(s: &mut [u8], i: usize)
         free_page(s, i, p);
         p += 1;
     }
+}
+
+// A keeping station's whole locks outlive its transactions.
+fn free_pages(s: &mut [u8], i: usize)
+    requires { ⌜ (length (now s) ≡ serverLength) × (i < 8) ⌝ }
+    ensures { λ _. ⌜ now (s .exit) ≡ freePagesB i (now (s .entry)) ⌝ }
+{
+    if server_state::keeps(s, i) {
+        return;
+    }
+    free_all_pages(s, i);
 }
 
 fn free_one(s: &mut [u8], i: usize, a: usize)
@@ -344,13 +365,44 @@ pub fn lock_set(s: &mut [u8], i: usize, p: usize, x: u8)
 }
 
 // The whole lock of i on page p becomes locks on the objects of x.
-pub fn loosen(s: &mut [u8], i: usize, p: usize, x: u8)
+fn loosen(s: &mut [u8], i: usize, p: usize, x: u8)
     requires { ⌜ (length (now s) ≡ serverLength) × (i < 8) × (p < 32) ⌝ }
     ensures { λ _. ⌜ now (s .exit) ≡ loosenB i p x (now (s .entry)) ⌝ }
 {
-    station_state::page_off(s, ASKED, p);
-    le::put_u8(s, WHOLE + p, 0);
+    hold(s, p, 0, 0);
     lock_set(s, i, p, x);
+}
+
+// A transaction that station i's 8 is the first to name is met.
+fn meet(s: &mut [u8], i: usize, t: u32)
+    requires { ⌜ (length (now s) ≡ serverLength) × (i < 8) × (agesOf (now s) < counterLimit) ⌝ }
+    ensures { λ _. ⌜ now (s .exit) ≡ meetB i t (now (s .entry)) ⌝ }
+{
+    if server_state::latest(s, i) < t {
+        notice(s, i, t);
+        return;
+    }
+}
+
+// Of the objects x that an 8 of transaction t names, those that are locked: all or none.
+fn heeded(s: &[u8], i: usize, t: u32, x: u8) -> u8
+    requires { ⌜ (length (now s) ≡ serverLength) × (i < 8) ⌝ }
+    ensures { λ r. ⌜ r ≡ heededB i t x (now (s .entry)) ⌝ }
+{
+    if (s[UNFINISHED + i] != 0) & (t == server_state::latest(s, i)) {
+        return x;
+    }
+    0
+}
+
+// An 8 of transaction t answers: page p's whole lock goes.
+pub fn heed(s: &mut [u8], i: usize, p: usize, t: u32, x: u8)
+    requires { ⌜ (length (now s) ≡ serverLength) × (i < 8) × (p < 32) × (agesOf (now s) < counterLimit) ⌝ }
+    ensures { λ _. ⌜ now (s .exit) ≡ heedB i p t x (now (s .entry)) ⌝ }
+{
+    meet(s, i, t);
+    let y = heeded(s, i, t, x);
+    loosen(s, i, p, y);
 }
 
 // The 19 of page p is sent.
@@ -375,8 +427,8 @@ pub fn lock_page(s: &mut [u8], i: usize, p: usize)
     requires { ⌜ (length (now s) ≡ serverLength) × (i < 8) × (p < 32) ⌝ }
     ensures { λ _. ⌜ now (s .exit) ≡ lockPageB i p (now (s .entry)) ⌝ }
 {
-    station_state::page_off(s, ASKED, p);
-    le::put_u8(s, WHOLE + p, holder(i));
+    let t = server_state::latest(s, i);
+    hold(s, p, holder(i), t);
 }
 
 // What i's entry writes at address a is written there, with version n.

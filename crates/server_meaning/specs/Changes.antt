@@ -15,13 +15,13 @@ use Rattle.cells.specs.Upd.{ltb-suc, cond-rel}
 use Rattle.cells.specs.Bits.{tb, tb-set, tb-mask, tb-clear-all, bit-on}
 use Rattle.cells.specs.Cells.{off, view, put8, put32, put64, get64, cell-lt}
 use Rattle.cells.specs.Sets.{on32, off32, and32}
-use Rattle.line.specs.Server.{aged, Server, setOl, setWl, setAsked, setListed, setLatest, setFin, setAge, setAges}
+use Rattle.line.specs.Server.{aged, Server, setOl, setWl, setWholeFor, setAsked, setListed, setLatest, setFin, setAge, setAges}
 use Rattle.station_state.specs.Layout.{pageSetWidth, numberWidth, hasBit}
 use Rattle.station_state.specs.Changes.{pageOn, pageOff}
-use Rattle.server_state.specs.Layout.{ageWidth, ageCell, nextAgeCell, latestCell, listedCell, askedCell, lockCell, wholeCell, unfinishedCell, table, ageFrom, nextAgeFrom, latestFrom, listedFrom, askedFrom, lockFrom, wholeFrom, unfinishedFrom, agesOf, latestOf, ageKeptOf}
-use Rattle.server_changes.specs.Changes.{newAgeB, ageB, noticeB, listB, unlistB, lockOneB, lockTo, loosenB, askedB, lockPageB}
+use Rattle.server_state.specs.Layout.{ageWidth, ageCell, nextAgeCell, latestCell, listedCell, askedCell, wholeForCell, lockCell, wholeCell, unfinishedCell, table, ageFrom, nextAgeFrom, latestFrom, listedFrom, askedFrom, wholeForFrom, lockFrom, wholeFrom, unfinishedFrom, agesOf, latestOf, ageKeptOf}
+use Rattle.server_changes.specs.Changes.{newAgeB, ageB, noticeB, listB, unlistB, lockOneB, lockTo, holdB, loosenB, askedB, lockPageB}
 use Rattle.server_meaning.specs.Meant.{meant, Is, start, done}
-use Rattle.server_meaning.specs.Tests.{bit-is, latest-at, ageKept-at}
+use Rattle.server_meaning.specs.Tests.{bit-is, latest-at, latest-lt, ageKept-at}
 
 upd-own : (f : ℕ → ℕ) (i : ℕ) → upd f i (f i) ≡ f
 upd-own f i = fun-ext (λ j. byEq j i (λ e. rw (e, eqb-yes j i e) refl) (λ e. rw e refl))
@@ -93,20 +93,24 @@ module _ {s : List ℕ} {m : Server} (h : Is s m) where
       (on32 (start h) askedCell 0 0 p askedFrom refl (omega arith) (omega arith) refl q)
       (ap (setAsked (meant s)) (fun-ext (tb-set (view table 0 s askedCell 0 0) p)))
 
-  -- page p is locked whole by x (0 for none), and no 19 of before counts
-  whole-is : (p x : ℕ) → p < 32 → x < 256 → Is (set (pageOff s askedFrom p) (wholeFrom + p) x) (setWl (setAsked m (upd (m .asked) p false)) (upd (m .wl) p x))
-  unfolding pageOff
-  whole-is p x q lx =
-      done h (λ (n : Server). setWl (setAsked n (upd (n .asked) p false)) (upd (n .wl) p x))
-      (put8 (off32 (start h) askedCell 0 0 p askedFrom refl (omega arith) (omega arith) refl) wholeCell 0 p x (wholeFrom + p) refl (omega arith) (omega arith) q lx)
-      (ap (λ (f : ℕ → Bool). setWl (setAsked (meant s) f) (upd ((meant s) .wl) p x))
+  -- page p is locked whole by x (0 for none), given to transaction t, and no 19 of before counts
+  pub hold-is : (p x t : ℕ) → p < 32 → x < 256 → t < 2 ^ 32
+      → Is (holdB p x t s) (setWl (setWholeFor (setAsked m (upd (m .asked) p false)) (upd (m .wholeFor) p t)) (upd (m .wl) p x))
+  unfolding holdB pageOff
+  hold-is p x t q lx lt =
+      let whole = put8 (off32 (start h) askedCell 0 0 p askedFrom refl (omega arith) (omega arith) refl) wholeCell 0 p x (wholeFrom + p) refl (omega arith) (omega arith) q lx in
+      done h (λ (n : Server). setWl (setWholeFor (setAsked n (upd (n .asked) p false)) (upd (n .wholeFor) p t)) (upd (n .wl) p x))
+      (put32 whole wholeForCell 0 p t (wholeForFrom + p * numberWidth) refl (omega arith) (omega arith) q lt)
+      (ap (λ (f : ℕ → Bool). setWl (setWholeFor (setAsked (meant s) f) (upd ((meant s) .wholeFor) p t)) (upd ((meant s) .wl) p x))
       (fun-ext (λ k. tb-clear-all 32 (view table 0 s askedCell 0 0) p k q (cell-lt (start h) askedCell 0 0))))
 
-  pub lockPage-is : (i p : ℕ) → i < 8 → p < 32 → Is (lockPageB i p s) (setWl (setAsked m (upd (m .asked) p false)) (upd (m .wl) p (suc i)))
+  pub lockPage-is : (i p : ℕ) → i < 8 → p < 32
+      → Is (lockPageB i p s) (setWl (setWholeFor (setAsked m (upd (m .asked) p false)) (upd (m .wholeFor) p (m .latest i))) (upd (m .wl) p (suc i)))
   unfolding lockPageB
   lockPage-is i p l q =
-      subst (λ (x : ℕ). Is (set (pageOff s askedFrom p) (wholeFrom + p) (i + 1)) (setWl (setAsked m (upd (m .asked) p false)) (upd (m .wl) p x))) (add-one i)
-      (whole-is p (i + 1) q (omega arith))
+      subst (λ (x : ℕ). Is (holdB p (i + 1) (latestOf s i) s) (setWl (setWholeFor (setAsked m (upd (m .asked) p false)) (upd (m .wholeFor) p (m .latest i))) (upd (m .wl) p x))) (add-one i)
+      (subst (λ (t : ℕ). Is (holdB p (i + 1) (latestOf s i) s) (setWl (setWholeFor (setAsked m (upd (m .asked) p false)) (upd (m .wholeFor) p t)) (upd (m .wl) p (i + 1)))) (latest-at h i l)
+      (hold-is p (i + 1) (latestOf s i) q (omega arith) (latest-lt h i l)))
 
 -- locks on a set: the objects of x on page p, those below n
 abbrev lockedTo : (ℕ → ℕ) → ℕ → ℕ → ℕ → ℕ → ℕ → ℕ
@@ -163,9 +167,9 @@ lock-is {s} {m} h i p x l q =
     subst (Is (lockTo i p x s 8)) (ap (setOl m) (fun-ext (λ a. rw (lt-ltb (a % 8) 8 (omega arith))))) (lock-to h i p x l q 8 (omega arith))
 
 pub loosen-is : {s : List ℕ} {m : Server} → Is s m → (i p x : ℕ) → i < 8 → p < 32
-    → Is (loosenB i p x s) (setOl (setWl (setAsked m (upd (m .asked) p false)) (upd (m .wl) p 0)) (λ a. cond (eqb (a / 8) p && tb x (a % 8)) (suc i) (m .ol a)))
+    → Is (loosenB i p x s) (setOl (setWl (setWholeFor (setAsked m (upd (m .asked) p false)) (upd (m .wholeFor) p 0)) (upd (m .wl) p 0)) (λ a. cond (eqb (a / 8) p && tb x (a % 8)) (suc i) (m .ol a)))
 unfolding loosenB
-loosen-is h i p x l q = lock-is (whole-is h p 0 q (omega arith)) i p x l q
+loosen-is h i p x l q = lock-is (hold-is h p 0 0 q (omega arith) (omega arith)) i p x l q
 
 pub notice-is : {s : List ℕ} {m : Server} → Is s m → (i t : ℕ) → i < 8 → t < 2 ^ 32 → agesOf s + 1 < 2 ^ 64
     → let g = aged (m .ageKept i) (m .age i) (m .ages) in Is (noticeB i t s)

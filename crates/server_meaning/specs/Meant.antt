@@ -12,7 +12,7 @@ use Rattle.cells.specs.Cells.{Cells, view, Holds, begin}
 use Rattle.line.specs.Messages.{Work}
 use Rattle.line.specs.Server.{Server, Waiter, Want, NoWant, WantRead, WantWrite, WantCommit, noWork}
 use Rattle.station_meaning.specs.Meant.{within, valueIf}
-use Rattle.server_state.specs.Layout.{valueCell, readValueCell, writtenValueCell, ageCell, arrivalCell, nextAgeCell, nextArrivalCell, versionCell, readVersionCell, writtenVersionCell, workCell, latestCell, listedCell, lastCell, askedCell, lockCell, wholeCell, readSetCell, writtenSetCell, kindCell, wantCell, requestCell, calledCell, pendCell, busyCell, unfinishedCell, ageKeptCell, table, serverLength}
+use Rattle.server_state.specs.Layout.{valueCell, readValueCell, writtenValueCell, ageCell, arrivalCell, nextAgeCell, nextArrivalCell, versionCell, readVersionCell, writtenVersionCell, workCell, latestCell, listedCell, lastCell, askedCell, wholeForCell, lockCell, wholeCell, readSetCell, writtenSetCell, kindCell, wantCell, requestCell, calledCell, pendCell, busyCell, unfinishedCell, ageKeptCell, table, serverLength}
 
 -- "0 nothing, 1 a read, 2 a write, 3 a commit"
 abbrev pub wantAs : ℕ → Want
@@ -52,6 +52,7 @@ meantC C =
       last = C lastCell 0 0;
       ol = λ a. C lockCell 0 a;
       wl = λ p. C wholeCell 0 p;
+      wholeFor = λ p. C wholeForCell 0 p;
       asked = tb (C askedCell 0 0);
       listed = λ i p. tb (C listedCell i 0) p;
       latest = λ i. C latestCell i 0;

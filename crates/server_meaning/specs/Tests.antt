@@ -1,5 +1,5 @@
 -- What the server's bytes are read for means the model's field or test.
-use Prim.Native.Nat.{ℕ, zero, suc, _+_, _*_, _≤_, _<_, _/_, _%_, _^_}
+use Prim.Native.Nat.{ℕ, zero, suc, _+_, _-_, _*_, _≤_, _<_, _/_, _%_, _^_}
 use mathlib.Core.Path.{_≡_, refl, sym, ap, ap₂, _∙_, fun-ext}
 use mathlib.Core.Bool.{Bool, true, false, not, _&&_, _||_, cond, and-comm, and-assoc, and-true, and-false, Bool·not-not, false≢true}
 use mathlib.Core.List.{List}
@@ -19,16 +19,16 @@ use Rattle.cells.specs.Cells.{view, view-col, get8, get32, get64, cell-lt}
 use Rattle.cells.specs.Sets.{test8}
 use Rattle.cells.specs.Loops.{anyTo, any-to, any-same, mask-is, mask-lt}
 use Rattle.cells.specs.Pages.{any-bits, any-byte, page-any, page-join, any-all}
-use Rattle.line.specs.Messages.{locking, Work}
-use Rattle.line.specs.Server.{Server, isWant, waits, other, wants, wantsPage, writesPage, usedPage, lockOn, badNumber, unlocked, unavailable, openCall, openAsk, staleAt, stale, lockedAt, locked, fault, earlier, blocks, blockedAt, blocked, shut, concerned, hinders, allAnswered, edge}
+use Rattle.line.specs.Messages.{locking, keeps, Work}
+use Rattle.line.specs.Server.{Server, isWant, waits, other, wants, wantsPage, writesPage, usedPage, lockOn, aboveOpen, badNumber, unlocked, unavailable, openCall, openAsk, staleAt, stale, lockedAt, locked, fault, earlier, blocks, blockedAt, blocked, holder, shut, shutKept, outOfTime, concerned, hinders, allAnswered, edge}
 use Rattle.message.specs.Commit.{addressesAt, sentReads, sentWrites}
 use Rattle.station_state.specs.Layout.{pageSetWidth, numberWidth, valueWidth, hasBit}
 use Rattle.line.specs.Apart.{ageCounts}
 use Rattle.server_state.specs.Valid.{ageless}
-use Rattle.server_state.specs.Layout.{ageWidth, valueCell, readValueCell, writtenValueCell, ageCell, arrivalCell, nextAgeCell, nextArrivalCell, versionCell, readVersionCell, writtenVersionCell, latestCell, listedCell, lastCell, askedCell, lockCell, wholeCell, readSetCell, writtenSetCell, kindCell, wantCell, requestCell, calledCell, pendCell, busyCell, unfinishedCell, ageKeptCell, valueFrom, table, ageFrom, arrivalFrom, nextAgeFrom, nextArrivalFrom, versionFrom, latestFrom, listedFrom, lastFrom, askedFrom, lockFrom, wholeFrom, kindFrom, wantFrom, requestFrom, calledFrom, pendFrom, busyFrom, unfinishedFrom, ageKeptFrom, readVersionsFrom, writtenVersionsFrom, readSetFrom, writtenSetFrom, valueOf, ageOf, arrivalOf, agesOf, arrivalsOf, versionOf, readVersion, writtenVersion, latestOf, listedOf, lastOf, askedOf, lockOf, wholeOf, readSet, writtenSet, kindOf, wantOf, requestOf, calledOf, pendOf, busyOf, unfinishedOf, ageKeptOf, waitsB, otherB, wantedOn}
+use Rattle.server_state.specs.Layout.{ageWidth, valueCell, readValueCell, writtenValueCell, ageCell, arrivalCell, nextAgeCell, nextArrivalCell, versionCell, readVersionCell, writtenVersionCell, latestCell, listedCell, lastCell, askedCell, lockCell, wholeCell, readSetCell, writtenSetCell, kindCell, wantCell, requestCell, calledCell, pendCell, busyCell, unfinishedCell, ageKeptCell, valueFrom, table, ageFrom, arrivalFrom, nextAgeFrom, nextArrivalFrom, versionFrom, latestFrom, listedFrom, lastFrom, askedFrom, lockFrom, wholeFrom, kindFrom, wantFrom, requestFrom, calledFrom, pendFrom, busyFrom, unfinishedFrom, ageKeptFrom, readVersionsFrom, writtenVersionsFrom, readSetFrom, writtenSetFrom, valueOf, ageOf, arrivalOf, agesOf, arrivalsOf, versionOf, readVersion, writtenVersion, latestOf, listedOf, lastOf, askedOf, lockOf, wholeOf, readSet, writtenSet, kindOf, wantOf, requestOf, calledOf, pendOf, busyOf, unfinishedOf, ageKeptOf, keepsB, waitsB, otherB, wantedOn, wholeForCell, wholeForFrom, wholeForOf}
 use Rattle.server_state.specs.Valid.{valid}
 use Rattle.server_state.specs.Facts.{valid-ranged}
-use Rattle.server_tests.specs.Tests.{lockAtB, lockOnB, badNumberB, unlockedAt, unlockedB, dropsLockedB, dropsOwnB, openCallB, openAskB, otherVersion, staleAtB, staleOnB, staleB, lockedAtB, lockedOnB, lockedB, faultB, earlierB, blocksB, blockedAtB, blockedOnB, blockedB, shutB, shutOutB, concernsAt, concernedB, concernedSet, hindersB, hinderedB, waitsToWriteB, unavailableAt, unavailableB, informedB, edgeAtB, edgeOnB, edgeB, edgeSet}
+use Rattle.server_tests.specs.Tests.{lockAtB, lockOnB, badNumberB, unlockedAt, unlockedB, dropsLockedB, dropsOwnB, aboveOpenB, openCallB, openAskB, otherVersion, staleAtB, staleOnB, staleB, lockedAtB, lockedOnB, lockedB, faultB, earlierB, blocksB, blockedAtB, blockedOnB, blockedB, shutB, shutOutB, outOfTimeB, dueB, concernsAt, concernedB, concernedSet, hindersB, hinderedB, waitsToWriteB, unavailableAt, unavailableB, informedB, edgeAtB, edgeOnB, edgeB, edgeSet}
 use Rattle.station_meaning.specs.Meant.{within, valueIf}
 use Rattle.station_meaning.specs.Tests.{has-if}
 use Rattle.server_meaning.specs.Meant.{wantAs, workOf, Is, start}
@@ -49,6 +49,15 @@ tb-page D p o l =
 pub other-at : (h i : ℕ) → otherB h i ≡ other h i
 unfolding otherB
 other-at h i = rw (add-one i)
+
+pub held : (w i : ℕ) → other w i ≡ true → w ≡ suc (holder w)
+held zero i e = absurd (false≢true e)
+held (suc w) i e = refl
+
+-- the pages that 19s go out for: by k, only those of keeping holders
+abbrev pub dueOf : Bool → Server → ℕ → ℕ → Bool
+dueOf true = shutKept
+dueOf false = shut
 
 -- a test of all addresses, page by page
 all-pages : (f g : ℕ → Bool) → ((p : ℕ) → p < 32 → g p ≡ any 8 (λ o. f (p * 8 + o))) → anyTo g 32 ≡ any 256 f
@@ -146,6 +155,12 @@ module _ {s : List ℕ} {m : Server} (h : Is s m) where
 
   pub whole-at : (p : ℕ) → p < 32 → wholeOf s p ≡ m .wl p
   whole-at p l = get8 (start h) wholeCell 0 p (wholeFrom + p) refl (omega arith) (omega arith) l ∙ ap (λ (n : Server). n .wl p) (h .is)
+
+  pub wholeFor-at : (p : ℕ) → p < 32 → wholeForOf s p ≡ m .wholeFor p
+  wholeFor-at p l = get32 (start h) wholeForCell 0 p (wholeForFrom + p * numberWidth) refl (omega arith) (omega arith) l ∙ ap (λ (n : Server). n .wholeFor p) (h .is)
+
+  pub wholeFor-lt : (p : ℕ) → p < 32 → wholeForOf s p < 2 ^ 32
+  wholeFor-lt p l = rw (get32 (start h) wholeForCell 0 p (wholeForFrom + p * numberWidth) refl (omega arith) (omega arith) l) (cell-lt (start h) wholeForCell 0 p)
 
   pub kind-at : (i : ℕ) → i < 8 → kindOf s i ≡ m .kind i
   kind-at i l = get8 (start h) kindCell i 0 (kindFrom + i) refl (omega arith) l (omega arith) ∙ ap (λ (n : Server). n .kind i) (h .is)
@@ -292,6 +307,10 @@ module _ {s : List ℕ} {m : Server} (h : Is s m) where
   unfolding dropsOwnB dropsLockedB
   dropsOwn-at i d = any-to (dropsLockedB s i d) (λ p. tb d p && lockOn m i p) 32 (λ p l. rw (bit-is d p, lockOn-at i p l))
 
+  pub aboveOpen-at : (i t : ℕ) → i < 8 → aboveOpenB s i t ≡ aboveOpen m i t
+  unfolding aboveOpenB
+  aboveOpen-at i t l = rw (latest-at i l, fin-at i l)
+
   -- what an answer answers
 
   pub openCall-at : (i r t : ℕ) → r < 8 → wantOf s r ≤ 3 → openCallB s i r t ≡ openCall m i r t
@@ -300,7 +319,7 @@ module _ {s : List ℕ} {m : Server} (h : Is s m) where
 
   pub openAsk-at : (i p t : ℕ) → i < 8 → p < 32 → openAskB s i p t ≡ openAsk m i p t
   unfolding openAskB
-  openAsk-at i p t li lp = rw (whole-at p lp, add-one i, asked-at p, fin-at i li, latest-at i li)
+  openAsk-at i p t li lp = rw (whole-at p lp, add-one i, asked-at p, kind-at i li, fin-at i li, latest-at i li)
 
   -- a validating commit's faults
 
@@ -377,6 +396,10 @@ module _ {s : List ℕ} {m : Server} (h : Is s m) where
   unfolding faultB
   fault-at i l k = rw (last-at, stale-at i l, locked-at i l, work-at i l k)
 
+  pub outOfTime-at : (i : ℕ) → i < 8 → wantOf s i ≡ 3 → outOfTimeB s i ≡ outOfTime m i
+  unfolding outOfTimeB
+  outOfTime-at i l k = rw (last-at, stale-at i l, work-at i l k)
+
   -- "a locking commit that writes an unlocked object": the work's writes are at the addresses of the message's record
 
   pub unlocked-of : (i : ℕ) (x : List ℕ) (w : Work) → i < 8 → AllBytes x
@@ -405,6 +428,19 @@ module _ {s : List ℕ} {m : Server} (h : Is s m) where
   pub shutOut-at : (i : ℕ) → i < 8 → shutOutB s i ≡ any 32 (shut m i)
   unfolding shutOutB
   shutOut-at i l = any-to (shutB s i) (shut m i) 32 (λ p q. shut-at i p l q)
+
+  -- a page's 19 is due
+  pub due-at : (k : Bool) (i p : ℕ) → i < 8 → p < 32 → ((h : ℕ) → m .wl p ≡ suc h → h < 8) → dueB k s i p ≡ (dueOf k m i p && not (m .asked p))
+  unfolding dueB
+  due-at false i p li lp f = rw (shut-at i p li lp, asked-at p, and-true)
+  due-at true i p li lp f = rw (shut-at i p li lp, asked-at p) (ap (λ (c : Bool). c && not (m .asked p)) (byB (shut m i p) kept (λ e. rw e)))
+    where
+      kept : shut m i p ≡ true → (shut m i p && keepsB s (wholeOf s p - 1)) ≡ shutKept m i p
+      kept e =
+          let w = held (m .wl p) i (and-r (wantsPage m i p) (other (m .wl p) i) e) in
+          let one : wholeOf s p - 1 ≡ holder (m .wl p) = omega (arith, whole-at p lp, w) in
+          let same : kindOf s (wholeOf s p - 1) ≡ m .kind (holder (m .wl p)) = rw one (kind-at (holder (m .wl p)) (f (holder (m .wl p)) w)) in
+          ap (λ (c : ℕ). shut m i p && keeps c) same
 
   concerns-at : (i j : ℕ) → i < 8 → j < 8 → anyTo (concernsAt s i j) 32 ≡ any 32 (λ p. m .listed j p && writesPage m i p)
   unfolding concernsAt

@@ -9,7 +9,7 @@ use Rattle.server_actions.specs.declared.Counts.{Counts}
 use Rattle.server_actions.specs.Actions.{Serving}
 use Rattle.server_actions.specs.Pass.{visitB}
 use Rattle.server_actions.specs.Posting.{from, Posted, posted, post}
-use Rattle.server_visit.specs.Visits.{Held}
+use Rattle.server_visit.specs.Asked.{Held}
 use Rattle.server_meaning.specs.Meant.{Is}
 use Rattle.server_meaning.specs.Tests.{Wanting, whole-at}
 use Rattle.step_meaning.specs.Relation.{Sound, Serves}

@@ -9,7 +9,6 @@ ghost use Rattle.server_tests.specs.Tests.{concernedSet, hinderedB, writtenPage
 ghost use Rattle.server_tests.specs.Blockers.{blockersB};
 ghost use Rattle.server_sets.specs.Sets.{listedB, listedSet, lockingSet, lockSet, writerSet, informedSet};
 use server_state::BUSY;
-use server_state::KIND;
 use server_state::LISTED;
 use server_state::PEND;
 use server_state::WANT;
@@ -46,7 +45,7 @@ fn locking_set(s: &[u8]) -> u8
     let mut x: u8 = 0;
     let mut j = 0;
     while j < 8 {
-        x |= server_tests::bit_if(s[KIND + j] == 0, j);
+        x |= server_tests::bit_if(server_state::locking(s, j), j);
         j += 1;
     }
     x

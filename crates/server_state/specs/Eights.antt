@@ -12,9 +12,11 @@ use Rattle.lists.specs.Parts.{allTo-same}
 use Rattle.le.specs.Le.{u64At}
 use Rattle.le.specs.Width.{numAt}
 use Rattle.le.specs.Laws.{u64At-is}
+use Rattle.station_state.specs.Layout.{noneIn}
+use Rattle.station_state.specs.Sets.{none-numbers}
 use Rattle.station_state.specs.Facts.{same}
-use Rattle.server_state.specs.Layout.{wantFrom, calledFrom, pendFrom, busyFrom, lockFrom, wholeFrom, lockOf, wholeOf, wantOf, calledOf, pendOf, busyOf}
-use Rattle.server_state.specs.Valid.{most, blankOk, entryOk, callsOk, agedOk, stationOk, holderAt, pageOk}
+use Rattle.server_state.specs.Layout.{wantFrom, calledFrom, pendFrom, busyFrom, lockFrom, wholeFrom, lockOf, wholeOf, wantOf, calledOf, pendOf, busyOf, wholeForFrom, wholeForOf}
+use Rattle.server_state.specs.Valid.{most, blankOk, entryOk, callsOk, agedOk, stationOk, holderAt, wholeOk, pageOk}
 use Rattle.server_state.specs.Facts.{all-3, most-at, no-holder, parts, zero-eight}
 
 -- a number whose bytes are 0
@@ -73,7 +75,7 @@ none-called s e =
 
 -- no object and no page of the group is locked
 unfoldable pub groupFree : List ℕ → ℕ → Bool
-groupFree s g = most s (lockFrom + g * 64) 0 64 && eqb (u64At s (wholeFrom + g * 8)) 0
+groupFree s g = most s (lockFrom + g * 64) 0 64 && eqb (u64At s (wholeFrom + g * 8)) 0 && noneIn s (wholeForFrom + g * 32)
 
 unfoldable pub groupAt : List ℕ → ℕ → ℕ → Bool
 groupAt s g p = pageOk s (g * 8 + p)
@@ -82,16 +84,20 @@ unfoldable pub groupOk : List ℕ → ℕ → Bool
 groupOk s g = allTo (groupAt s g) 8
 
 pub group-free : (s : List ℕ) (g : ℕ) → groupFree s g ≡ true → true ≡ groupOk s g
-unfolding groupFree groupOk groupAt pageOk holderAt
+unfolding groupFree groupOk groupAt pageOk wholeOk holderAt
 group-free s g h =
     let objects = most s (lockFrom + g * 64) 0 64 in
-    let locks : (k : ℕ) → k < 64 → getD s (lockFrom + g * 64 + k) 0 ≤ 0 = most-at s (lockFrom + g * 64) 0 64 (and-l objects _ h) in
-    let pages : u64At s (wholeFrom + g * 8) ≡ 0 = eqb-true _ _ (and-r objects _ h) in
+    let wholes = eqb (u64At s (wholeFrom + g * 8)) 0 in
+    let u = all-3 objects wholes (noneIn s (wholeForFrom + g * 32)) h in
+    let locks : (k : ℕ) → k < 64 → getD s (lockFrom + g * 64 + k) 0 ≤ 0 = most-at s (lockFrom + g * 64) 0 64 (u .0) in
+    let pages : u64At s (wholeFrom + g * 8) ≡ 0 = eqb-true _ _ (u .1) in
     sym (allTo-of (groupAt s g) 8
     (λ p l.
     let at : wholeFrom + (g * 8 + p) ≡ wholeFrom + g * 8 + p = omega arith in
     let free : wholeOf s (g * 8 + p) ≡ 0 = rw at (zero-eight s (wholeFrom + g * 8) p l pages) in
-    rw free
+    let from : wholeForFrom + (g * 8 + p) * 4 ≡ wholeForFrom + g * 32 + p * 4 = omega arith in
+    let given : wholeForOf s (g * 8 + p) ≡ 0 = rw from (none-numbers s (wholeForFrom + g * 32) (u .2) p l) in
+    rw (free, given)
     (allTo-of (holderAt s (g * 8 + p)) 8
     (λ o q.
     let here : lockFrom + ((g * 8 + p) * 8 + o) ≡ lockFrom + g * 64 + (p * 8 + o) = omega arith in

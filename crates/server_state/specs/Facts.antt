@@ -15,9 +15,10 @@ use Rattle.le.specs.Laws.{u64At-is}
 use Rattle.lists.specs.Tests.{allTo, allTo-at, allTo-of, and-l, and-r}
 use Rattle.sets.specs.Laws.{byB}
 use Rattle.limits.specs.Limit.{limit}
+use Rattle.kinds.specs.Kinds.{mostKind}
 use Rattle.station_state.specs.Layout.{hasBit, countIn, noneIn}
-use Rattle.server_state.specs.Layout.{counterLimit, kindFrom, wantFrom, calledFrom, unfinishedFrom, serverLength, ageOf, arrivalOf, agesOf, arrivalsOf, workNumber, latestOf, askedOf, lockFrom, lockOf, wholeOf, readSetFrom, writtenSetFrom, kindOf, wantOf, requestOf, calledOf, pendOf, busyOf, unfinishedOf, ageKeptFrom, ageKeptOf}
-use Rattle.server_state.specs.Valid.{mostAt, most, rangesOk, countersOk, wordOf, onlyIn, pageOnly, blankOk, fewOk, commitOk, writeOk, requestOk, waiterOk, entryOk, owesAt, callsOk, agedOk, stationOk, holderOk, holderAt, besideAt, pageOk, askedAt, apartAt, apartOk, valid, kindsOk, ageless}
+use Rattle.server_state.specs.Layout.{counterLimit, kindFrom, wantFrom, calledFrom, unfinishedFrom, serverLength, ageOf, arrivalOf, agesOf, arrivalsOf, workNumber, latestOf, askedOf, lockFrom, lockOf, wholeOf, readSetFrom, writtenSetFrom, kindOf, wantOf, requestOf, calledOf, pendOf, busyOf, unfinishedOf, ageKeptFrom, ageKeptOf, wholeForOf, lockingB, keepsB}
+use Rattle.server_state.specs.Valid.{mostAt, most, rangesOk, countersOk, wordOf, onlyIn, pageOnly, blankOk, fewOk, commitOk, writeOk, requestOk, waiterOk, entryOk, owesAt, callsOk, agedOk, stationOk, holderOk, holderAt, besideAt, givenOk, wholeOk, pageOk, askedAt, apartAt, apartOk, valid, kindsOk, ageless}
 
 -- TESTS
 
@@ -53,13 +54,13 @@ pub record Blank (s : List ℕ) (i : ℕ) : Type 0 where
 
 -- a read: one object
 pub record One (s : List ℕ) (i : ℕ) : Type 0 where
-  pub locks : kindOf s i ≡ 0
+  pub locks : lockingB s i ≡ true
   pub requested : onlyIn s (readSetFrom i) (requestOf s i) ≡ true
   pub nothing-else : noneIn s (writtenSetFrom i) ≡ true
 
 -- a write: objects of one page
 pub record OnPage (s : List ℕ) (i : ℕ) : Type 0 where
-  pub locks : kindOf s i ≡ 0
+  pub locks : lockingB s i ≡ true
   pub stands : requestOf s i % 8 ≡ 0
   pub page-only : pageOnly s (writtenSetFrom i) (requestOf s i / 8) ≡ true
   pub nothing-else : noneIn s (readSetFrom i) ≡ true
@@ -83,17 +84,26 @@ pub record Waiter (s : List ℕ) (i : ℕ) : Type 0 where
 pub record Called (s : List ℕ) (i : ℕ) : Type 0 where
   pub wants : 2 ≤ wantOf s i
   pub busy-owes : bitOr (busyOf s i) (pendOf s i) ≡ pendOf s i
-  pub owes : (j : ℕ) → j < 8 → hasBit (pendOf s i) j ≡ true → (j ≢ i) × (kindOf s j ≡ 0)
+  pub owes : (j : ℕ) → j < 8 → hasBit (pendOf s i) j ≡ true → (j ≢ i) × (lockingB s j ≡ true)
 
--- a lock's holder
+-- an object lock's holder
 pub record Holder (s : List ℕ) (h : ℕ) : Type 0 where
   pub station : h < 8
-  pub locks : kindOf s h ≡ 0
+  pub locks : lockingB s h ≡ true
   pub unfinished : unfinishedOf s h ≢ 0
+
+-- a whole lock's holder, and the transaction t that it was given to
+pub record WholeHolder (s : List ℕ) (h t : ℕ) : Type 0 where
+  pub station : h < 8
+  pub locks : lockingB s h ≡ true
+  pub named : t ≢ 0
+  pub seen : t ≤ latestOf s h
+  pub unfinished : keepsB s h ≡ false → unfinishedOf s h ≢ 0
+  pub latest-is : keepsB s h ≡ false → t ≡ latestOf s h
 
 pub record Ranged (s : List ℕ) : Type 0 where
   pub size : length s ≡ serverLength
-  pub kind-fits : (i : ℕ) → i < 8 → kindOf s i ≤ 1
+  pub kind-fits : (i : ℕ) → i < 8 → kindOf s i ≤ mostKind
   pub want-fits : (i : ℕ) → i < 8 → wantOf s i ≤ 3
   pub called-fits : (i : ℕ) → i < 8 → calledOf s i ≤ 1
   pub unfinished-fits : (i : ℕ) → i < 8 → unfinishedOf s i ≤ 1
@@ -107,7 +117,8 @@ pub record Ranged (s : List ℕ) : Type 0 where
   pub uncalled : (i : ℕ) → i < 8 → calledOf s i ≡ 0 → (pendOf s i ≡ 0) × (busyOf s i ≡ 0)
   pub called : (i : ℕ) → i < 8 → calledOf s i ≢ 0 → Called s i
   pub lock-held : (p o h : ℕ) → p < 32 → o < 8 → lockOf s (p * 8 + o) ≡ h + 1 → Holder s h
-  pub whole-held : (p h : ℕ) → p < 32 → wholeOf s p ≡ h + 1 → Holder s h
+  pub whole-held : (p h : ℕ) → p < 32 → wholeOf s p ≡ h + 1 → WholeHolder s h (wholeForOf s p)
+  pub none-given : (p : ℕ) → p < 32 → wholeOf s p ≡ 0 → wholeForOf s p ≡ 0
   -- beside a whole lock there are only its holder's locks
   pub beside : (p o : ℕ) → p < 32 → o < 8 → wholeOf s p ≢ 0 → lockOf s (p * 8 + o) ≢ 0 → lockOf s (p * 8 + o) ≡ wholeOf s p
   pub asked-held : (p : ℕ) → p < 32 → hasBit (askedOf s) p ≡ true → wholeOf s p ≢ 0
@@ -142,15 +153,15 @@ module _ (s : List ℕ) (i : ℕ) where
   read-of : requestOk s i ≡ true → wantOf s i ≡ 1 → One s i
   unfolding requestOk
   read-of h e =
-      let one : reads ≡ true = taken (eqb (wantOf s i) 1) reads (writeOk s i) (eq-eqb _ _ e) (and-r (eqb (kindOf s i) 0) _ h) in
-      record { locks = eqb-true _ _ (and-l (eqb (kindOf s i) 0) _ h); requested = and-l (onlyIn s (readSetFrom i) (requestOf s i)) _ one; nothing-else = and-r (onlyIn s (readSetFrom i) (requestOf s i)) _ one }
+      let one : reads ≡ true = taken (eqb (wantOf s i) 1) reads (writeOk s i) (eq-eqb _ _ e) (and-r (lockingB s i) _ h) in
+      record { locks = and-l (lockingB s i) _ h; requested = and-l (onlyIn s (readSetFrom i) (requestOf s i)) _ one; nothing-else = and-r (onlyIn s (readSetFrom i) (requestOf s i)) _ one }
 
   write-of : requestOk s i ≡ true → wantOf s i ≡ 2 → OnPage s i
   unfolding requestOk writeOk
   write-of h e =
       let u = all-3 (eqb (requestOf s i % 8) 0) (pageOnly s (writtenSetFrom i) (requestOf s i / 8)) (noneIn s (readSetFrom i))
-      (passed (eqb (wantOf s i) 1) reads (writeOk s i) (ne-eqb (wantOf s i) 1 (λ z. omega (arith, z, e))) (and-r (eqb (kindOf s i) 0) _ h)) in
-      record { locks = eqb-true _ _ (and-l (eqb (kindOf s i) 0) _ h); stands = eqb-true _ _ (u .0); page-only = u .1; nothing-else = u .2 }
+      (passed (eqb (wantOf s i) 1) reads (writeOk s i) (ne-eqb (wantOf s i) 1 (λ z. omega (arith, z, e))) (and-r (lockingB s i) _ h)) in
+      record { locks = and-l (lockingB s i) _ h; stands = eqb-true _ _ (u .0); page-only = u .1; nothing-else = u .2 }
 
   waiter-of : waiterOk s i ≡ true → Waiter s i
   unfolding waiterOk
@@ -175,8 +186,8 @@ module _ (s : List ℕ) (i : ℕ) where
         wants = leb-true _ _ (u .0);
         busy-owes = eqb-true _ _ (u .1);
         owes = λ j l e.
-            let v = or-else (not (hasBit (pendOf s i) j)) (not (eqb j i) && eqb (kindOf s j) 0) (rw e) (allTo-at (owesAt s i) 8 (u .2) j l) in
-            (eqb-false _ _ (not-true (eqb j i) (and-l (not (eqb j i)) _ v)), eqb-true _ _ (and-r (not (eqb j i)) _ v));
+            let v = or-else (not (hasBit (pendOf s i) j)) (not (eqb j i) && lockingB s j) (rw e) (allTo-at (owesAt s i) 8 (u .2) j l) in
+            (eqb-false _ _ (not-true (eqb j i) (and-l (not (eqb j i)) _ v)), and-r (not (eqb j i)) _ v);
       }
 
   uncalled-of : callsOk s i ≡ true → calledOf s i ≡ 0 → (pendOf s i ≡ 0) × (busyOf s i ≡ 0)
@@ -216,34 +227,61 @@ holder-of : (s : List ℕ) (h : ℕ) → holderOk s (h + 1) ≡ true → Holder 
 unfolding holderOk
 holder-of s h e =
     let one : h + 1 - 1 ≡ h = omega arith in
-    let z : (leb (h + 1) 8 && eqb (kindOf s h) 0 && not (eqb (unfinishedOf s h) 0)) ≡ true = rw (one, ne-eqb (h + 1) 0 (λ q. omega (arith, q))) at e in
-    let u = all-3 (leb (h + 1) 8) (eqb (kindOf s h) 0) (not (eqb (unfinishedOf s h) 0)) z in
-    record { station = omega (arith, leb-true (h + 1) 8 (u .0)); locks = eqb-true _ _ (u .1); unfinished = eqb-false _ _ (not-true (eqb (unfinishedOf s h) 0) (u .2)) }
+    let z : (leb (h + 1) 8 && lockingB s h && not (eqb (unfinishedOf s h) 0)) ≡ true = rw (one, ne-eqb (h + 1) 0 (λ q. omega (arith, q))) at e in
+    let u = all-3 (leb (h + 1) 8) (lockingB s h) (not (eqb (unfinishedOf s h) 0)) z in
+    record { station = omega (arith, leb-true (h + 1) 8 (u .0)); locks = u .1; unfinished = eqb-false _ _ (not-true (eqb (unfinishedOf s h) 0) (u .2)) }
+
+given-of : (s : List ℕ) (h t : ℕ) → h < 8 → lockingB s h ≡ true → givenOk s h t ≡ true → WholeHolder s h t
+unfolding givenOk
+given-of s h t l k e =
+    let live = not (eqb (unfinishedOf s h) 0) in
+    let named = not (eqb t 0) in
+    let rest = cond (keepsB s h) (leb t (latestOf s h)) (live && eqb t (latestOf s h)) in
+    let own : keepsB s h ≡ false → live && eqb t (latestOf s h) ≡ true = λ n. passed (keepsB s h) (leb t (latestOf s h)) (live && eqb t (latestOf s h)) n (and-r named rest e) in
+    record {
+      station = l;
+      locks = k;
+      named = eqb-false _ _ (not-true (eqb t 0) (and-l named rest e));
+      seen =
+          byB (keepsB s h) (λ y. leb-true _ _ (taken (keepsB s h) (leb t (latestOf s h)) (live && eqb t (latestOf s h)) y (and-r named rest e)))
+          (λ n. omega (arith, eqb-true t (latestOf s h) (and-r live (eqb t (latestOf s h)) (own n))));
+      unfinished = λ n. eqb-false _ _ (not-true (eqb (unfinishedOf s h) 0) (and-l live (eqb t (latestOf s h)) (own n)));
+      latest-is = λ n. eqb-true t (latestOf s h) (and-r live (eqb t (latestOf s h)) (own n));
+    }
 
 module _ (s : List ℕ) (p : ℕ) (h : pageOk s p ≡ true) where
-  abbrev held : Bool
-  held = holderOk s (wholeOf s p) && allTo (besideAt s p) 8
-
-  page-held : wholeOf s p ≢ 0 → held ≡ true
+  whole-part : wholeOk s p ≡ true
   unfolding pageOk
-  page-held n = passed (eqb (wholeOf s p) 0) (allTo (holderAt s p) 8) held (ne-eqb _ _ n) h
+  whole-part = and-l (wholeOk s p) (allTo (holderAt s p) 8) h
 
-  page-whole : (k : ℕ) → wholeOf s p ≡ k + 1 → Holder s k
-  page-whole k e = holder-of s k (rw e at (and-l (holderOk s (wholeOf s p)) (allTo (besideAt s p) 8) (page-held (λ z. omega (arith, z, e)))))
+  page-none : wholeOf s p ≡ 0 → wholeForOf s p ≡ 0
+  unfolding wholeOk
+  page-none e = let w = whole-part in eqb-true _ _ (rw e at w)
+
+  page-held : wholeOf s p ≢ 0 → (leb (wholeOf s p) 8 ≡ true) × (lockingB s (wholeOf s p - 1) ≡ true) × (givenOk s (wholeOf s p - 1) (wholeForOf s p) ≡ true) × (allTo (besideAt s p) 8 ≡ true)
+  unfolding wholeOk
+  page-held n =
+      let a = leb (wholeOf s p) 8 in
+      let b = lockingB s (wholeOf s p - 1) in
+      let c = givenOk s (wholeOf s p - 1) (wholeForOf s p) in
+      let d = allTo (besideAt s p) 8 in
+      all-4 a b c d (passed (eqb (wholeOf s p) 0) (eqb (wholeForOf s p) 0) (a && b && c && d) (ne-eqb _ _ n) whole-part)
+
+  page-whole : (k : ℕ) → wholeOf s p ≡ k + 1 → WholeHolder s k (wholeForOf s p)
+  page-whole k e =
+      let u = page-held (λ z. omega (arith, z, e)) in
+      let one : wholeOf s p - 1 ≡ k = omega (arith, e) in
+      given-of s k (wholeForOf s p) (omega (arith, e, leb-true (wholeOf s p) 8 (u .0))) (rw one at (u .1)) (rw one at (u .2))
 
   page-beside : (o : ℕ) → o < 8 → wholeOf s p ≢ 0 → lockOf s (p * 8 + o) ≢ 0 → lockOf s (p * 8 + o) ≡ wholeOf s p
   unfolding besideAt
   page-beside o l w n =
-      let here = allTo-at (besideAt s p) 8 (and-r (holderOk s (wholeOf s p)) (allTo (besideAt s p) 8) (page-held w)) o l in
+      let here = allTo-at (besideAt s p) 8 (page-held w .3) o l in
       eqb-true _ _ (or-else (eqb (lockOf s (p * 8 + o)) 0) (eqb (lockOf s (p * 8 + o)) (wholeOf s p)) (ne-eqb _ _ n) here)
 
-  -- beside a whole lock it is the whole lock's holder
   page-lock : (o k : ℕ) → o < 8 → lockOf s (p * 8 + o) ≡ k + 1 → Holder s k
   unfolding pageOk holderAt
-  page-lock o k l e =
-      byB (eqb (wholeOf s p) 0)
-      (λ w. holder-of s k (rw e at (allTo-at (holderAt s p) 8 (taken (eqb (wholeOf s p) 0) (allTo (holderAt s p) 8) held w h) o l)))
-      (λ w. page-whole k (sym (page-beside o l (eqb-false _ _ w) (λ z. omega (arith, z, e))) ∙ e))
+  page-lock o k l e = holder-of s k (rw e at (allTo-at (holderAt s p) 8 (and-r (wholeOk s p) (allTo (holderAt s p) 8) h) o l))
 
 -- TWO STATIONS
 
@@ -286,13 +324,13 @@ valid-ranged s h =
     let front = rangesOk s && countersOk s && stations in
     let u = all-4 front pages asked apart (and-r sized (front && pages && asked && apart) h) in
     let v = all-3 (rangesOk s) (countersOk s) stations (u .0) in
-    let flags = most s kindFrom 1 8 && most s wantFrom 3 8 && most s calledFrom 1 8 && most s unfinishedFrom 1 8 in
-    let r = all-4 (most s kindFrom 1 8) (most s wantFrom 3 8) (most s calledFrom 1 8) (most s unfinishedFrom 1 8) (and-l flags (most s ageKeptFrom 1 8) (v .0)) in
+    let flags = most s kindFrom mostKind 8 && most s wantFrom 3 8 && most s calledFrom 1 8 && most s unfinishedFrom 1 8 in
+    let r = all-4 (most s kindFrom mostKind 8) (most s wantFrom 3 8) (most s calledFrom 1 8) (most s unfinishedFrom 1 8) (and-l flags (most s ageKeptFrom 1 8) (v .0)) in
     let station : (i : ℕ) → i < 8 → stationOk s i ≡ true = allTo-at (stationOk s) 8 (v .2) in
     let page : (p : ℕ) → p < 32 → pageOk s p ≡ true = allTo-at (pageOk s) 32 (u .1) in
     record {
       size = eqb-true (length s) serverLength (and-l sized (front && pages && asked && apart) h);
-      kind-fits = most-at s kindFrom 1 8 (r .0);
+      kind-fits = most-at s kindFrom mostKind 8 (r .0);
       want-fits = most-at s wantFrom 3 8 (r .1);
       called-fits = most-at s calledFrom 1 8 (r .2);
       unfinished-fits = most-at s unfinishedFrom 1 8 (r .3);
@@ -307,6 +345,7 @@ valid-ranged s h =
       called = λ i l. called-of s i (parts s i (station i l) .2);
       lock-held = λ p o k lp lo. page-lock s p (page p lp) o k lo;
       whole-held = λ p k l. page-whole s p (page p l) k;
+      none-given = λ p l. page-none s p (page p l);
       beside = λ p o lp lo. page-beside s p (page p lp) o lo;
       asked-held = λ p l e.
           eqb-false _ _
@@ -317,7 +356,7 @@ valid-ranged s h =
 
 pub kinds-length : (kinds : List ℕ) → kindsOk kinds ≡ true → length kinds ≡ 8
 unfolding kindsOk
-kinds-length kinds h = eqb-true (length kinds) 8 (and-l (eqb (length kinds) 8) (most kinds 0 1 8) h)
+kinds-length kinds h = eqb-true (length kinds) 8 (and-l (eqb (length kinds) 8) (most kinds 0 mostKind 8) h)
 
 -- the bytes of a number that is 0
 pub zero-bytes : (n : ℕ) (s : List ℕ) (at : ℕ) → numAt n s at ≡ 0 → (k : ℕ) → k < n → getD s (at + k) 0 ≡ 0

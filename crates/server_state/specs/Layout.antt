@@ -8,6 +8,7 @@ use lib.Bits.{bitAnd, bitOr}
 use lib.Dec.{eqb}
 use Rattle.le.specs.Le.{u32At, u64At}
 use Rattle.cells.specs.Cells.{Region, region, reg, base}
+use Rattle.kinds.specs.Kinds.{locking, keeps}
 use Rattle.station_state.specs.Layout.{valueWidth, numberWidth, pageSetWidth, hasBit}
 
 -- of an age or an arrival; what a station has too is as wide as there
@@ -32,6 +33,7 @@ table =
     ∷ region pageSetWidth 8 1  -- listed
     ∷ region numberWidth 1 1  -- last
     ∷ region pageSetWidth 1 1  -- asked
+    ∷ region numberWidth 1 32  -- whole for
     ∷ region 1 1 256  -- lock
     ∷ region 1 1 32  -- whole
     ∷ region 1 8 32  -- read set
@@ -100,8 +102,11 @@ lastCell = listedCell + 1
 abbrev pub askedCell : ℕ
 askedCell = lastCell + 1
 
+abbrev pub wholeForCell : ℕ
+wholeForCell = askedCell + 1
+
 abbrev pub lockCell : ℕ
-lockCell = askedCell + 1
+lockCell = wholeForCell + 1
 
 abbrev pub wholeCell : ℕ
 wholeCell = lockCell + 1
@@ -259,6 +264,13 @@ askedFrom = base table askedCell
 abbrev pub askedOf : List ℕ → ℕ
 askedOf s = u32At s askedFrom
 
+-- the transaction that the page's present whole lock was given to, 0 for none
+abbrev pub wholeForFrom : ℕ
+wholeForFrom = base table wholeForCell
+
+abbrev pub wholeForOf : List ℕ → ℕ → ℕ
+wholeForOf s p = u32At s (wholeForFrom + p * numberWidth)
+
 -- a lock's holder: 0 for none, i + 1 for station i; by address, by page
 abbrev pub lockFrom : ℕ
 lockFrom = base table lockCell
@@ -342,7 +354,10 @@ ageKeptOf s i = getD s (ageKeptFrom + i) 0
 -- small questions, as in crate line
 
 abbrev pub lockingB : List ℕ → ℕ → Bool
-lockingB s i = eqb (kindOf s i) 0
+lockingB s i = locking (kindOf s i)
+
+abbrev pub keepsB : List ℕ → ℕ → Bool
+keepsB s i = keeps (kindOf s i)
 
 abbrev pub waitsB : List ℕ → ℕ → Bool
 waitsB s i = not (eqb (wantOf s i) 0)

@@ -10,8 +10,9 @@ use Rattle.lists.specs.Tests.{allTo}
 use lib.Bits.{bitOr}
 use Rattle.le.specs.Le.{u64At, setU64}
 use Rattle.limits.specs.Limit.{limit}
+use Rattle.kinds.specs.Kinds.{mostKind}
 use Rattle.station_state.specs.Layout.{hasBit, countIn, noneIn}
-use Rattle.server_state.specs.Layout.{counterLimit, nextAgeFrom, nextArrivalFrom, kindFrom, wantFrom, calledFrom, unfinishedFrom, serverLength, ageOf, arrivalOf, agesOf, arrivalsOf, workNumber, latestOf, askedOf, lockOf, wholeOf, readSetFrom, writtenSetFrom, kindOf, wantOf, requestOf, calledOf, pendOf, busyOf, unfinishedOf, ageKeptFrom, ageKeptOf}
+use Rattle.server_state.specs.Layout.{counterLimit, nextAgeFrom, nextArrivalFrom, kindFrom, wantFrom, calledFrom, unfinishedFrom, serverLength, ageOf, arrivalOf, agesOf, arrivalsOf, workNumber, latestOf, askedOf, wholeForOf, lockOf, wholeOf, readSetFrom, writtenSetFrom, kindOf, wantOf, requestOf, calledOf, pendOf, busyOf, unfinishedOf, ageKeptFrom, ageKeptOf, lockingB, keepsB}
 
 -- a byte is at most n
 unfoldable pub mostAt : List ℕ → ℕ → ℕ → ℕ → Bool
@@ -23,7 +24,7 @@ most s at n m = allTo (mostAt s at n) m
 
 -- kinds and flags
 unfoldable pub rangesOk : List ℕ → Bool
-rangesOk s = most s kindFrom 1 8 && most s wantFrom 3 8 && most s calledFrom 1 8 && most s unfinishedFrom 1 8 && most s ageKeptFrom 1 8
+rangesOk s = most s kindFrom mostKind 8 && most s wantFrom 3 8 && most s calledFrom 1 8 && most s unfinishedFrom 1 8 && most s ageKeptFrom 1 8
 
 -- "each transaction gets a new age, 2^63 being out of range": the counters stand above every age and arrival
 unfoldable pub countersOk : List ℕ → Bool
@@ -69,7 +70,7 @@ writeOk s i = eqb (requestOf s i % 8) 0 && pageOnly s (writtenSetFrom i) (reques
 -- a locking station's read, of the object requested, or write
 unfoldable pub requestOk : List ℕ → ℕ → Bool
 requestOk s i =
-    eqb (kindOf s i) 0 && cond (eqb (wantOf s i) 1) (onlyIn s (readSetFrom i) (requestOf s i) && noneIn s (writtenSetFrom i)) (writeOk s i)
+    lockingB s i && cond (eqb (wantOf s i) 1) (onlyIn s (readSetFrom i) (requestOf s i) && noneIn s (writtenSetFrom i)) (writeOk s i)
 
 -- who waits has an unfinished transaction and an arrival that was given
 unfoldable pub waiterOk : List ℕ → ℕ → Bool
@@ -81,7 +82,7 @@ entryOk s i = cond (eqb (wantOf s i) 0) (blankOk s i) (waiterOk s i)
 
 -- whoever owes station i a 7 is another, locking one
 unfoldable pub owesAt : List ℕ → ℕ → ℕ → Bool
-owesAt s i j = not (hasBit (pendOf s i) j) || (not (eqb j i) && eqb (kindOf s j) 0)
+owesAt s i j = not (hasBit (pendOf s i) j) || (not (eqb j i) && lockingB s j)
 
 -- 20s go out for a write or a commit; a 6 comes of one that owes a 7
 unfoldable pub callsOk : List ℕ → ℕ → Bool
@@ -99,9 +100,9 @@ stationOk s i = agedOk s i && entryOk s i && callsOk s i
 
 -- LOCKS
 
--- a holder is a locking station whose transaction is unfinished; 0 is none
+-- an object's holder is a locking station whose transaction is unfinished; 0 is none
 unfoldable pub holderOk : List ℕ → ℕ → Bool
-holderOk s h = eqb h 0 || (leb h 8 && eqb (kindOf s (h - 1)) 0 && not (eqb (unfinishedOf s (h - 1)) 0))
+holderOk s h = eqb h 0 || (leb h 8 && lockingB s (h - 1) && not (eqb (unfinishedOf s (h - 1)) 0))
 
 unfoldable pub holderAt : List ℕ → ℕ → ℕ → Bool
 holderAt s p o = holderOk s (lockOf s (p * 8 + o))
@@ -110,8 +111,17 @@ holderAt s p o = holderOk s (lockOf s (p * 8 + o))
 unfoldable pub besideAt : List ℕ → ℕ → ℕ → Bool
 besideAt s p o = eqb (lockOf s (p * 8 + o)) 0 || eqb (lockOf s (p * 8 + o)) (wholeOf s p)
 
+-- the transaction that a whole lock of station i was given to: its unfinished one; document 02, wish 10: a keeping station's may be over
+unfoldable pub givenOk : List ℕ → ℕ → ℕ → Bool
+givenOk s i t = not (eqb t 0) && cond (keepsB s i) (leb t (latestOf s i)) (not (eqb (unfinishedOf s i) 0) && eqb t (latestOf s i))
+
+unfoldable pub wholeOk : List ℕ → ℕ → Bool
+wholeOk s p =
+    let h = wholeOf s p in
+    cond (eqb h 0) (eqb (wholeForOf s p) 0) (leb h 8 && lockingB s (h - 1) && givenOk s (h - 1) (wholeForOf s p) && allTo (besideAt s p) 8)
+
 unfoldable pub pageOk : List ℕ → ℕ → Bool
-pageOk s p = cond (eqb (wholeOf s p) 0) (allTo (holderAt s p) 8) (holderOk s (wholeOf s p) && allTo (besideAt s p) 8)
+pageOk s p = wholeOk s p && allTo (holderAt s p) 8
 
 -- 19 was sent for a present 18
 unfoldable pub askedAt : List ℕ → ℕ → Bool
@@ -154,7 +164,7 @@ unfoldable pub freshServer : List ℕ → List ℕ
 freshServer kinds = kindsTo kinds (setU64 (setU64 (replicate serverLength 0) nextAgeFrom 1) nextArrivalFrom 1) 8
 
 unfoldable pub kindsOk : List ℕ → Bool
-kindsOk kinds = eqb (length kinds) 8 && most kinds 0 1 8
+kindsOk kinds = eqb (length kinds) 8 && most kinds 0 mostKind 8
 
 -- 1: the length; 4: the kinds
 unfoldable pub freshOf : List ℕ → List ℕ → Freshened

@@ -3,8 +3,8 @@ ghost use mathlib.Core.Path.{_≡_};
 ghost use Prim.Native.Nat.{_+_, _≤_, _<_};
 ghost use lib.ListN.{length, replicate};
 ghost use Rattle.lists.specs.Tests.{allTo};
-ghost use Rattle.server_state.specs.Layout.{serverLength, latestOf, arrivalOf, lastOf, askedOf, otherB};
-ghost use Rattle.server_state.specs.Valid.{mostAt, most as Valid·most, rangesOk, countersOk, wordOf, onlyIn, pageOnlyAt, pageOnly, blankOk, fewOk, commitOk, writeOk, requestOk, waiterOk, entryOk, owesAt, callsOk, agedOk, stationOk, holderOk, holderAt, besideAt, pageOk, askedAt, apartAt, apartOk, valid as Valid·valid, kindsOk, kindsTo, freshened, freshOf, ageless};
+ghost use Rattle.server_state.specs.Layout.{serverLength, latestOf, arrivalOf, lastOf, askedOf, wholeForOf, lockingB, keepsB, otherB};
+ghost use Rattle.server_state.specs.Valid.{mostAt, most as Valid·most, rangesOk, countersOk, wordOf, onlyIn, pageOnlyAt, pageOnly, blankOk, fewOk, commitOk, writeOk, requestOk, waiterOk, entryOk, owesAt, callsOk, agedOk, stationOk, holderOk, holderAt, besideAt, givenOk, wholeOk, pageOk, askedAt, apartAt, apartOk, valid as Valid·valid, kindsOk, kindsTo, freshened, freshOf, ageless};
 ghost use Rattle.server_state.specs.Eights.{groupFree, groupOk};
 ghost use Rattle.server_state.specs.Ages.{agedOf};
 use station_state::NUMBER_WIDTH;
@@ -56,7 +56,9 @@ pub const LAST: usize = LISTED + 8 * PAGE_SET_WIDTH;
 
 pub const ASKED: usize = LAST + NUMBER_WIDTH;
 
-pub const LOCK: usize = ASKED + PAGE_SET_WIDTH;
+pub const WHOLE_FOR: usize = ASKED + PAGE_SET_WIDTH;
+
+pub const LOCK: usize = WHOLE_FOR + 32 * NUMBER_WIDTH;
 
 pub const WHOLE: usize = LOCK + 256;
 
@@ -93,6 +95,8 @@ const GROUP: usize = 8;
 
 const GROUP_LOCKS: usize = GROUP * OBJECTS;
 
+const GROUP_NUMBERS: usize = GROUP * NUMBER_WIDTH;
+
 // Fields that are read in many places. The latest transaction of station i.
 pub fn latest(s: &[u8], i: usize) -> u32
     requires { ⌜ (length (now s) ≡ serverLength) × (i < 8) ⌝ }
@@ -123,6 +127,29 @@ pub fn asked(s: &[u8]) -> u32
     ensures { λ r. ⌜ r ≡ askedOf (now (s .entry)) ⌝ }
 {
     le::get_u32(s, ASKED)
+}
+
+// The transaction that page p's whole lock was given to.
+pub fn whole_for(s: &[u8], p: usize) -> u32
+    requires { ⌜ (length (now s) ≡ serverLength) × (p < 32) ⌝ }
+    ensures { λ r. ⌜ r ≡ wholeForOf (now (s .entry)) p ⌝ }
+{
+    le::get_u32(s, WHOLE_FOR + p * NUMBER_WIDTH)
+}
+
+// Whose rules station i has.
+pub fn locking(s: &[u8], i: usize) -> bool
+    requires { ⌜ (length (now s) ≡ serverLength) × (i < 8) ⌝ }
+    ensures { λ r. ⌜ r ≡ lockingB (now (s .entry)) i ⌝ }
+{
+    kinds::locking(s[KIND + i])
+}
+
+pub fn keeps(s: &[u8], i: usize) -> bool
+    requires { ⌜ (length (now s) ≡ serverLength) × (i < 8) ⌝ }
+    ensures { λ r. ⌜ r ≡ keepsB (now (s .entry)) i ⌝ }
+{
+    kinds::keeps(s[KIND + i])
 }
 
 // Whether the holder h is a station other than i.
@@ -158,7 +185,7 @@ fn ranges_ok(s: &[u8]) -> bool
     requires { ⌜ length (now s) ≡ serverLength ⌝ }
     ensures { λ r. ⌜ r ≡ rangesOk (now (s .entry)) ⌝ }
 {
-    most(s, KIND, 1, 8)
+    most(s, KIND, kinds::MOST, 8)
         & most(s, WANT, 3, 8)
         & most(s, CALLED, 1, 8)
         & most(s, UNFINISHED, 1, 8)
@@ -270,7 +297,7 @@ fn request_ok(s: &[u8], i: usize) -> bool
     requires { ⌜ (length (now s) ≡ serverLength) × (i < 8) ⌝ }
     ensures { λ r. ⌜ r ≡ requestOk (now (s .entry)) i ⌝ }
 {
-    if s[KIND + i] != 0 {
+    if !locking(s, i) {
         return false;
     }
     if s[WANT + i] == 1 {
@@ -342,7 +369,7 @@ fn owes_at(s: &[u8], i: usize, j: usize) -> bool
     requires { ⌜ (length (now s) ≡ serverLength) × (i < 8) × (j < 8) ⌝ }
     ensures { λ r. ⌜ r ≡ owesAt (now (s .entry)) i j ⌝ }
 {
-    !station_state::has_bit8(s[PEND + i], j) | ((j != i) & (s[KIND + j] == 0))
+    !station_state::has_bit8(s[PEND + i], j) | ((j != i) & locking(s, j))
 }
 
 fn owes_ok(s: &[u8], i: usize) -> bool
@@ -446,7 +473,7 @@ fn holder_ok(s: &[u8], h: u8) -> bool
         return false;
     }
     let i = h as usize - 1;
-    (s[KIND + i] == 0) & (s[UNFINISHED + i] != 0)
+    locking(s, i) & (s[UNFINISHED + i] != 0)
 }
 
 fn holder_at(s: &[u8], p: usize, o: usize) -> bool
@@ -473,14 +500,42 @@ fn holders_ok(s: &[u8], p: usize) -> bool
     ok
 }
 
+// Whether t is a transaction that a whole lock of station i can have been given to.
+fn given_ok(s: &[u8], i: usize, t: u32) -> bool
+    requires { ⌜ (length (now s) ≡ serverLength) × (i < 8) ⌝ }
+    ensures { λ r. ⌜ r ≡ givenOk (now (s .entry)) i t ⌝ }
+{
+    if t == 0 {
+        return false;
+    }
+    if keeps(s, i) {
+        return t <= latest(s, i);
+    }
+    (s[UNFINISHED + i] != 0) & (t == latest(s, i))
+}
+
+// Whether page p is locked whole by nobody, or by a station that can be, with no lock of another's beside.
+fn whole_ok(s: &[u8], p: usize) -> bool
+    requires { ⌜ (length (now s) ≡ serverLength) × (p < 32) ⌝ }
+    ensures { λ r. ⌜ r ≡ wholeOk (now (s .entry)) p ⌝ }
+{
+    let h = s[WHOLE + p];
+    let t = whole_for(s, p);
+    if h == 0 {
+        return t == 0;
+    }
+    if h > 8 {
+        return false;
+    }
+    let i = h as usize - 1;
+    locking(s, i) & given_ok(s, i, t) & besides_ok(s, p)
+}
+
 fn page_ok(s: &[u8], p: usize) -> bool
     requires { ⌜ (length (now s) ≡ serverLength) × (p < 32) ⌝ }
     ensures { λ r. ⌜ r ≡ pageOk (now (s .entry)) p ⌝ }
 {
-    if s[WHOLE + p] == 0 {
-        return holders_ok(s, p);
-    }
-    holder_ok(s, s[WHOLE + p]) & besides_ok(s, p)
+    whole_ok(s, p) & holders_ok(s, p)
 }
 
 // Whether nothing is locked on eight pages.
@@ -488,7 +543,9 @@ fn group_free(s: &[u8], g: usize) -> bool
     requires { ⌜ (length (now s) ≡ serverLength) × (g < 4) ⌝ }
     ensures { λ r. ⌜ r ≡ groupFree (now (s .entry)) g ⌝ }
 {
-    most(s, LOCK + g * GROUP_LOCKS, 0, GROUP_LOCKS) & (le::get_u64(s, WHOLE + g * GROUP) == 0)
+    most(s, LOCK + g * GROUP_LOCKS, 0, GROUP_LOCKS)
+        & (le::get_u64(s, WHOLE + g * GROUP) == 0)
+        & station_state::none_in(s, WHOLE_FOR + g * GROUP_NUMBERS)
 }
 
 // Eight pages; where nothing is locked none is looked at.
@@ -631,7 +688,7 @@ fn kinds_ok(kinds: &[u8]) -> bool
     if kinds.len() != STATIONS {
         return false;
     }
-    most(kinds, 0, 1, 8)
+    most(kinds, 0, kinds::MOST, 8)
 }
 
 fn put_kinds(kinds: &[u8], s: &mut [u8])
@@ -645,7 +702,7 @@ fn put_kinds(kinds: &[u8], s: &mut [u8])
     }
 }
 
-// Makes the server's first state: 1 where the length is wrong, then 4 where the kinds are not eight of 0 and 1, else 0.
+// Makes the server's first state: 1 where the length is wrong, then 4 where the kinds are not eight of 0 to 2, else 0.
 // A refusal changes nothing.
 pub fn fresh(kinds: &[u8], s: &mut [u8]) -> u32
     ensures { λ r. ⌜ freshened (now (s .exit)) r ≡ freshOf (now (kinds .entry)) (now (s .entry)) ⌝ }

@@ -1,19 +1,19 @@
 -- Questions answered by the bytes of a page at once.
-use Prim.Native.Nat.{ℕ, _+_, _*_, _<_}
+use Prim.Native.Nat.{ℕ, _+_, _*_, _≤_, _<_}
 use mathlib.Core.Path.{_≡_, refl, sym, _∙_}
-use mathlib.Core.Bool.{true, false, cond, or-false}
+use mathlib.Core.Bool.{true, false, not, cond, or-false}
 use mathlib.Core.List.{List}
 use native.Mathlib.Omega.{arith}
 use lib.Dec.{eqb}
 use borrow.Author.Tests.{ne-eqb}
-use Rattle.sets.specs.Laws.{byB}
+use Rattle.sets.specs.Laws.{byB, eqb-no, and-l, and-r, not-yes}
 use Rattle.le.specs.Le.{u64At}
 use Rattle.cells.specs.Bits.{tb, tb-zero}
 use Rattle.cells.specs.Loops.{anyTo, any-to}
 use Rattle.station_state.specs.Layout.{hasBit}
 use Rattle.server_state.specs.Facts.{zero-eight}
-use Rattle.server_state.specs.Layout.{lockFrom, lockOf, wholeOf, writtenSet}
-use Rattle.server_tests.specs.Tests.{lockAtB, lockOnB, dropsLockedB, waitsToWriteB}
+use Rattle.server_state.specs.Layout.{lockFrom, lockOf, wholeOf, writtenSet, otherB, wantedOn}
+use Rattle.server_tests.specs.Tests.{lockAtB, lockOnB, dropsLockedB, shutB, waitsToWriteB}
 use Rattle.server_tests.specs.Blockers.{joinTo, join-is, bit-is, any-none}
 
 -- a page without locks on objects
@@ -47,3 +47,11 @@ drops-yes s i d p e = rw e
 pub drops-no : (s : List ℕ) (i d p : ℕ) → hasBit d p ≡ false → dropsLockedB s i d p ≡ false
 unfolding dropsLockedB
 drops-no s i d p e = rw e
+
+-- a page that is another's whole is somebody's
+pub shut-held : (s : List ℕ) (i p : ℕ) → shutB s i p ≡ true → 1 ≤ wholeOf s p
+unfolding shutB otherB
+shut-held s i p e =
+    let other : otherB (wholeOf s p) i ≡ true = and-r (not (eqb (wantedOn s i p) 0)) (otherB (wholeOf s p) i) e in
+    let some : not (eqb (wholeOf s p) 0) ≡ true = and-l (not (eqb (wholeOf s p) 0)) (not (eqb (wholeOf s p) (i + 1))) other in
+    omega (arith, eqb-no (wholeOf s p) 0 (not-yes (eqb (wholeOf s p) 0) some))

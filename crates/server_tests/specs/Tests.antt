@@ -1,6 +1,6 @@
 -- "Server steps": the questions that the server asks of its state. Each definition carries out the one of crate line that has its name;
 -- i is the station whose message or waiting entry is looked at, m the bytes of its message.
-use Prim.Native.Nat.{ℕ, _+_, _*_, _/_, _%_, _^_}
+use Prim.Native.Nat.{ℕ, _+_, _-_, _*_, _/_, _%_, _^_}
 use mathlib.Core.List.{List}
 use mathlib.Core.Bool.{Bool, true, false, not, _&&_, _||_, cond}
 use lib.ListN.{getD}
@@ -13,7 +13,7 @@ use Rattle.message.specs.Layout.{stationOf, pageOf, transactionOf, pagesOf}
 use Rattle.message.specs.Layout as Message
 use Rattle.message.specs.Commit.{addressesAt, sentReads, sentWrites}
 use Rattle.station_state.specs.Layout.{numberWidth, hasBit}
-use Rattle.server_state.specs.Layout.{arrivalOf, versionOf, readVersionsFrom, writtenVersionsFrom, latestOf, listedOf, lastOf, askedOf, lockOf, wholeOf, readSet, writtenSet, unfinishedOf, pendOf, busyOf, lockingB, waitsB, otherB, wantedOn}
+use Rattle.server_state.specs.Layout.{arrivalOf, versionOf, readVersionsFrom, writtenVersionsFrom, latestOf, listedOf, lastOf, askedOf, lockOf, wholeOf, readSet, writtenSet, unfinishedOf, pendOf, busyOf, lockingB, keepsB, waitsB, otherB, wantedOn}
 
 -- "a lock of its own" on the page
 unfoldable pub lockAtB : List ℕ → ℕ → ℕ → ℕ → Bool
@@ -46,6 +46,10 @@ dropsLockedB s i d p = hasBit d p && lockOnB s i p
 unfoldable pub dropsOwnB : List ℕ → ℕ → ℕ → Bool
 dropsOwnB s i d = anyTo (dropsLockedB s i d) 32
 
+-- document 02, wish 10: an 8 of a keeping station "naming a transaction above an unfinished one is number 6"
+unfoldable pub aboveOpenB : List ℕ → ℕ → ℕ → Bool
+aboveOpenB s i t = ltb (latestOf s i) t && not (eqb (unfinishedOf s i) 0)
+
 -- "2, 4, 6, 7, 8 from a validating station"
 unfoldable pub unexpectedB : List ℕ → List ℕ → Bool
 unexpectedB s m =
@@ -57,7 +61,8 @@ unexpectedB s m =
     (cond (eqb k 3) (badNumberB s i t || unlockedB s i m)
     (cond (eqb k 4) (badNumberB s i t || not (lockingB s i))
     (cond (eqb k 5) (lockOnB s i (pageOf m))
-    (cond (eqb k 7) (not (lockingB s i) || dropsOwnB s i (pagesOf m)) (not (lockingB s i)))))))
+    (cond (eqb k 7) (not (lockingB s i) || dropsOwnB s i (pagesOf m))
+    (cond (eqb k 8) (not (lockingB s i) || (keepsB s i && aboveOpenB s i t)) (not (lockingB s i))))))))
 
 -- what an answer answers
 
@@ -65,9 +70,9 @@ unexpectedB s m =
 unfoldable pub openCallB : List ℕ → ℕ → ℕ → ℕ → Bool
 openCallB s i r t = waitsB s r && eqb t (latestOf s r) && hasBit (pendOf s r) i
 
--- a 19 for the page is open at station i
+-- a 19 for the page is open at station i; a keeping station's 8 "is heeded either way"
 unfoldable pub openAskB : List ℕ → ℕ → ℕ → ℕ → Bool
-openAskB s i p t = eqb (wholeOf s p) (i + 1) && hasBit (askedOf s) p && not (eqb (unfinishedOf s i) 0) && eqb t (latestOf s i)
+openAskB s i p t = eqb (wholeOf s p) (i + 1) && hasBit (askedOf s) p && (keepsB s i || (not (eqb (unfinishedOf s i) 0) && eqb t (latestOf s i)))
 
 -- the gates of the pass
 
@@ -125,6 +130,14 @@ shutB s i p = not (eqb (wantedOn s i p) 0) && otherB (wholeOf s p) i
 
 unfoldable pub shutOutB : List ℕ → ℕ → Bool
 shutOutB s i = anyTo (shutB s i) 32
+
+-- causes 4 and 2, which come ahead of a keeping holder's 19
+unfoldable pub outOfTimeB : List ℕ → ℕ → Bool
+outOfTimeB s i = eqb (lastOf s) 4294967295 || staleB s i
+
+-- page p's 19 is due: k, only if its holder keeps
+unfoldable pub dueB : Bool → List ℕ → ℕ → ℕ → Bool
+dueB k s i p = shutB s i p && (not k || keepsB s (wholeOf s p - 1)) && not (hasBit (askedOf s) p)
 
 -- "each other locking station listed for a page of theirs"
 unfoldable pub concernsAt : List ℕ → ℕ → ℕ → ℕ → Bool

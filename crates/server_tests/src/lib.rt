@@ -5,12 +5,11 @@ ghost use Prim.Native.Nat.{_+_, _*_, _/_, _^_, _≤_, _<_};
 ghost use lib.ListN.{length, getD};
 ghost use Rattle.message.specs.Layout.{messageLength, kindOf, stationOf, pageOf};
 ghost use Rattle.message.specs.Commit.{shortestCommit, addressesAt, sentReads, entriesOf};
-ghost use Rattle.server_state.specs.Layout.{serverLength, versionRow, wantedOn};
+ghost use Rattle.server_state.specs.Layout.{serverLength, versionRow, wholeOf, wantedOn};
 ghost use Rattle.server_tests.specs.Kinds.{ForServer};
-ghost use Rattle.server_tests.specs.Tests.{lockAtB, lockOnB, badNumberB, unlockedAt, unlockedB, dropsLockedB, dropsOwnB, unexpectedB, openCallB, openAskB, otherVersion, staleAtB, staleOnB, staleB, lockedAtB, lockedOnB, lockedB, faultB, earlierB, shutB, shutOutB, unavailableAt, unavailableB};
+ghost use Rattle.server_tests.specs.Tests.{lockAtB, lockOnB, badNumberB, unlockedAt, unlockedB, dropsLockedB, dropsOwnB, aboveOpenB, unexpectedB, openCallB, openAskB, otherVersion, staleAtB, staleOnB, staleB, lockedAtB, lockedOnB, lockedB, faultB, earlierB, shutB, shutOutB, dueB, unavailableAt, unavailableB};
 ghost use Rattle.server_tests.specs.Shorter.{writtenBy};
 ghost use Rattle.server_tests.specs.Blockers.{joinTo, meetOn, meetSet, aheadB, aheadSet, holderAt, holdersOn, holderSet, blockersB};
-use server_state::KIND;
 use server_state::LOCK;
 use server_state::PEND;
 use server_state::READ_SET;
@@ -85,7 +84,10 @@ fn bad_number(s: &[u8], i: usize, t: u32) -> bool
 {
     let n = server_state::latest(s, i);
     let over = s[UNFINISHED + i] == 0;
-    (t < n) | ((t == n) & over) | ((n < t) & !over & (s[KIND + i] == 0)) | (s[WANT + i] != 0)
+    (t < n)
+        | ((t == n) & over)
+        | ((n < t) & !over & server_state::locking(s, i))
+        | (s[WANT + i] != 0)
 }
 
 // Whether write k of the record is to an object that i has not locked.
@@ -112,7 +114,7 @@ fn unlocked(s: &[u8], i: usize, m: &[u8]) -> bool
         r |= unlocked_at(s, i, m, k);
         k += 1;
     }
-    (s[KIND + i] == 0) & r
+    server_state::locking(s, i) & r
 }
 
 fn drops_locked(s: &[u8], i: usize, d: u32, p: usize) -> bool
@@ -139,6 +141,14 @@ fn drops_own(s: &[u8], i: usize, d: u32) -> bool
     r
 }
 
+// Whether transaction t stands above one of i that is unfinished.
+fn above_open(s: &[u8], i: usize, t: u32) -> bool
+    requires { ⌜ (length (now s) ≡ serverLength) × (i < 8) ⌝ }
+    ensures { λ r. ⌜ r ≡ aboveOpenB (now (s .entry)) i t ⌝ }
+{
+    (server_state::latest(s, i) < t) & (s[UNFINISHED + i] != 0)
+}
+
 // Number 6 of a message that numbers 2 to 5 let pass.
 pub fn unexpected(s: &[u8], m: &[u8]) -> bool
     requires { ⌜ (length (now s) ≡ serverLength) × (messageLength ≤ length (now m)) × (stationOf (now m) < 8) × ForServer (now m) × (kindOf (now m) ≡ 3 → (shortestCommit ≤ length (now m)) × (addressesAt (now m) + entriesOf (now m) ≤ length (now m))) × (kindOf (now m) ≡ 5 → pageOf (now m) < 32) ⌝ }
@@ -146,7 +156,7 @@ pub fn unexpected(s: &[u8], m: &[u8]) -> bool
 {
     let i = byte(m, message::STATION);
     let t = le::get_u32(m, message::TRANSACTION);
-    let validates = s[KIND + i] != 0;
+    let validates = !server_state::locking(s, i);
     match m[message::KIND] {
         1 => bad_number(s, i, t),
         2 => bad_number(s, i, t) | validates,
@@ -155,7 +165,7 @@ pub fn unexpected(s: &[u8], m: &[u8]) -> bool
         5 => lock_on(s, i, byte(m, message::PAGE)),
         6 => validates,
         7 => validates | drops_own(s, i, le::get_u32(m, message::PAGES)),
-        8 => validates,
+        8 => validates | (server_state::keeps(s, i) & above_open(s, i, t)),
         _ => true,
     }
 }
@@ -175,8 +185,8 @@ pub fn open_ask(s: &[u8], i: usize, p: usize, t: u32) -> bool
 {
     (byte(s, WHOLE + p) == i + 1)
         & station_state::has_bit32(server_state::asked(s), p)
-        & (s[UNFINISHED + i] != 0)
-        & (t == server_state::latest(s, i))
+        & (server_state::keeps(s, i)
+            | ((s[UNFINISHED + i] != 0) & (t == server_state::latest(s, i))))
 }
 
 // Whether the version that came for object o of page p, among those from `from`, is another than the object's.
@@ -398,6 +408,18 @@ pub fn shut(s: &[u8], i: usize, p: usize) -> bool
     ensures { λ r. ⌜ r ≡ shutB (now (s .entry)) i p ⌝ }
 {
     (wanted(s, i, p) != 0) & server_state::other(s[WHOLE + p], i)
+}
+
+// Whether page p's 19 is due to another than i; kept, only if it keeps.
+pub fn due(s: &[u8], i: usize, p: usize, kept: bool) -> bool
+    requires { ⌜ (length (now s) ≡ serverLength) × (i < 8) × (p < 32) × (wholeOf (now s) p ≤ 8) ⌝ }
+    ensures { λ r. ⌜ r ≡ dueB kept (now (s .entry)) i p ⌝ }
+{
+    if !shut(s, i, p) {
+        return false;
+    }
+    let h = s[WHOLE + p] as usize - 1;
+    (!kept | server_state::keeps(s, h)) & !station_state::has_bit32(server_state::asked(s), p)
 }
 
 // Whether a page that i wants is another's whole.

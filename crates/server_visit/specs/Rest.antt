@@ -1,7 +1,7 @@
 -- A turn that sends nothing changes nothing: whatever changes sends a message.
 use Prim.Native.Nat.{ℕ, zero, suc, _+_, _-_, _/_, _≤_, _<_}
 use mathlib.Core.Path.{_≡_, refl, sym, _∙_}
-use mathlib.Core.Bool.{true, false, not, _&&_}
+use mathlib.Core.Bool.{Bool, true, false}
 use mathlib.Core.List.{List}
 use native.Mathlib.Omega.{arith}
 use lib.ListN.{length, length-append, length-set, set}
@@ -12,14 +12,14 @@ use Rattle.cells.specs.Bits.{tb}
 use Rattle.cells.specs.Loops.{mask-lt}
 use Rattle.cells.specs.Pages.{any-byte}
 use Rattle.station_state.specs.Layout.{hasBit}
-use Rattle.server_state.specs.Layout.{serverLength, calledFrom, pendFrom, askedOf, wholeOf, writtenSet, pendOf, calledOf, wantOf, requestOf}
-use Rattle.server_tests.specs.Tests.{faultB, blockedB, shutB, shutOutB, concernedB, concernedSet, hinderedB, unavailableB, writtenPagesB}
+use Rattle.server_state.specs.Layout.{serverLength, calledFrom, pendFrom, wholeOf, writtenSet, pendOf, calledOf, wantOf, requestOf}
+use Rattle.server_tests.specs.Tests.{faultB, blockedB, shutOutB, outOfTimeB, dueB, concernedB, concernedSet, hinderedB, unavailableB, writtenPagesB}
 use Rattle.server_tests.specs.Blockers.{bit-is}
 use Rattle.server_changes.specs.Changes.{leaveB, askedB, calledB, lockPageB, lockTo}
 use Rattle.server_actions.specs.Actions.{Serving, onState, send, deescalateB, writtenSets, sendPageB, abortB, installB}
-use Rattle.server_actions.specs.Pass.{askB, askTo, serveReadB, callOneB, callTo, callB, callOnceB, grantPageB, grantObjectB, grantB, afterCallsB, proceedB, gatesB, visitB}
+use Rattle.server_actions.specs.Pass.{askB, askTo, serveReadB, callOneB, callTo, callB, callOnceB, grantPageB, grantObjectB, grantB, afterCallsB, proceedB, gatesB, judgeB, askKeepersB, visitB}
 use Rattle.server_actions.specs.Posting.{from, Acts, acts-turns}
-use Rattle.server_actions.specs.Parts.{installedB, turns-informs, install-is, acts-ask, turns-asks, turns-calls, acts-callOnce}
+use Rattle.server_actions.specs.Parts.{installedB, turns-informs, install-is, acts-ask, turns-asks, turns-calls, acts-callOnce, acts-gates, acts-judge}
 
 -- what was sent stays sent
 pub longer : {f : Serving → Serving} → Acts f → (x : Serving) → length (x .sent) ≤ length ((f x) .sent)
@@ -88,12 +88,30 @@ concerned-lt : (s : List ℕ) (i : ℕ) → concernedSet s i < 256
 unfolding concernedSet
 concerned-lt s i = mask-lt (concernedB s i) 8
 
-ask-rests : (i p : ℕ) (x : Serving) → Rests x (askB i x p)
+ask-rests : (k : Bool) (i p : ℕ) (x : Serving) → Rests x (askB k i x p)
 unfolding askB
-ask-rests i p x =
+ask-rests k i p x =
     let s = x .state in
-    byB (shutB s i p && not (hasBit (askedOf s) p))
+    byB (dueB k s i p)
     (λ e. rw e (sends x (send (onState x (askedB p s)) (deescalateB (wholeOf s p - 1) p s)) (simp length-append (omega arith)))) (λ e. rw e (λ _. refl))
+
+asks-rest : (k : Bool) (i n : ℕ) (x : Serving) → Rests x (askTo k i x n)
+unfolding askTo
+asks-rest k i zero x m = refl
+asks-rest k i (suc n) x m =
+    let y = askTo k i x n in
+    let after : length (y .sent) ≤ length ((askB k i y n) .sent) = longer (acts-ask k i n) y in
+    ask-rests k i n y (omega (arith, m, longer (acts-turns (turns-asks k i) n) x)) ∙ asks-rest k i n x (omega (arith, m, after))
+
+keepers-rest : (i : ℕ) (x : Serving) → Rests x (askKeepersB i x)
+unfolding askKeepersB
+keepers-rest i x = asks-rest true i 32 x
+
+-- one behind the other
+rests-then : {g : Serving → Serving} → Acts g → (x y : Serving) → Rests x y → Rests x (g x) → Rests x (g y)
+rests-then a x y r q m =
+    let same : y ≡ x = r (omega (arith, m, longer a y)) in
+    rw same (q (rw same at m))
 
 module _ (i : ℕ) (x : Serving) (h : length (x .state) ≡ serverLength) (l : i < 8) where
   -- a call that leaves somebody to answer was sent
@@ -121,19 +139,17 @@ module _ (i : ℕ) (x : Serving) (h : length (x .state) ≡ serverLength) (l : i
       (byEq w 2 (λ u. rw u (sends x (grantB i y) (omega (arith, before, grant-sends i y)))) (λ u. rw u (sends x (installB i y) (omega (arith, before, install-sends i y))))))
       (λ t. rw t (once-rests t))))
 
-  asks-rest : (n : ℕ) → Rests x (askTo i x n)
-  unfolding askTo
-  asks-rest zero k = refl
-  asks-rest (suc n) k =
-      let y = askTo i x n in
-      let after : length (y .sent) ≤ length ((askB i y n) .sent) = longer (acts-ask i n) y in
-      ask-rests i n y (omega (arith, k, longer (acts-turns (turns-asks i) n) x)) ∙ asks-rest n (omega (arith, k, after))
-
   gates-rest : (w : ℕ) → Rests x (gatesB w i x)
   unfolding gatesB
   gates-rest w =
       byB (blockedB (x .state) i) (λ e. rw e (λ _. refl))
-      (λ e. rw e (byB (shutOutB (x .state) i) (λ t. rw t (asks-rest 32)) (λ t. rw t (proceed-rests w))))
+      (λ e. rw e (byB (shutOutB (x .state) i) (λ t. rw t (asks-rest false i 32 x)) (λ t. rw t (proceed-rests w))))
+
+  judge-rests : Rests x (judgeB i x)
+  unfolding judgeB
+  judge-rests =
+      let f = faultB (x .state) i in
+      byEq f 0 (λ u. rw u (gates-rest 3)) (λ u. rw u (sends x (abortB i f x) (abort-sends i f x)))
 
   pub visit-rests : Rests x (visitB i x)
   unfolding visitB
@@ -143,5 +159,6 @@ module _ (i : ℕ) (x : Serving) (h : length (x .state) ≡ serverLength) (l : i
       (λ e. rw e
       (byEq w 3
       (λ t. rw t
-      (byEq (faultB (x .state) i) 0 (λ u. rw u (gates-rest w)) (λ u. rw u (sends x (abortB i (faultB (x .state) i) x) (abort-sends i (faultB (x .state) i) x)))))
-      (λ t. rw t (gates-rest w))))
+      (byB (outOfTimeB (x .state) i) (λ u. rw u judge-rests)
+      (λ u. rw u (rests-then (acts-judge i) x (askKeepersB i x) (keepers-rest i x) judge-rests))))
+      (λ t. rw t (rests-then (acts-gates w i) x (askKeepersB i x) (keepers-rest i x) (gates-rest w)))))

@@ -1,45 +1,38 @@
 -- The calls of a waiter's turn, one after the other, leave what its definition gives; and there is room for each.
 use Prim.Native.Nat.{ℕ, _+_, _-_, _*_, _/_, _≤_, _<_}
 use mathlib.Core.Path.{_≡_, refl, sym, ap, _∙_}
-use mathlib.Core.Logic.{_≢_, inr}
-use mathlib.Core.Bool.{Bool, true, false, not, _&&_, cond}
+use mathlib.Core.Logic.{_≢_}
+use mathlib.Core.Bool.{Bool, true, false, not, _&&_, _||_, cond, false≢true}
 use mathlib.Core.List.{List, []}
 use native.Mathlib.Omega.{arith}
 use lib.ListN.{length, set}
 use lib.Seq.{sets, getD-set-other}
 use lib.Dec.{eqb}
 use borrow.Author.Tests.{eq-eqb, ne-eqb}
-use Rattle.sets.specs.Laws.{byB, byEq, eqb-no, and-l, and-r, not-yes}
-use Rattle.le.specs.Laws.{u32At-is, setU32-is}
-use Rattle.cells.specs.Num.{AllBytes, num-lt, num-frame, put-other}
+use Rattle.sets.specs.Base.{turned}
+use Rattle.sets.specs.Laws.{byEq, eqb-no, and-l}
+use Rattle.le.specs.Laws.{u32At-is}
+use Rattle.cells.specs.Num.{AllBytes, num-lt, num-frame}
 use Rattle.message.specs.Layout.{messageLength}
 use Rattle.station_state.specs.Layout.{hasBit}
-use Rattle.station_state.specs.Changes.{pageOn}
-use Rattle.server_state.specs.Layout.{lastFrom, askedFrom, wholeFrom, calledFrom, pendFrom, latestOf, lastOf, askedOf, wholeOf, writtenSet, wantOf, requestOf, calledOf, otherB, wantedOn}
-use Rattle.server_tests.specs.Tests.{faultB, blockedB, shutB, concernedSet, unavailableB}
+use Rattle.server_state.specs.Layout.{lastFrom, calledFrom, pendFrom, lastOf, askedOf, wholeForOf, wholeOf, writtenSet, wantOf, requestOf, calledOf, keepsB}
+use Rattle.server_tests.specs.Tests.{staleB, lockedB, faultB, blockedB, shutB, shutOutB, outOfTimeB, dueB, concernedSet, unavailableB}
 use Rattle.server_tests.specs.Blockers.{blockersB, blocked-is}
+use Rattle.server_tests.specs.Shorter.{shut-held}
 use Rattle.server_changes.specs.Changes.{leaveB, askedB, calledB, lockPageB, lockTo}
 use Rattle.server_actions.specs.declared.Counts.{Counts}
 use Rattle.server_actions.specs.Actions.{Serving, plain, deescalateB, callbackB, sendPageB, abortB}
-use Rattle.server_actions.specs.Pass.{askB, serveReadB, callOneB, callTo, callB, callOnceB, grantPageB, grantObjectB, afterCallsB, proceedB, gatesB, visitB}
-use Rattle.server_actions.specs.Posting.{from, acts-state, counts, Posted, posted, post, post-none, posted-then, Room, room-first, room-next}
-use Rattle.server_actions.specs.Parts.{acts-callOnce, acts-afterCalls}
+use Rattle.server_actions.specs.Pass.{askB, serveReadB, callOneB, callTo, callB, callOnceB, grantPageB, grantObjectB, afterCallsB, proceedB, gatesB, judgeB, askKeepersB, visitB}
+use Rattle.server_actions.specs.Posting.{from, Acts, acts-state, counts, Posted, posted, post, post-none, posted-then, Room, room-first, room-next}
+use Rattle.server_actions.specs.Parts.{acts-afterCalls}
 use Rattle.server_actions.specs.Chains.{one-fits, sent-chain}
-
--- every page locked whole is so by a station of the line
-abbrev pub Held : List ℕ → Type 0
-Held s = (p : ℕ) → p < 32 → wholeOf s p ≤ 8
+use Rattle.server_visit.specs.Asked.{Held, Asks, asks-one, asks-all, asks-none, held-asks, blockers-asks, fault-asks}
 
 -- a commit's turn
 unfoldable pub visitCommitB : ℕ → Serving → Serving
-visitCommitB i x = cond (eqb (faultB (x .state) i) 0) (gatesB 3 i x) (abortB i (faultB (x .state) i) x)
+visitCommitB i x = judgeB i (cond (outOfTimeB (x .state) i) x (askKeepersB i x))
 
 -- WHAT IS LEFT AS IT WAS
-
--- 19 changes no lock
-held-asked : (s : List ℕ) (p : ℕ) → Held s → Held (askedB p s)
-unfolding askedB pageOn
-held-asked s p h r l = rw (setU32-is, put-other 4 s askedFrom _ (wholeFrom + r) (inr (omega arith))) (h r l)
 
 -- 20s change no commit number
 last-called : (i d : ℕ) (s : List ℕ) → lastOf (calledB i d s) ≡ lastOf s
@@ -68,13 +61,34 @@ pub blocked-not : (s : List ℕ) (i b : ℕ) → b ≡ blockersB s i → AllByte
 blocked-not s i b e h z = blocked-is s h i ∙ ap not (eq-eqb (blockersB s i) 0 (sym e ∙ z))
 
 -- 19 goes to a station
-pub ask-held : (i p : ℕ) (s : List ℕ) → (shutB s i p && not (hasBit (askedOf s) p)) ≡ true → 1 ≤ wholeOf s p
-unfolding shutB otherB
-ask-held i p s e =
-    let shut : shutB s i p ≡ true = and-l (shutB s i p) (not (hasBit (askedOf s) p)) e in
-    let other : otherB (wholeOf s p) i ≡ true = and-r (not (eqb (wantedOn s i p) 0)) (otherB (wholeOf s p) i) shut in
-    let some : not (eqb (wholeOf s p) 0) ≡ true = and-l (not (eqb (wholeOf s p) 0)) (not (eqb (wholeOf s p) (i + 1))) other in
-    omega (arith, eqb-no (wholeOf s p) 0 (not-yes (eqb (wholeOf s p) 0) some))
+pub ask-held : (k : Bool) (i p : ℕ) (s : List ℕ) → dueB k s i p ≡ true → 1 ≤ wholeOf s p
+unfolding dueB
+ask-held k i p s e =
+    let most = shutB s i p && (not k || keepsB s (wholeOf s p - 1)) in
+    shut-held s i p (and-l (shutB s i p) (not k || keepsB s (wholeOf s p - 1)) (and-l most (not (hasBit (askedOf s) p)) e))
+
+-- causes 2 and 4 are those that 19s to keeping holders do not go ahead of
+out-is : (s : List ℕ) (i : ℕ) → outOfTimeB s i ≡ (eqb (faultB s i) 2 || eqb (faultB s i) 4)
+unfolding outOfTimeB faultB
+out-is s i = go (eqb (lastOf s) 4294967295) (staleB s i) (lockedB s i)
+  where
+    go : (a b c : Bool) → (a || b) ≡ (eqb (turned a 4 (turned b 2 (turned c 3 0))) 2 || eqb (turned a 4 (turned b 2 (turned c 3 0))) 4)
+    go true b c = refl
+    go false true c = refl
+    go false false true = refl
+    go false false false = refl
+
+pub out-by : (s : List ℕ) (i : ℕ) {d : ℕ} {r : Bool} → d ≡ faultB s i → (eqb d 2 || eqb d 4) ≡ r → outOfTimeB s i ≡ r
+out-by s i e f = out-is s i ∙ ap (λ (n : ℕ). eqb n 2 || eqb n 4) (sym e) ∙ f
+
+out-fault : (s : List ℕ) (i : ℕ) → outOfTimeB s i ≡ true → eqb (faultB s i) 0 ≡ false
+unfolding outOfTimeB faultB
+out-fault s i = go (eqb (lastOf s) 4294967295) (staleB s i) (lockedB s i)
+  where
+    go : (a b c : Bool) → (a || b) ≡ true → eqb (turned a 4 (turned b 2 (turned c 3 0))) 0 ≡ false
+    go true b c e = refl
+    go false true c e = refl
+    go false false c e = absurd (false≢true e)
 
 -- PAGES
 
@@ -110,23 +124,49 @@ module _ (o q : List ℕ) (c : Counts) where
 
   -- 19
 
-  pub ask-fits : (i p : ℕ) (s : List ℕ) → (shutB s i p && not (hasBit (askedOf s) p)) ≡ true → Room o q c (askB i (from s) p) → c .messages * messageLength + messageLength ≤ length o
+  pub ask-fits : (k : Bool) (i p : ℕ) (s : List ℕ) → dueB k s i p ≡ true → Room o q c (askB k i (from s) p) → c .messages * messageLength + messageLength ≤ length o
   unfolding askB
-  ask-fits i p s e r = one-fits o q c (askedB p s) (deescalateB (wholeOf s p - 1) p s) [] [] (rw e at r)
+  ask-fits k i p s e r = one-fits o q c (askedB p s) (deescalateB (wholeOf s p - 1) p s) [] [] (rw e at r)
 
-  pub ask-chain : (i p : ℕ) (s : List ℕ) {h t : ℕ} {s₁ o₁ : List ℕ} {r : Counts} → (shutB s i p && not (hasBit (askedOf s) p)) ≡ true
-      → h ≡ wholeOf s p - 1 → t ≡ latestOf s h → o₁ ≡ sets o (c .messages * messageLength) (plain 19 h p 0 t 0 0) → s₁ ≡ askedB p s → r ≡ counts (c .messages + 1) (c .records)
-      → posted s₁ o₁ q r ≡ post o q c (askB i (from s) p)
+  pub ask-chain : (k : Bool) (i p : ℕ) (s : List ℕ) {h t : ℕ} {s₁ o₁ : List ℕ} {r : Counts} → dueB k s i p ≡ true
+      → h ≡ wholeOf s p - 1 → t ≡ wholeForOf s p → o₁ ≡ sets o (c .messages * messageLength) (plain 19 h p 0 t 0 0) → s₁ ≡ askedB p s → r ≡ counts (c .messages + 1) (c .records)
+      → posted s₁ o₁ q r ≡ post o q c (askB k i (from s) p)
   unfolding askB
-  ask-chain i p s e eh et eo es er = rw e (sent-chain o q c (askedB p s) (deescalateB (wholeOf s p - 1) p s) (eo ∙ rw (et, eh)) es er)
+  ask-chain k i p s e eh et eo es er = rw e (sent-chain o q c (askedB p s) (deescalateB (wholeOf s p - 1) p s) (eo ∙ rw (et, eh)) es er)
 
-  pub ask-none : (i p : ℕ) (s : List ℕ) → (shutB s i p && not (hasBit (askedOf s) p)) ≡ false → posted s o q c ≡ post o q c (askB i (from s) p)
+  pub ask-none : (k : Bool) (i p : ℕ) (s : List ℕ) → dueB k s i p ≡ false → posted s o q c ≡ post o q c (askB k i (from s) p)
   unfolding askB
-  ask-none i p s e = rw e (post-none o q c s)
+  ask-none k i p s e = rw e (post-none o q c s)
 
-  pub ask-keeps : (i p : ℕ) (s : List ℕ) {s₁ o₁ q₁ : List ℕ} {r : Counts} → posted s₁ o₁ q₁ r ≡ post o q c (askB i (from s) p) → Held s → Held s₁
-  unfolding askB post
-  ask-keeps i p s e h = rw (ap (λ (d : Posted). d .state) e) (byB (shutB s i p && not (hasBit (askedOf s) p)) (λ y. rw y (held-asked s p h)) (λ n. rw n h))
+  pub ask-keeps : (k : Bool) (i p : ℕ) (s : List ℕ) {s₁ o₁ q₁ : List ℕ} {r : Counts} → posted s₁ o₁ q₁ r ≡ post o q c (askB k i (from s) p) → Held s → Held s₁
+  unfolding post
+  ask-keeps k i p s e h = rw (ap (λ (d : Posted). d .state) e) (held-asks s ((askB k i (from s) p) .state) (asks-one k i p (from s)) h)
+
+  -- 19s to keeping holders
+
+  pub keepers-none : (i : ℕ) (s : List ℕ) → shutOutB s i ≡ false → posted s o q c ≡ post o q c (askKeepersB i (from s))
+  unfolding askKeepersB
+  keepers-none i s e = post-none o q c s ∙ ap (post o q c) (sym (asks-none true i 32 s (omega arith) e))
+
+  module _ (i : ℕ) (s : List ℕ) {s₁ o₁ q₁ : List ℕ} {b : Counts} (e : posted s₁ o₁ q₁ b ≡ post o q c (askKeepersB i (from s))) where
+    keepers-asks : Asks s s₁
+    unfolding post askKeepersB
+    keepers-asks = rw (ap (λ (d : Posted). d .state) e) (asks-all true i 32 (from s))
+
+    pub keepers-held : Held s → Held s₁
+    keepers-held = held-asks s s₁ keepers-asks
+
+    pub keepers-blockers : i < 8 → {d : ℕ} → d ≡ blockersB s i → d ≡ blockersB s₁ i
+    keepers-blockers l f = f ∙ sym (blockers-asks s s₁ keepers-asks i l)
+
+    pub keepers-fault : i < 8 → {d : ℕ} → d ≡ faultB s i → d ≡ faultB s₁ i
+    keepers-fault l f = f ∙ sym (fault-asks s s₁ keepers-asks i l)
+
+    pub keepers-room : {g : Serving → Serving} → Acts g → Room o q c (g (askKeepersB i (from s))) → Room o₁ q₁ b (g (from s₁))
+    keepers-room a r = room-next o q c a (askKeepersB i (from s)) e r
+
+    pub keepers-chain : {g : Serving → Serving} → Acts g → {d : Posted} → d ≡ post o₁ q₁ b (g (from s₁)) → d ≡ post o q c (g (askKeepersB i (from s)))
+    keepers-chain a f = posted-then a o q c (askKeepersB i (from s)) e f
 
   -- 20
 
@@ -179,11 +219,32 @@ module _ (o q : List ℕ) (c : Counts) where
       proceed-chain f = posted-then (acts-afterCalls w i) o q c (callOnceB i (from s)) e f ∙ ap (post o q c) (sym proceeds)
 
   module _ (i : ℕ) (s : List ℕ) where
+    -- cause 2 or 4
+    out : outOfTimeB s i ≡ true → visitCommitB i (from s) ≡ abortB i (faultB s i) (from s)
+    unfolding visitCommitB judgeB
+    out e = rw (e, out-fault s i e)
+
+    pub out-room : outOfTimeB s i ≡ true → Room o q c (visitCommitB i (from s)) → Room o q c (abortB i (faultB s i) (from s))
+    out-room e r = rw (out e) at r
+
+    pub out-post : {d : Posted} → outOfTimeB s i ≡ true → d ≡ post o q c (abortB i (faultB s i) (from s)) → d ≡ post o q c (visitCommitB i (from s))
+    out-post e f = rw (out e) f
+
+    in-time : outOfTimeB s i ≡ false → visitCommitB i (from s) ≡ judgeB i (askKeepersB i (from s))
+    unfolding visitCommitB
+    in-time e = rw e
+
+    pub in-room : outOfTimeB s i ≡ false → Room o q c (visitCommitB i (from s)) → Room o q c (judgeB i (askKeepersB i (from s)))
+    in-room e r = rw (in-time e) at r
+
+    pub in-post : {d : Posted} → outOfTimeB s i ≡ false → d ≡ post o q c (judgeB i (askKeepersB i (from s))) → d ≡ post o q c (visitCommitB i (from s))
+    in-post e f = rw (in-time e) f
+
     commit-is : wantOf s i ≡ 3 → visitB i (from s) ≡ visitCommitB i (from s)
     unfolding visitB visitCommitB
     commit-is e = rw e
 
-    other-is : wantOf s i ≢ 0 → wantOf s i ≢ 3 → visitB i (from s) ≡ gatesB (wantOf s i) i (from s)
+    other-is : wantOf s i ≢ 0 → wantOf s i ≢ 3 → visitB i (from s) ≡ gatesB (wantOf s i) i (askKeepersB i (from s))
     unfolding visitB
     other-is n m = rw (ne-eqb (wantOf s i) 0 n, ne-eqb (wantOf s i) 3 m)
 
@@ -193,8 +254,8 @@ module _ (o q : List ℕ) (c : Counts) where
     pub commit-post : {d : Posted} → wantOf s i ≡ 3 → d ≡ post o q c (visitCommitB i (from s)) → d ≡ post o q c (visitB i (from s))
     commit-post e f = rw (commit-is e) f
 
-    pub other-room : wantOf s i ≢ 0 → wantOf s i ≢ 3 → Room o q c (visitB i (from s)) → Room o q c (gatesB (wantOf s i) i (from s))
+    pub other-room : wantOf s i ≢ 0 → wantOf s i ≢ 3 → Room o q c (visitB i (from s)) → Room o q c (gatesB (wantOf s i) i (askKeepersB i (from s)))
     other-room n m r = rw (other-is n m) at r
 
-    pub other-post : {d : Posted} → wantOf s i ≢ 0 → wantOf s i ≢ 3 → d ≡ post o q c (gatesB (wantOf s i) i (from s)) → d ≡ post o q c (visitB i (from s))
+    pub other-post : {d : Posted} → wantOf s i ≢ 0 → wantOf s i ≢ 3 → d ≡ post o q c (gatesB (wantOf s i) i (askKeepersB i (from s))) → d ≡ post o q c (visitB i (from s))
     other-post n m f = rw (other-is n m) f

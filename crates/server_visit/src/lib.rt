@@ -2,16 +2,15 @@
 // server_actions puts them.
 ghost use mathlib.Core.Path.{_≡_};
 ghost use mathlib.Core.Logic.{_≢_};
-ghost use mathlib.Core.Bool.{not, _&&_};
 ghost use Prim.Native.Nat.{_+_, _-_, _*_, _≤_, _<_};
 ghost use lib.ListN.{length};
-ghost use Rattle.station_state.specs.Layout.{hasBit};
-ghost use Rattle.server_state.specs.Layout.{serverLength, askedOf, wholeOf, wantOf, requestOf, lastOf};
-ghost use Rattle.server_tests.specs.Tests.{shutB, faultB};
+ghost use Rattle.server_state.specs.Layout.{serverLength, wholeOf, wantOf, requestOf, lastOf};
+ghost use Rattle.server_tests.specs.Tests.{faultB};
 ghost use Rattle.server_tests.specs.Blockers.{blockersB};
 ghost use Rattle.server_actions.specs.Posting.{from, posted, post, Room};
-ghost use Rattle.server_actions.specs.Pass.{askB, askTo, serveReadB, callOneB, callTo, callB, callOnceB, grantPageB, grantObjectB, grantB, afterCallsB, proceedB, gatesB, visitB};
-ghost use Rattle.server_visit.specs.Visits.{Held, visitCommitB};
+ghost use Rattle.server_actions.specs.Pass.{askB, askTo, serveReadB, callOneB, callTo, callB, callOnceB, grantPageB, grantObjectB, grantB, afterCallsB, proceedB, gatesB, judgeB, askKeepersB, visitB};
+ghost use Rattle.server_visit.specs.Asked.{Held};
+ghost use Rattle.server_visit.specs.Visits.{visitCommitB};
 use message::LENGTH as MESSAGE;
 use server_actions::Counts;
 use server_state::CALLED;
@@ -30,14 +29,6 @@ fn request(s: &[u8], i: usize) -> usize
     s[REQUEST + i] as usize
 }
 
-// Whether page p is locked whole by another than i and its 19 is not out.
-fn ask_due(s: &[u8], i: usize, p: usize) -> bool
-    requires { ⌜ (length (now s) ≡ serverLength) × (i < 8) × (p < 32) ⌝ }
-    ensures { λ r. ⌜ r ≡ (shutB (now (s .entry)) i p && not (hasBit (askedOf (now (s .entry))) p)) ⌝ }
-{
-    server_tests::shut(s, i, p) & !station_state::has_bit32(server_state::asked(s), p)
-}
-
 // The station that has locked page p whole.
 fn whole_holder(s: &[u8], p: usize) -> usize
     requires { ⌜ (length (now s) ≡ serverLength) × (p < 32) × (1 ≤ wholeOf (now s) p) × (wholeOf (now s) p ≤ 8) ⌝ }
@@ -46,14 +37,22 @@ fn whole_holder(s: &[u8], p: usize) -> usize
     s[WHOLE + p] as usize - 1
 }
 
-// 19 to the station that has locked page p whole, once.
-fn ask(s: &mut [u8], o: &mut [u8], q: &mut [u8], c: Counts, i: usize, p: usize) -> Counts
-    requires { ⌜ (length (now s) ≡ serverLength) × (i < 8) × (p < 32) × (wholeOf (now s) p ≤ 8) × Room (now o) (now q) c (askB i (from (now s)) p) ⌝ }
-    ensures { λ r. ⌜ posted (now (s .exit)) (now (o .exit)) (now (q .exit)) r ≡ post (now (o .entry)) (now (q .entry)) c (askB i (from (now (s .entry))) p) ⌝ }
+// 19 to the station that has locked page p whole, once; kept, only if it keeps.
+fn ask(
+    s: &mut [u8],
+    o: &mut [u8],
+    q: &mut [u8],
+    c: Counts,
+    i: usize,
+    p: usize,
+    kept: bool,
+) -> Counts
+    requires { ⌜ (length (now s) ≡ serverLength) × (i < 8) × (p < 32) × (wholeOf (now s) p ≤ 8) × Room (now o) (now q) c (askB kept i (from (now s)) p) ⌝ }
+    ensures { λ r. ⌜ posted (now (s .exit)) (now (o .exit)) (now (q .exit)) r ≡ post (now (o .entry)) (now (q .entry)) c (askB kept i (from (now (s .entry))) p) ⌝ }
 {
-    if ask_due(s, i, p) {
+    if server_tests::due(s, i, p, kept) {
         let h = whole_holder(s, p);
-        let t = server_state::latest(s, h);
+        let t = server_state::whole_for(s, p);
         message::put_message(o, c.messages * MESSAGE, 19, h as u8, p as u8, 0, t, 0, 0);
         server_changes::asked(s, p);
         return server_actions::one_more(c);
@@ -62,14 +61,14 @@ fn ask(s: &mut [u8], o: &mut [u8], q: &mut [u8], c: Counts, i: usize, p: usize) 
 }
 
 // Pages rising.
-fn ask_all(s: &mut [u8], o: &mut [u8], q: &mut [u8], c: Counts, i: usize) -> Counts
-    requires { ⌜ (length (now s) ≡ serverLength) × (i < 8) × Held (now s) × Room (now o) (now q) c (askTo i (from (now s)) 32) ⌝ }
-    ensures { λ r. ⌜ posted (now (s .exit)) (now (o .exit)) (now (q .exit)) r ≡ post (now (o .entry)) (now (q .entry)) c (askTo i (from (now (s .entry))) 32) ⌝ }
+fn ask_all(s: &mut [u8], o: &mut [u8], q: &mut [u8], c: Counts, i: usize, kept: bool) -> Counts
+    requires { ⌜ (length (now s) ≡ serverLength) × (i < 8) × Held (now s) × Room (now o) (now q) c (askTo kept i (from (now s)) 32) ⌝ }
+    ensures { λ r. ⌜ posted (now (s .exit)) (now (o .exit)) (now (q .exit)) r ≡ post (now (o .entry)) (now (q .entry)) c (askTo kept i (from (now (s .entry))) 32) ⌝ }
 {
     let mut b = c;
     let mut p = 0;
     while p < 32 {
-        let e = ask(s, o, q, b, i, p);
+        let e = ask(s, o, q, b, i, p, kept);
         b = e;
         p += 1;
     }
@@ -204,21 +203,44 @@ fn gates(s: &mut [u8], o: &mut [u8], q: &mut [u8], c: Counts, i: usize, w: u8, b
         return c;
     }
     if server_tests::shut_out(s, i) {
-        return ask_all(s, o, q, c, i);
+        return ask_all(s, o, q, c, i, false);
     }
     proceed(s, o, q, c, i, w)
 }
 
-// A commit that cannot be installed any more is aborted at once.
+// 19s to keeping holders. Where nothing that i wants is locked whole by another there are none.
+fn ask_keepers(s: &mut [u8], o: &mut [u8], q: &mut [u8], c: Counts, i: usize) -> Counts
+    requires { ⌜ (length (now s) ≡ serverLength) × (i < 8) × Held (now s) × Room (now o) (now q) c (askKeepersB i (from (now s))) ⌝ }
+    ensures { λ r. ⌜ posted (now (s .exit)) (now (o .exit)) (now (q .exit)) r ≡ post (now (o .entry)) (now (q .entry)) c (askKeepersB i (from (now (s .entry)))) ⌝ }
+{
+    if server_tests::shut_out(s, i) {
+        return ask_all(s, o, q, c, i, true);
+    }
+    c
+}
+
+// A commit that cannot be installed any more is aborted; cause is its fault.
+fn judge(s: &mut [u8], o: &mut [u8], q: &mut [u8], c: Counts, i: usize, b: u8, cause: u8) -> Counts
+    requires { ⌜ (length (now s) ≡ serverLength) × (i < 8) × Held (now s) × (b ≡ blockersB (now s) i) × (cause ≡ faultB (now s) i) × Room (now o) (now q) c (judgeB i (from (now s))) ⌝ }
+    ensures { λ r. ⌜ posted (now (s .exit)) (now (o .exit)) (now (q .exit)) r ≡ post (now (o .entry)) (now (q .entry)) c (judgeB i (from (now (s .entry)))) ⌝ }
+{
+    if cause == 0 {
+        return gates(s, o, q, c, i, 3, b);
+    }
+    server_actions::abort(s, o, q, c, i, cause)
+}
+
+// A commit's turn: 19s to keeping holders go ahead of cause 3, not of the others.
 fn visit_commit(s: &mut [u8], o: &mut [u8], q: &mut [u8], c: Counts, i: usize, b: u8) -> Counts
     requires { ⌜ (length (now s) ≡ serverLength) × (i < 8) × Held (now s) × (b ≡ blockersB (now s) i) × Room (now o) (now q) c (visitCommitB i (from (now s))) ⌝ }
     ensures { λ r. ⌜ posted (now (s .exit)) (now (o .exit)) (now (q .exit)) r ≡ post (now (o .entry)) (now (q .entry)) c (visitCommitB i (from (now (s .entry)))) ⌝ }
 {
     let cause = server_tests::fault(s, i);
-    if cause == 0 {
-        return gates(s, o, q, c, i, 3, b);
+    if (cause == 2) | (cause == 4) {
+        return server_actions::abort(s, o, q, c, i, cause);
     }
-    server_actions::abort(s, o, q, c, i, cause)
+    let d = ask_keepers(s, o, q, c, i);
+    judge(s, o, q, d, i, b, cause)
 }
 
 // Station i's turn, if it waits. b is who blocks it: the pass asks for it once, and keeps it for the edges.
@@ -233,5 +255,6 @@ pub fn visit(s: &mut [u8], o: &mut [u8], q: &mut [u8], c: Counts, i: usize, b: u
     if w == 3 {
         return visit_commit(s, o, q, c, i, b);
     }
-    gates(s, o, q, c, i, w, b)
+    let d = ask_keepers(s, o, q, c, i);
+    gates(s, o, q, d, i, w, b)
 }

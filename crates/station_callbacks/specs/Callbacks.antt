@@ -8,7 +8,7 @@ use lib.Seq.{sets}
 use lib.Dec.{eqb}
 use Rattle.sets.specs.Base.{snoc}
 use Rattle.message.specs.Layout.{messageLength, upMessage}
-use Rattle.station_state.specs.Layout.{setRow, keptOf, kind, namedFrom, writtenSetFrom}
+use Rattle.station_state.specs.Layout.{setRow, keptOf, namedFrom, lockingB, writtenSetFrom}
 use Rattle.station_state.specs.Changes.{unkeepB, closedB}
 use Rattle.station_pages.specs.Pages.{droppedB, dropPagesB, markB, writtenPagesB}
 
@@ -53,7 +53,7 @@ closeB i d = keptTo i (sends (closedB (d .state)) (d .sent)) 8
 
 -- "However aborted, a locking station marks written objects unavailable; a validating one drops written pages."
 unfoldable pub undoB : List ℕ → List ℕ
-undoB s = cond (eqb (kind s) 0) (markB (setsAt s writtenSetFrom) s) (dropPagesB (writtenPagesB s) s)
+undoB s = cond (lockingB s) (markB (setsAt s writtenSetFrom) s) (dropPagesB (writtenPagesB s) s)
 
 -- messages one behind the other
 unfoldable pub flat : List (List ℕ) → List ℕ

@@ -88,7 +88,7 @@ pub fn undo(s: &mut [u8])
     requires { ⌜ length (now s) ≡ stateLength ⌝ }
     ensures { λ _. ⌜ now (s .exit) ≡ undoB (now (s .entry)) ⌝ }
 {
-    if s[KIND] == 0 {
+    if kinds::locking(s[KIND]) {
         let x = sets_at(s, WRITTEN_SET);
         station_pages::mark(s, &x);
         return;

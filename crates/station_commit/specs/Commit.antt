@@ -10,7 +10,7 @@ use Rattle.le.specs.Width.{bytes}
 use Rattle.sets.specs.Base.{Val}
 use Rattle.layout.specs.Record.{Record, entries, addresses, bytesOf}
 use Rattle.message.specs.Layout.{versionWidth, upMessage}
-use Rattle.station_state.specs.Layout.{readValueFrom, writtenValueFrom, seenOf, number, station, kind, readSetFrom, writtenSetFrom, countIn}
+use Rattle.station_state.specs.Layout.{readValueFrom, writtenValueFrom, seenOf, number, station, kind, lockingB, readSetFrom, writtenSetFrom, countIn}
 use Rattle.station_pages.specs.Pages.{usedPagesB}
 use Rattle.set_record.specs.Record.{valuesAt, recordFrom}
 pub use Rattle.set_record.specs.Record.{Filled, filled}
@@ -32,7 +32,7 @@ countSent s = countIn s readSetFrom + countIn s writtenSetFrom
 
 -- "from a locking station all are 0"; else the version that the object had when it was first used
 unfoldable pub versionSent : List ℕ → ℕ → ℕ
-versionSent s a = cond (eqb (kind s) 0) 0 (seenOf s a)
+versionSent s a = cond (lockingB s) 0 (seenOf s a)
 
 -- the versions of these addresses, one behind the other
 unfoldable pub versionsFor : List ℕ → List ℕ → List ℕ

@@ -22,7 +22,7 @@ fn version_sent(s: &[u8], a: usize) -> u32
     requires { ⌜ (length (now s) ≡ stateLength) × (a < 256) ⌝ }
     ensures { λ r. ⌜ r ≡ versionSent (now (s .entry)) a ⌝ }
 {
-    if s[KIND] == 0 {
+    if kinds::locking(s[KIND]) {
         return 0;
     }
     le::get_u32(s, SEEN + a * NUMBER_WIDTH)

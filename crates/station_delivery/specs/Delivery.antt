@@ -6,14 +6,14 @@ use mathlib.Core.List.{List, [], _∷_}
 use mathlib.Core.Bool.{Bool, true, false, not, _&&_, _||_, cond}
 use lib.Dec.{eqb, ltb}
 use Rattle.message.specs.Layout.{setsFrom, kindOf, pageOf, requesterOf, objectOf, causeOf, transactionOf, versionOf, upMessage}
-use Rattle.station_state.specs.Layout.{wholeFrom, copyOf, number, whole, writtenSet, station, wait, address, waitingSet, hasBit}
+use Rattle.station_state.specs.Layout.{wholeFrom, copyOf, number, whole, writtenSet, station, wait, address, waitingSet, hasBit, lockingB, keepsB}
 use Rattle.station_state.specs.Changes.{pageOn, recordReadB, writeAllB, waitingValues, idleB, lockWaitingB, loosenB, keepB}
 use Rattle.station_pages.specs.Pages.{inUseB, markB, arriveB, versionsB}
 use Rattle.station_callbacks.specs.Callbacks.{sends, setsAt, doCallbackB, closeB, undoB}
 use Rattle.station_answer.specs.declared.Answer.{Answer}
 use Rattle.station_answer.specs.declared.Answer.the-variants.{Value, Written, Committed, Aborted, Nothing}
 use Rattle.station_answer.specs.Did.{Did, does, doesAll}
-use Rattle.station_answer.specs.Ask.{lockingB, openB}
+use Rattle.station_answer.specs.Ask.{openB}
 
 -- "16 to 23 to stations": what number 3 has seen to
 abbrev pub ForStations : List ℕ → Type 0
@@ -92,15 +92,23 @@ onPageB m s =
 
 -- "On 19: send 8 with the objects written on that page, empty if that transaction is over; if it is open, the whole lock becomes
 -- locks on those objects."
+-- A keeping station's 8 "names the open transaction, else the 18's transaction, as 19 always does".
+unfoldable pub answersForB : List ℕ → List ℕ → ℕ
+answersForB m s = cond (keepsB s && openB s) (number s) (transactionOf m)
+
 unfoldable pub writtenOnB : List ℕ → List ℕ → ℕ
-writtenOnB m s = cond (liveB s (transactionOf m)) (writtenSet s (pageOf m)) 0
+writtenOnB m s = cond (liveB s (answersForB m s)) (writtenSet s (pageOf m)) 0
+
+-- the whole lock goes: a keeping station's whatever transaction is open
+unfoldable pub givesUpB : List ℕ → List ℕ → Bool
+givesUpB m s = (keepsB s || liveB s (transactionOf m)) && hasBit (whole s) (pageOf m)
 
 unfoldable pub loosenedB : List ℕ → List ℕ → List ℕ
-loosenedB m s = cond (liveB s (transactionOf m) && hasBit (whole s) (pageOf m)) (loosenB (pageOf m) s) s
+loosenedB m s = cond (givesUpB m s) (loosenB (pageOf m) (writtenOnB m s) s) s
 
 unfoldable pub onDeescalateB : List ℕ → List ℕ → Did
 onDeescalateB m s =
-    does Nothing (loosenedB m s) (upMessage 8 (station s) (pageOf m) 0 (transactionOf m) 0 (writtenOnB m s) ∷ [])
+    does Nothing (loosenedB m s) (upMessage 8 (station s) (pageOf m) 0 (answersForB m s) 0 (writtenOnB m s) ∷ [])
 
 -- "if the open transaction has read or written a named object, send 6 and keep the callback, a newer one from that requester replacing
 -- it; else mark .., drop .., and send 7"

@@ -19,7 +19,7 @@ use Rattle.station_answer.specs.declared.Answer.the-variants.{Value, Written, C
 use Rattle.station_answer.specs.declared.Said.{Said}
 use Rattle.station_answer.specs.Did.{doesAll, said, Delivered, delivered, handed}
 use Rattle.station_answer.specs.Handed.{hand-none, hand-one, hand-all}
-use Rattle.station_delivery.specs.Delivery.{endedB, arrivedB, answerWaitB, onPageB, writtenOnB, loosenedB, onDeescalateB, onCallbackB, onCommittedB, onAbortedB, onInvalidateB}
+use Rattle.station_delivery.specs.Delivery.{endedB, arrivedB, answerWaitB, onPageB, answersForB, writtenOnB, loosenedB, onDeescalateB, onCallbackB, onCommittedB, onAbortedB, onInvalidateB}
 
 below : (k n : ℕ) → k < n + 1 → k ≢ n → k < n
 below k n h e = omega (arith, e)
@@ -81,7 +81,7 @@ module _ (m s o : List ℕ) {t : ℕ} {b : Bool} where
   callback-done s₁ p k et eb h e ey = rw (← et, ← eb, h) (done-sent (station s) (requesterOf m) _ _ s o _ s₁ p k e ey)
 
 module _ (m s o : List ℕ) where
-  pub deescalate-sent : {x t : ℕ} {s₁ p : List ℕ} {y : Said} → x ≡ writtenOnB m s → t ≡ transactionOf m
+  pub deescalate-sent : {x t : ℕ} {s₁ p : List ℕ} {y : Said} → x ≡ writtenOnB m s → t ≡ answersForB m s
       → p ≡ sets o 0 (upMessage 8 (station s) (pageOf m) 0 t 0 x) → s₁ ≡ loosenedB m s → y ≡ said Nothing 1 0
       → delivered s₁ p y ≡ handed o (onDeescalateB m s)
   unfolding onDeescalateB

@@ -4,7 +4,7 @@ ghost use mathlib.Core.List.{List};
 ghost use Prim.Native.Nat.{_+_, _*_, _≤_, _<_};
 ghost use lib.ListN.{length};
 ghost use Rattle.station_answer.specs.Did.{delivered, handed};
-ghost use Rattle.station_delivery.specs.Delivery.{ForStations, Named, liveB, endedB, forReadOf, forWriteOn, forWriteOf, fitsPageB, fitsLockB, fitsCommittedB, fitsAbortedB, fitsB, takeLockB, arrivedB, answerWaitB, onPageB, writtenOnB, loosenedB, onDeescalateB, onCallbackB, onCommittedB, onAbortedB, onInvalidateB, onDownB};
+ghost use Rattle.station_delivery.specs.Delivery.{ForStations, Named, liveB, endedB, forReadOf, forWriteOn, forWriteOf, fitsPageB, fitsLockB, fitsCommittedB, fitsAbortedB, fitsB, takeLockB, arrivedB, answerWaitB, onPageB, answersForB, writtenOnB, givesUpB, loosenedB, onDeescalateB, onCallbackB, onCommittedB, onAbortedB, onInvalidateB, onDownB};
 ghost use Rattle.station_state.specs.Layout.{stateLength, station as Layout·station};
 ghost use Rattle.message.specs.Layout.{messageLength, pageOf};
 ghost use Rattle.message.specs.Commit.{stationRoom};
@@ -35,7 +35,7 @@ fn ended(s: &[u8], t: u32) -> bool
     requires { ⌜ length (now s) ≡ stateLength ⌝ }
     ensures { λ r. ⌜ r ≡ endedB (now (s .entry)) t ⌝ }
 {
-    !(s[KIND] == 0) & !live(s, t) & !(station_state::number(s) < t)
+    !kinds::locking(s[KIND]) & !live(s, t) & !(station_state::number(s) < t)
 }
 
 fn for_read_of(s: &[u8], a: usize) -> bool
@@ -68,7 +68,8 @@ fn fits_page(m: &[u8], s: &[u8]) -> bool
 {
     let t = le::get_u32(m, message::TRANSACTION);
     let a = m[message::PAGE] as usize * OBJECTS + m[message::OBJECT] as usize;
-    ended(s, t) | (live(s, t) & (for_read_of(s, a) | (!(s[KIND] == 0) & for_write_of(s, a))))
+    ended(s, t)
+        | (live(s, t) & (for_read_of(s, a) | (!kinds::locking(s[KIND]) & for_write_of(s, a))))
 }
 
 // Whether a 17 or 18 fits what is out.
@@ -76,7 +77,7 @@ fn fits_lock(m: &[u8], s: &[u8]) -> bool
     requires { ⌜ (length (now s) ≡ stateLength) × (messageLength ≤ length (now m)) ⌝ }
     ensures { λ r. ⌜ r ≡ fitsLockB (now (m .entry)) (now (s .entry)) ⌝ }
 {
-    (s[KIND] == 0)
+    kinds::locking(s[KIND])
         & live(s, le::get_u32(m, message::TRANSACTION))
         & for_write_on(s, m[message::PAGE] as usize)
 }
@@ -104,11 +105,11 @@ pub fn fits(m: &[u8], s: &[u8]) -> bool
         16 => fits_page(m, s),
         17 => fits_lock(m, s),
         18 => fits_lock(m, s),
-        19 => s[KIND] == 0,
-        20 => s[KIND] == 0,
+        19 => kinds::locking(s[KIND]),
+        20 => kinds::locking(s[KIND]),
         21 => fits_committed(m, s),
         22 => fits_aborted(m, s),
-        23 => !(s[KIND] == 0),
+        23 => !kinds::locking(s[KIND]),
         _ => false,
     }
 }
@@ -172,26 +173,45 @@ fn on_page(s: &mut [u8], m: &[u8], o: &mut [u8]) -> Said
     answer_wait(s, o, w, a, x, &values)
 }
 
-// The objects that the open transaction wrote on the page that 19 names.
+// The transaction that the 8 names.
+fn answers_for(m: &[u8], s: &[u8]) -> u32
+    requires { ⌜ (length (now s) ≡ stateLength) × (messageLength ≤ length (now m)) ⌝ }
+    ensures { λ r. ⌜ r ≡ answersForB (now (m .entry)) (now (s .entry)) ⌝ }
+{
+    if kinds::keeps(s[KIND]) & !(s[OPEN] == 0) {
+        return station_state::number(s);
+    }
+    le::get_u32(m, message::TRANSACTION)
+}
+
+// The objects that it wrote on the page that 19 names.
 fn written_on(m: &[u8], s: &[u8]) -> u8
     requires { ⌜ (length (now s) ≡ stateLength) × (messageLength ≤ length (now m)) × (pageOf (now m) < 32) ⌝ }
     ensures { λ r. ⌜ r ≡ writtenOnB (now (m .entry)) (now (s .entry)) ⌝ }
 {
-    if live(s, le::get_u32(m, message::TRANSACTION)) {
+    if live(s, answers_for(m, s)) {
         return s[WRITTEN_SET + m[message::PAGE] as usize];
     }
     0
 }
 
-fn loosened(s: &mut [u8], m: &[u8])
+// Whether the page's whole lock goes.
+fn gives_up(m: &[u8], s: &[u8]) -> bool
     requires { ⌜ (length (now s) ≡ stateLength) × (messageLength ≤ length (now m)) × (pageOf (now m) < 32) ⌝ }
-    ensures { λ _. ⌜ now (s .exit) ≡ loosenedB (now (m .entry)) (now (s .entry)) ⌝ }
+    ensures { λ r. ⌜ r ≡ givesUpB (now (m .entry)) (now (s .entry)) ⌝ }
 {
     let p = m[message::PAGE] as usize;
-    if live(s, le::get_u32(m, message::TRANSACTION))
+    (kinds::keeps(s[KIND]) | live(s, le::get_u32(m, message::TRANSACTION)))
         & station_state::has_bit32(station_state::whole(s), p)
-    {
-        station_state::loosen(s, p);
+}
+
+// It becomes locks on the objects of x.
+fn loosened(s: &mut [u8], m: &[u8], x: u8)
+    requires { ⌜ (length (now s) ≡ stateLength) × (messageLength ≤ length (now m)) × (pageOf (now m) < 32) × (x ≡ writtenOnB (now m) (now s)) ⌝ }
+    ensures { λ _. ⌜ now (s .exit) ≡ loosenedB (now (m .entry)) (now (s .entry)) ⌝ }
+{
+    if gives_up(m, s) {
+        station_state::loosen(s, m[message::PAGE] as usize, x);
         return;
     }
 }
@@ -209,11 +229,11 @@ fn on_deescalate(s: &mut [u8], m: &[u8], o: &mut [u8]) -> Said
         s[STATION],
         m[message::PAGE],
         0,
-        le::get_u32(m, message::TRANSACTION),
+        answers_for(m, s),
         0,
         x,
     );
-    loosened(s, m);
+    loosened(s, m, x);
     station_answer::say(Answer::Nothing, 1)
 }
 

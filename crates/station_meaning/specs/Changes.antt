@@ -18,13 +18,14 @@ use Rattle.cells.specs.Pages.{addr-on}
 use Rattle.cells.specs.Cells.{Cells, reg, off, view, view-col, upd3, Holds, put8, put32, put64, get8, cell-lt, rowTo, row-none, row-more}
 use Rattle.cells.specs.Sets.{or8, on8, on32, off32}
 use Rattle.line.specs.Messages.{pageOf}
-use Rattle.line.specs.Station.{Station, Idle, ForRead, ForWrite, ForCommit, forWrite, writesTo, Kept, NotKept, KeptCall, usedAt, orVal, ofPage, setNum, setOpened, setWait, setRd, setWr, setSeen, setCopy, setOl, setWl, setKept, recordRead, writeLocal, loosen, closed}
+use Rattle.line.specs.Station.{Station, Idle, ForRead, ForWrite, ForCommit, forWrite, writesTo, Kept, NotKept, KeptCall, usedAt, orVal, ofPage, setNum, setOpened, setWait, setRd, setWr, setSeen, setCopy, setOl, setWl, setKept, recordRead, writeLocal, loosen, keptWhole, closed}
 use Rattle.line.specs.Line.{oneAt}
-use Rattle.station_state.specs.Layout.{copyCell, waitingValueFrom, numberFrom, wholeFrom, readSetFrom, writtenSetFrom, openFrom, waitFrom, addressFrom, waitingSetFrom, copyFrom, readValueFrom, writtenValueFrom, keptFrom, seenFrom, valueWidth, numberWidth, seenCell, readValueCell, writtenValueCell, waitingValueCell, keptCell, numberCell, wholeCell, readSetCell, writtenSetCell, locksCell, namedCell, openCell, waitCell, addressCell, waitingSetCell, table, number, wait, address, waitingSet, hasBit, copyOf, versionOf, writtenSet, locksFrom, namedFrom}
-use Rattle.station_state.specs.Changes.{addTo, pageOn, pageOff, clearTo, copyTo, beginB, recordReadB, usedB, firstUseB, writeLocalB, writeObjectB, writtenTo, writeAllB, idleB, forReadB, waitObjectB, waitingTo, waitAllB, forWriteB, forCommitB, lockWaitingB, loosenB, keepB, unkeepB, closedB}
+use Rattle.kinds.specs.Kinds.{keeps}
+use Rattle.station_state.specs.Layout.{setRow, kindCell, kind, copyCell, waitingValueFrom, numberFrom, wholeFrom, readSetFrom, writtenSetFrom, openFrom, waitFrom, addressFrom, waitingSetFrom, copyFrom, readValueFrom, writtenValueFrom, keptFrom, seenFrom, valueWidth, numberWidth, seenCell, readValueCell, writtenValueCell, waitingValueCell, keptCell, numberCell, wholeCell, readSetCell, writtenSetCell, locksCell, namedCell, openCell, waitCell, addressCell, waitingSetCell, table, number, wait, address, waitingSet, hasBit, copyOf, versionOf, writtenSet, locksFrom, namedFrom}
+use Rattle.station_state.specs.Changes.{addTo, pageOn, pageOff, clearTo, copyTo, beginB, recordReadB, usedB, firstUseB, writeLocalB, writeObjectB, writtenTo, writeAllB, idleB, forReadB, waitObjectB, waitingTo, waitAllB, forWriteB, forCommitB, lockWaitingB, loosenB, keepB, unkeepB, unwholeB, closedB}
 use Rattle.station_meaning.specs.Meant.{within, valueIf, given, waitOf, keptIf, meant, Is, start, done, done-flags}
 use Rattle.station_meaning.specs.Named.{named, named-is}
-use Rattle.station_meaning.specs.Tests.{has-if, bit-of, given-has, given-same, number-cell, copy-cell, copy-lt, version-cell, version-lt, wait-cell, address-cell, waitingSet-cell, waitingSet-lt, writesTo-at, used-sets}
+use Rattle.station_meaning.specs.Tests.{has-if, bit-of, given-has, given-same, kind-cell, number-cell, copy-cell, copy-lt, version-cell, version-lt, wait-cell, address-cell, waitingSet-cell, waitingSet-lt, writesTo-at, used-sets}
 
 -- an address that joins the set with value v has the value v
 value-on : (D W : ℕ → ℕ) (a v : ℕ)
@@ -67,12 +68,6 @@ cell-same C k i j =
 join-set : (D : ℕ → ℕ) (p y : ℕ) → _≡_ {A = ℕ → Bool} (within (λ j. cond (eqb j p) (bitOr (D p) y) (D j))) (λ b. within D b || (eqb (b / 8) p && tb y (b % 8)))
 join-set D p y = fun-ext (λ b. byEq (b / 8) p (λ e. rw (e, eqb-yes (b / 8) p e) (tb-or (b % 8) (D p) y)) (λ e. rw (e, or-false)))
 
--- .. those that are written
-join-on : (D E W : ℕ → ℕ) (p y : ℕ) → y ≡ E p
-    → _≡_ {A = ℕ → Bool} (within (λ j. cond (eqb j p) (bitOr (D p) y) (D j))) (λ b. within D b || (eqb (b / 8) p && has (valueIf (within E b) (W b))))
-join-on D E W p y g =
-    join-set D p y ∙ fun-ext (λ b. byEq (b / 8) p (λ e. rw (e, eqb-yes (b / 8) p e, g, has-if (tb (E p) (b % 8)) (W b))) (λ e. rw e))
-
 -- .. those that the write that is out will write
 join-waiting : (D : ℕ → ℕ) (p k a x y : ℕ) (v : ℕ → ℕ) → k ≡ 2 → a / 8 ≡ p → y ≡ x
     → _≡_ {A = ℕ → Bool} (within (λ j. cond (eqb j p) (bitOr (D p) y) (D j))) (λ b. within D b || forWrite (waitOf k a (given x v)) b)
@@ -93,6 +88,19 @@ copied-one f a v = fun-ext (λ b. byEq b a (λ e. rw e) (λ e. rw e))
 
 seen-one : (m : Station) (a v : ℕ) → upd (m .seen) a (cond (usedAt m a) (m .seen a) (m .cver a)) ≡ (λ b. cond (has (oneAt a v b) && not (usedAt m b)) (m .cver b) (m .seen b))
 seen-one m a v = fun-ext (λ b. byEq b a (λ e. rw (e, eqb-yes b a e) (byB (usedAt m a) (λ u. rw u) (λ u. rw u))) (λ e. rw e))
+
+-- a cell's own value put there changes nothing
+put-own : (C : Cells) (k i j : ℕ) → upd3 C k i j (C k i j) ≡ C
+put-own C k i j =
+    fun-ext
+    (λ a.
+    fun-ext
+    (λ b.
+    fun-ext
+    (λ c.
+    byEq a k
+    (λ e. byEq b i (λ f. byEq c j (λ g. rw (e, f, g, eqb-yes a k e, eqb-yes b i f, eqb-yes c j g)) (λ g. rw (e, f, g))) (λ f. rw (e, f)))
+    (λ e. rw e))))
 
 -- SETS WRITTEN ONE AFTER THE OTHER, as one: the last write stands
 
@@ -329,14 +337,13 @@ module _ {i : ℕ} {s : List ℕ} {m : Station} (h : Is i s m) where
       done h (λ (n : Station). setWl n (upd (n .wl) p true)) (on32 (start h) wholeCell 0 0 p wholeFrom refl (omega arith) (omega arith) refl l)
       (ap (setWl (meant s)) (fun-ext (tb-set (view table 0 s wholeCell 0 0) p))) (refl, refl, refl, refl)
 
-  pub loosen-is : (p : ℕ) → p < 32 → Is i (loosenB p s) (loosen p (λ b. eqb (pageOf b) p && has (m .wr b)) m)
+  pub loosen-is : (p x : ℕ) → p < 32 → x < 256 → Is i (loosenB p x s) (loosen p (λ b. eqb (pageOf b) p && tb x (b % 8)) m)
   unfolding loosenB loosen pageOff
-  loosen-is p l =
-      let y : writtenSet s p ≡ view table 0 s writtenSetCell 0 p = get8 (start h) writtenSetCell 0 p (writtenSetFrom + p) refl (omega arith) (omega arith) l in
-      done h (λ (n : Station). loosen p (λ b. eqb (pageOf b) p && has (n .wr b)) n)
-      (off32 (or8 (start h) locksCell 0 p (writtenSet s p) (locksFrom + p) (omega arith) (omega arith) l refl (h .bytes (writtenSetFrom + p))) wholeCell 0 0 p wholeFrom refl (omega arith) (omega arith) refl)
+  loosen-is p x l b =
+      done h (λ (n : Station). loosen p (λ b. eqb (pageOf b) p && tb x (b % 8)) n)
+      (off32 (or8 (start h) locksCell 0 p x (locksFrom + p) (omega arith) (omega arith) l refl b) wholeCell 0 0 p wholeFrom refl (omega arith) (omega arith) refl)
       (λ t.
-      setWl (setOl (meant s) (join-on (view table 0 s locksCell 0) (view table 0 s writtenSetCell 0) (view table 0 s writtenValueCell 0) p (writtenSet s p) y t))
+      setWl (setOl (meant s) (join-set (view table 0 s locksCell 0) p x t))
       (fun-ext (λ q. tb-clear-all 32 (view table 0 s wholeCell 0 0) p q l (cell-lt (start h) wholeCell 0 0)) t))
       (refl, refl, refl, refl)
 
@@ -358,12 +365,13 @@ module _ {i : ℕ} {s : List ℕ} {m : Station} (h : Is i s m) where
 
   -- the end
 
-  pub closed-is : Is i (closedB s) (closed m)
-  unfolding closedB closed idleB
-  closed-is =
+  -- w are the whole locks that are left
+  ended-is : {t : List ℕ} (w : ℕ) → Holds table 0 s t (upd3 (view table 0 s) wholeCell 0 0 w) → _≡_ {A = ℕ → Bool} (tb w) (keptWhole (meant s))
+      → Is i (set (idleB (clearTo (clearTo (clearTo t locksFrom setRow) writtenSetFrom setRow) readSetFrom setRow)) openFrom 0) (closed m)
+  unfolding closed idleB
+  ended-is w left kept =
       let past : (k : ℕ) → (reg table k) .cols ≡ 32 → (j : ℕ) → 32 ≤ j → view table 0 s k 0 j ≡ 0 = λ k e j q. view-col table 0 s k 0 j (rw e q) in
-      let no-whole = put32 (start h) wholeCell 0 0 0 wholeFrom refl refl (omega arith) (omega arith) (omega arith) in
-      let no-locks = clear-to no-whole locksCell locksFrom refl (omega arith) refl (λ n. omega arith) 32 (omega arith) in
+      let no-locks = clear-to left locksCell locksFrom refl (omega arith) refl (λ n. omega arith) 32 (omega arith) in
       let no-writes = clear-to no-locks writtenSetCell writtenSetFrom refl (omega arith) refl (λ n. omega arith) 32 (omega arith) in
       let no-reads = clear-to no-writes readSetCell readSetFrom refl (omega arith) refl (λ n. omega arith) 32 (omega arith) in
       let idle = put8 no-reads waitCell 0 0 0 waitFrom refl refl (omega arith) (omega arith) (omega arith) in
@@ -374,13 +382,25 @@ module _ {i : ℕ} {s : List ℕ} {m : Station} (h : Is i s m) where
       (setSeen
       (setRd
       (setWr
-      (setOl (setWl (meant s) (fun-ext (λ q. tb-zero q) t)) (set-none (view table 0 s locksCell 0) (past locksCell refl) t))
+      (setOl (setWl (meant s) (kept t)) (set-none (view table 0 s locksCell 0) (past locksCell refl) t))
       (value-none (view table 0 s writtenSetCell 0) (view table 0 s writtenValueCell 0) (past writtenSetCell refl) t))
       (value-none (view table 0 s readSetCell 0) (view table 0 s readValueCell 0) (past readSetCell refl) t))
       (seen-none (view table 0 s readSetCell 0) (view table 0 s writtenSetCell 0) (view table 0 s seenCell 0) (past readSetCell refl) (past writtenSetCell refl) t))
       Idle)
       false)
       refl (omega arith) (omega arith) (λ e. absurd (omega arith))
+
+  -- a keeping station's whole locks stay
+  pub closed-is : Is i (closedB s) (closed m)
+  unfolding closedB unwholeB
+  closed-is =
+      byB (keeps (kind s))
+      (λ k. rw k
+      (ended-is (view table 0 s wholeCell 0 0) (subst (Holds table 0 s s) (sym (put-own (view table 0 s) wholeCell 0 0)) (start h))
+      (fun-ext (λ q. let e : keeps (view table 0 s kindCell 0 0) ≡ true = rw (kind-cell h) at k in rw e))))
+      (λ k. rw k
+      (ended-is 0 (put32 (start h) wholeCell 0 0 0 wholeFrom refl refl (omega arith) (omega arith) (omega arith))
+      (fun-ext (λ q. let e : keeps (view table 0 s kindCell 0 0) ≡ false = rw (kind-cell h) at k in rw e (tb-zero q)))))
 
 -- a set is written as one
 module _ {i : ℕ} {s : List ℕ} {m : Station} (h : Is i s m) (p x : ℕ) (f : List ℕ) (l : p < 32) (b : (o : ℕ) → o < 8 → getD f o 0 < 2 ^ 64) where

@@ -16,8 +16,8 @@ use Rattle.cells.specs.Cells.{view, view-col, get8, get32, get64, cell-lt}
 use Rattle.cells.specs.Sets.{test8, test32}
 use Rattle.cells.specs.Loops.{anyTo, any-to, any-same, mask-is, mask-lt}
 use Rattle.cells.specs.Pages.{any-byte, page-any, page-join, page-meet, any-all}
-use Rattle.line.specs.Station.{Station, ofPage, someOn, waiting, forRead, forWrite, writesTo, forCommit, requested, usedAt, usedPage, wrotePage, drops, inUse}
-use Rattle.station_state.specs.Layout.{setRow, waitingValueFrom, numberFrom, cachedFrom, wholeFrom, stationFrom, kindFrom, openFrom, waitFrom, addressFrom, waitingSetFrom, copyFrom, readValueFrom, writtenValueFrom, keptFrom, versionFrom, seenFrom, valueWidth, numberWidth, copyCell, readValueCell, writtenValueCell, waitingValueCell, keptCell, versionCell, seenCell, numberCell, cachedCell, wholeCell, unavailableCell, readSetCell, writtenSetCell, locksCell, namedCell, stationCell, kindCell, openCell, waitCell, addressCell, waitingSetCell, table, copyOf, readValue, writtenValue, waitingValue, keptOf, versionOf, seenOf, number, cached, whole, readSet, writtenSet, unavailableFrom, readSetFrom, writtenSetFrom, locksFrom, namedFrom, station, kind, opened, wait, address, waitingSet, hasBit, member, requestedB}
+use Rattle.line.specs.Station.{Station, ofPage, someOn, waiting, forRead, forWrite, writesTo, forCommit, requested, usedAt, usedPage, wrotePage, drops, inUse, keptWhole}
+use Rattle.station_state.specs.Layout.{setRow, waitingValueFrom, numberFrom, cachedFrom, wholeFrom, stationFrom, kindFrom, openFrom, waitFrom, addressFrom, waitingSetFrom, copyFrom, readValueFrom, writtenValueFrom, keptFrom, versionFrom, seenFrom, valueWidth, numberWidth, copyCell, readValueCell, writtenValueCell, waitingValueCell, keptCell, versionCell, seenCell, numberCell, cachedCell, wholeCell, unavailableCell, readSetCell, writtenSetCell, locksCell, namedCell, stationCell, kindCell, openCell, waitCell, addressCell, waitingSetCell, table, copyOf, readValue, writtenValue, waitingValue, keptOf, versionOf, seenOf, number, cached, whole, readSet, writtenSet, unavailableFrom, readSetFrom, writtenSetFrom, locksFrom, namedFrom, station, kind, opened, wait, address, waitingSet, hasBit, member, requestedB, keptWholeB}
 use Rattle.station_state.specs.Changes.{usedB, waitingValues}
 use Rattle.station_state.specs.Stores.{values-at}
 use Rattle.station_pages.specs.Pages.{usedPageB, wrotePageB, usedPagesB, writtenPagesB, usesB, inUseB, dropsB, droppedB}
@@ -129,8 +129,11 @@ module _ {i : ℕ} {s : List ℕ} {m : Station} (h : Is i s m) where
   pub station-at : station s ≡ i
   station-at = get8 (start h) stationCell 0 0 stationFrom refl refl (omega arith) (omega arith) ∙ h .own
 
+  pub kind-cell : kind s ≡ view table 0 s kindCell 0 0
+  kind-cell = get8 (start h) kindCell 0 0 kindFrom refl refl (omega arith) (omega arith)
+
   pub kind-at : kind s ≡ m .kind
-  kind-at = get8 (start h) kindCell 0 0 kindFrom refl refl (omega arith) (omega arith) ∙ ap (λ (n : Station). n .kind) (h .is)
+  kind-at = kind-cell ∙ ap (λ (n : Station). n .kind) (h .is)
 
   pub number-cell : number s ≡ view table 0 s numberCell 0 0
   number-cell = get32 (start h) numberCell 0 0 numberFrom refl refl (omega arith) (omega arith)
@@ -243,6 +246,10 @@ module _ {i : ℕ} {s : List ℕ} {m : Station} (h : Is i s m) where
   pub whole-at : (p : ℕ) → hasBit (whole s) p ≡ m .wl p
   unfolding hasBit
   whole-at p = test32 (start h) wholeCell 0 0 p wholeFrom refl (omega arith) (omega arith) refl ∙ ap (λ (n : Station). n .wl p) (h .is)
+
+  pub keptWhole-at : (p : ℕ) → keptWholeB s p ≡ keptWhole m p
+  unfolding keptWholeB
+  keptWhole-at p = rw (kind-at, whole-at p)
 
   pub unav-at : (a : ℕ) → a < 256 → member s unavailableFrom a ≡ m .unav a
   unfolding hasBit member
@@ -411,7 +418,7 @@ module _ {i : ℕ} {s : List ℕ} {m : Station} (h : Is i s m) where
       ∙ byB (ltb p 32)
       (λ e.
       let l = ltb-yes p 32 e in
-      rw (e, cached-at p, page-named sets p l (b p), usedPage-at p l, requested-at p))
+      rw (e, cached-at p, page-named sets p l (b p), usedPage-at p l, requested-at p, keptWhole-at p))
       (λ e. rw (e, cached-high p (ltb-no p 32 e)))
 
   pub drops-is : (sets : List ℕ) → AllBytes sets → _≡_ {A = ℕ → Bool} (tb (droppedB sets s)) (drops (named sets) m)

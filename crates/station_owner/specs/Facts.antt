@@ -14,7 +14,7 @@ use borrow.Author.Tests.{eqb-true, eqb-false, leb-true, eq-eqb, ne-eqb, not-true
 use Rattle.sets.specs.Base.{turned}
 use Rattle.sets.specs.Laws.{byB, ltb-yes, ltb-no, or-no, not-no}
 use Rattle.lists.specs.Tests.{and-l, and-r}
-use Rattle.station_state.specs.Layout.{stateLength, number, station, opened, wait}
+use Rattle.station_state.specs.Layout.{stateLength, number, station, opened, wait, lockingB}
 use Rattle.station_state.specs.Valid.{valid, restsOk}
 use Rattle.station_state.specs.Facts.{Ranged, valid-ranged}
 use Rattle.station_state.specs.Changes.{forCommitB, beginB}
@@ -27,7 +27,7 @@ use Rattle.station_answer.specs.declared.Answer.the-variants.{Refused, Begun, W
 use Rattle.station_answer.specs.declared.Said.{Said}
 use Rattle.station_answer.specs.Did.{Did, does, doesAll, said, outcome, delivered, handed, Delivered}
 use Rattle.station_answer.specs.Handed.{hand-all}
-use Rattle.station_answer.specs.Ask.{lockingB, openB}
+use Rattle.station_answer.specs.Ask.{openB}
 use Rattle.station_owner.specs.Owner.{ready, called, unlessB, checkBeginB, openThenB, checkOpenB, checkReadB, badSetB, checkWriteB, checkPurgeB, commitCalled, abortsB, atRest, noBegin, ownBeginB}
 use Rattle.message.specs.Commit.{stationRoom, commitRoom}
 

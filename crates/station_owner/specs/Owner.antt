@@ -11,7 +11,7 @@ use lib.Dec.{eqb, ltb, leb}
 use Rattle.sets.specs.Base.{turned}
 use Rattle.limits.specs.Limit.{limit}
 use Rattle.message.specs.Layout.{upMessage}
-use Rattle.station_state.specs.Layout.{copyOf, readValue, writtenValue, number, cached, whole, unavailable, locks, station, wait, unavailableFrom, readSetFrom, writtenSetFrom, hasBit, member, countIn, writtenWith, requestedB, opened}
+use Rattle.station_state.specs.Layout.{copyOf, readValue, writtenValue, number, cached, whole, unavailable, locks, station, wait, unavailableFrom, readSetFrom, writtenSetFrom, hasBit, member, countIn, writtenWith, requestedB, opened, lockingB, keptWholeB}
 use Rattle.station_state.specs.Valid.{valid}
 use Rattle.station_state.specs.Changes.{beginB, recordReadB, writeAllB, forReadB, forWriteB, forCommitB}
 use Rattle.station_pages.specs.Pages.{usedPageB, dropPagesB}
@@ -20,7 +20,7 @@ use Rattle.station_callbacks.specs.Callbacks.{sends, closeB, undoB}
 use Rattle.station_answer.specs.declared.Answer.{Answer}
 use Rattle.station_answer.specs.declared.Answer.the-variants.{Begun, Value, Waits, Written, Aborted, Purged}
 use Rattle.station_answer.specs.Did.{Did, does, doesAll, refuses, said, Outcome, outcome, laid}
-use Rattle.station_answer.specs.Ask.{lockingB, openB}
+use Rattle.station_answer.specs.Ask.{openB}
 use Rattle.message.specs.Commit.{stationRoom, commitRoom}
 
 -- number 1: "output is under .. 8 messages"; a commit is "at most 1,408, the station's buffer too"
@@ -76,7 +76,7 @@ checkWriteB p x s = turned (badSetB p x s) 4 (openThenB s (turned (longWriteB p 
 -- 4 Range, 7 Waiting ("a purge counts only for the requested page"), 10 Kept
 unfoldable pub checkPurgeB : ℕ → List ℕ → ℕ
 checkPurgeB p s =
-    turned (not (ltb p 32)) 4 (turned (requestedB s p) 7 (turned (usedPageB s p || not (hasBit (cached s) p)) 10 0))
+    turned (not (ltb p 32)) 4 (turned (requestedB s p) 7 (turned (usedPageB s p || not (hasBit (cached s) p) || keptWholeB s p) 10 0))
 
 unfoldable pub ownBeginB : List ℕ → Did
 ownBeginB s = unlessB (checkBeginB s) (does (Begun (number s + 1)) (beginB s) []) s

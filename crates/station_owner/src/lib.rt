@@ -105,7 +105,7 @@ fn bad_set(p: u32, x: u32, s: &[u8]) -> bool
     requires { ⌜ length (now s) ≡ stateLength ⌝ }
     ensures { λ r. ⌜ r ≡ badSetB p x (now (s .entry)) ⌝ }
 {
-    (p > 31) | (x == 0) | (x > 255) | ((s[KIND] != 0) & (u32::count_ones(x) > 1))
+    (p > 31) | (x == 0) | (x > 255) | (!kinds::locking(s[KIND]) & (u32::count_ones(x) > 1))
 }
 
 fn check_write(p: u32, x: u32, s: &[u8]) -> u32
@@ -137,6 +137,7 @@ fn check_purge(p: u32, s: &[u8]) -> u32
     }
     if station_pages::used_page(s, p as usize)
         | !station_state::has_bit32(station_state::cached(s), p as usize)
+        | station_state::kept_whole(s, p as usize)
     {
         return 10;
     }
@@ -238,7 +239,7 @@ fn at_hand(p: usize, s: &[u8]) -> u8
     requires { ⌜ (length (now s) ≡ stateLength) × (p < 32) ⌝ }
     ensures { λ r. ⌜ r ≡ atHandB p (now (s .entry)) ⌝ }
 {
-    if s[KIND] == 0 {
+    if kinds::locking(s[KIND]) {
         if station_state::has_bit32(station_state::whole(s), p) {
             return 255;
         }
@@ -271,7 +272,7 @@ fn ask(p: usize, x: u8, s: &[u8], o: &mut [u8])
     requires { ⌜ (length (now s) ≡ stateLength) × (stationRoom ≤ length (now o)) × (p < 32) × (x ≢ 0) ⌝ }
     ensures { λ _. ⌜ now (o .exit) ≡ sets (now (o .entry)) 0 (askB p x (now (s .entry))) ⌝ }
 {
-    if s[KIND] == 0 {
+    if kinds::locking(s[KIND]) {
         message::put_up(
             o,
             0,
@@ -374,7 +375,7 @@ fn tell_abort(s: &[u8], o: &mut [u8]) -> usize
     requires { ⌜ (length (now s) ≡ stateLength) × (stationRoom ≤ length (now o)) ⌝ }
     ensures { λ k. ⌜ posted (now (s .entry)) (now (o .exit)) k ≡ post (now (o .entry)) (sends (now (s .entry)) (abortsB (now (s .entry)))) ⌝ }
 {
-    if s[KIND] == 0 {
+    if kinds::locking(s[KIND]) {
         message::put_up(o, 0, 4, s[STATION], 0, 0, station_state::number(s), 0, 0);
         return 1;
     }

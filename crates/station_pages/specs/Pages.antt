@@ -7,7 +7,7 @@ use lib.Bits.{bitAnd, bitOr}
 use lib.Dec.{eqb}
 use Rattle.le.specs.Le.{u32At, u64At, setU32, setU64}
 use Rattle.cells.specs.Loops.{anyTo, maskTo}
-use Rattle.station_state.specs.Layout.{cachedFrom, unavailableFrom, copyFrom, versionFrom, valueWidth, numberWidth, cached, unavailable, readSet, writtenSet, writtenValue, hasBit, requestedB}
+use Rattle.station_state.specs.Layout.{cachedFrom, unavailableFrom, copyFrom, versionFrom, valueWidth, numberWidth, cached, unavailable, readSet, writtenSet, writtenValue, hasBit, requestedB, keptWholeB}
 use Rattle.station_state.specs.Changes.{pageOn}
 use Rattle.message.specs.Layout.{setsFrom, valuesFrom, pageVersionOf}
 use Rattle.layout.specs.Record.{valueLength}
@@ -35,7 +35,7 @@ inUseB sets s = anyTo (usesB sets s) 32
 
 -- "drop each cached page named on which the transaction has read or written nothing and for which no request is out"
 unfoldable pub dropsB : List ℕ → List ℕ → ℕ → Bool
-dropsB sets s p = hasBit (cached s) p && not (eqb (getD sets p 0) 0) && not (usedPageB s p) && not (requestedB s p)
+dropsB sets s p = hasBit (cached s) p && not (eqb (getD sets p 0) 0) && not (usedPageB s p) && not (requestedB s p) && not (keptWholeB s p)
 
 unfoldable pub droppedB : List ℕ → List ℕ → ℕ
 droppedB sets s = maskTo (dropsB sets s) 32

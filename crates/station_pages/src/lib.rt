@@ -98,6 +98,7 @@ fn drops(sets: &[u8], s: &[u8], p: usize) -> bool
         & (sets[p] != 0)
         & !used_page(s, p)
         & !station_state::requested(s, p)
+        & !station_state::kept_whole(s, p)
 }
 
 // The pages that a callback of these sets drops.

@@ -5,7 +5,7 @@ use mathlib.Core.Bool.{Bool, _||_, cond}
 use lib.ListN.{getD, set, replicate}
 use lib.Bits.{bitAnd, bitOr}
 use Rattle.le.specs.Le.{u32At, setU32, setU64}
-use Rattle.station_state.specs.Layout.{setRow, waitingValueFrom, numberFrom, wholeFrom, openFrom, waitFrom, addressFrom, waitingSetFrom, copyFrom, readValueFrom, writtenValueFrom, keptFrom, valueWidth, numberWidth, seenFrom, copyOf, waitingValue, versionOf, member, hasBit, number, locks, writtenSet, waitingSet, readSetFrom, writtenSetFrom, locksFrom, namedFrom}
+use Rattle.station_state.specs.Layout.{setRow, waitingValueFrom, numberFrom, wholeFrom, openFrom, waitFrom, addressFrom, waitingSetFrom, copyFrom, readValueFrom, writtenValueFrom, keptFrom, valueWidth, numberWidth, seenFrom, copyOf, waitingValue, versionOf, member, hasBit, number, locks, writtenSet, waitingSet, keepsB, readSetFrom, writtenSetFrom, locksFrom, namedFrom}
 
 -- address a joins the object sets from `at`
 unfoldable pub addTo : List ℕ → ℕ → ℕ → List ℕ
@@ -94,8 +94,8 @@ unfoldable pub lockWaitingB : ℕ → List ℕ → List ℕ
 lockWaitingB p s = set s (locksFrom + p) (bitOr (locks s p) (waitingSet s))
 
 -- "the whole lock becomes locks on those objects"
-unfoldable pub loosenB : ℕ → List ℕ → List ℕ
-loosenB p s = pageOff (set s (locksFrom + p) (bitOr (locks s p) (writtenSet s p))) wholeFrom p
+unfoldable pub loosenB : ℕ → ℕ → List ℕ → List ℕ
+loosenB p x s = pageOff (set s (locksFrom + p) (bitOr (locks s p) x)) wholeFrom p
 
 -- "keep the callback, a newer one from that requester replacing it"
 unfoldable pub keepB : ℕ → ℕ → List ℕ → List ℕ → List ℕ
@@ -104,7 +104,11 @@ keepB r t sets s = setU32 (copyTo s (namedFrom r) sets setRow) (keptFrom + r * n
 unfoldable pub unkeepB : ℕ → List ℕ → List ℕ
 unkeepB r s = setU32 s (keptFrom + r * numberWidth) 0
 
+-- the whole locks go that end with their transaction
+unfoldable pub unwholeB : List ℕ → List ℕ
+unwholeB s = cond (keepsB s) s (setU32 s wholeFrom 0)
+
 -- the transaction's end: no lock, no read, no write, nothing out, nothing open
 unfoldable pub closedB : List ℕ → List ℕ
 closedB s =
-    set (idleB (clearTo (clearTo (clearTo (setU32 s wholeFrom 0) locksFrom setRow) writtenSetFrom setRow) readSetFrom setRow)) openFrom 0
+    set (idleB (clearTo (clearTo (clearTo (unwholeB s) locksFrom setRow) writtenSetFrom setRow) readSetFrom setRow)) openFrom 0

@@ -10,9 +10,10 @@ use lib.Dec.{eqb, ltb, leb}
 use borrow.Author.Tests.{eqb-true, eqb-false, ltb-true, leb-true, le-leb, eq-eqb, ne-eqb, not-true, not-false}
 use native.Mathlib.Omega.{arith}
 use Rattle.limits.specs.Limit.{limit}
+use Rattle.kinds.specs.Kinds.{mostKind}
 use Rattle.sets.specs.Laws.{byB}
 use Rattle.lists.specs.Tests.{and-l, and-r, and-both}
-use Rattle.station_state.specs.Layout.{keptFrom, readSetFrom, writtenSetFrom, locksFrom, stateLength, keptOf, number, whole, station, kind, opened, wait, address, waitingSet, member, countIn, writtenWith, noneIn, stationFrom}
+use Rattle.station_state.specs.Layout.{keptFrom, readSetFrom, writtenSetFrom, locksFrom, stateLength, keptOf, number, whole, station, kind, opened, wait, address, waitingSet, lockingB, passingWhole, member, countIn, writtenWith, noneIn, stationFrom}
 use Rattle.station_state.specs.Sets.{none-numbers, joined}
 use Rattle.station_state.specs.Valid.{fieldsOk, ownKept, closedOk, firstOk, setOk, outOk, fewIn, fewWritten, limitedOk, worksOk, locklessOk, holdsOk, valid, restsOk}
 use Rattle.le.specs.Le.{u32At, u64At}
@@ -25,7 +26,7 @@ pub record Closed (s : List ℕ) : Type 0 where
 
 -- no lock, and no callback kept
 pub record Lockless (s : List ℕ) : Type 0 where
-  pub no-page : whole s ≡ 0
+  pub no-page : passingWhole s ≡ 0
   pub no-object : noneIn s locksFrom ≡ true
   pub nothing-kept : noneIn s keptFrom ≡ true
 
@@ -42,7 +43,7 @@ pub record FewWritten (s : List ℕ) : Type 0 where
 pub record Ranged (s : List ℕ) : Type 0 where
   pub size : length s ≡ stateLength
   pub station-fits : station s ≤ 7
-  pub kind-fits : kind s ≤ 1
+  pub kind-fits : kind s ≤ mostKind
   pub open-fits : opened s ≤ 1
   pub wait-fits : wait s ≤ 3
   pub numbered : opened s ≢ 0 → number s ≢ 0
@@ -52,7 +53,7 @@ pub record Ranged (s : List ℕ) : Type 0 where
   pub asks : opened s ≢ 0 → wait s ≡ 2 → (address s % 8 ≡ 0) × (waitingSet s ≢ 0)
   pub reads-few : opened s ≢ 0 → Few s readSetFrom (eqb (wait s) 1)
   pub writes-few : opened s ≢ 0 → FewWritten s
-  pub lockless : (eqb (kind s) 0 && not (eqb (opened s) 0)) ≡ false → Lockless s
+  pub lockless : (lockingB s && not (eqb (opened s) 0)) ≡ false → Lockless s
 
 all-3 : (a b c : Bool) → a && b && c ≡ true → (a ≡ true) × (b ≡ true) × (c ≡ true)
 all-3 a b c h = let u = and-l (a && b) c h in (and-l a b u, and-r a b u, and-r (a && b) c h)
@@ -79,7 +80,7 @@ closed-of s h =
 lockless-of : (s : List ℕ) → locklessOk s ≡ true → Lockless s
 unfolding locklessOk
 lockless-of s h =
-    let u = all-3 (eqb (whole s) 0) (noneIn s locksFrom) (noneIn s keptFrom) h in
+    let u = all-3 (eqb (passingWhole s) 0) (noneIn s locksFrom) (noneIn s keptFrom) h in
     record { no-page = eqb-true _ _ (u .0); no-object = u .1; nothing-kept = u .2 }
 
 few-of : (s : List ℕ) (at : ℕ) (out : Bool) → fewIn s at out ≡ true → Few s at out
@@ -125,14 +126,14 @@ valid-ranged s h =
     let sized = eqb (length s) stateLength in
     let front = sized && leb (station s) 7 in
     let counted = eqb (opened s) 0 || not (eqb (number s) 0) in
-    let fields = leb (kind s) 1 && leb (opened s) 1 && leb (wait s) 3 && counted in
+    let fields = leb (kind s) mostKind && leb (opened s) 1 && leb (wait s) 3 && counted in
     let others = not (not (eqb (keptOf s (station s)) 0)) in
     let works = worksOk s in
     let holds = holdsOk s in
-    let own-in = eqb (kind s) 0 && not (eqb (opened s) 0) in
+    let own-in = lockingB s && not (eqb (opened s) 0) in
     let hf : front ≡ true = and-l front (fields && others && works && holds) h in
     let u = all-4 fields others works holds (and-r front (fields && others && works && holds) h) in
-    let f = all-4 (leb (kind s) 1) (leb (opened s) 1) (leb (wait s) 3) counted (u .0) in
+    let f = all-4 (leb (kind s) mostKind) (leb (opened s) 1) (leb (wait s) 3) counted (u .0) in
     let later = outOk s && limitedOk s in
     let works-are : opened s ≢ 0 → later ≡ true = λ n. passed (eqb (opened s) 0) (closedOk s) later (ne-eqb _ _ n) (u .2) in
     let out : opened s ≢ 0 → outOk s ≡ true = λ n. and-l (outOk s) (limitedOk s) (works-are n) in
@@ -175,25 +176,25 @@ closed-works s e = rw (eq-eqb (opened s) 0 e)
 
 closed-holds : (s : List ℕ) → opened s ≡ 0 → holdsOk s ≡ locklessOk s
 unfolding holdsOk
-closed-holds s e = rw (eq-eqb (opened s) 0 e, neither (eqb (kind s) 0))
+closed-holds s e = rw (eq-eqb (opened s) 0 e, neither (lockingB s))
 
 -- nothing is out, so that the wait is in range, and nothing kept, its own neither
-closed-rest : (s : List ℕ) → station s ≤ 7 → opened s ≡ 0 → leb (kind s) 1 && closedOk s && locklessOk s ≡ fieldsOk s && not (ownKept s) && worksOk s && holdsOk s
+closed-rest : (s : List ℕ) → station s ≤ 7 → opened s ≡ 0 → leb (kind s) mostKind && closedOk s && locklessOk s ≡ fieldsOk s && not (ownKept s) && worksOk s && holdsOk s
 unfolding fieldsOk ownKept
 closed-rest s l e =
     let counted = eqb (opened s) 0 || not (eqb (number s) 0) in
-    let fields = leb (kind s) 1 && leb (opened s) 1 && leb (wait s) 3 && counted in
+    let fields = leb (kind s) mostKind && leb (opened s) 1 && leb (wait s) 3 && counted in
     let others = not (not (eqb (keptOf s (station s)) 0)) in
     rw (closed-works s e, closed-holds s e)
-    (same (leb (kind s) 1 && closedOk s && locklessOk s) (fields && others && closedOk s && locklessOk s)
+    (same (leb (kind s) mostKind && closedOk s && locklessOk s) (fields && others && closedOk s && locklessOk s)
     (λ h.
-    let u = all-3 (leb (kind s) 1) (closedOk s) (locklessOk s) h in
+    let u = all-3 (leb (kind s) mostKind) (closedOk s) (locklessOk s) h in
     let out : wait s ≡ 0 = closed-of s (u .1) .nothing-out in
     let kept : keptOf s (station s) ≡ 0 = none-numbers s keptFrom (lockless-of s (u .2) .nothing-kept) (station s) (omega (arith, l)) in
     rw (u .0, u .1, u .2, e, out, kept) refl)
     (λ h.
     let v = all-4 fields others (closedOk s) (locklessOk s) h in
-    and-both (and-both (all-4 (leb (kind s) 1) (leb (opened s) 1) (leb (wait s) 3) counted (v .0) .0) (v .2)) (v .3)))
+    and-both (and-both (all-4 (leb (kind s) mostKind) (leb (opened s) 1) (leb (wait s) 3) counted (v .0) .0) (v .2)) (v .3)))
 
 -- behind a test that both make
 behind : (b : Bool) {x y : Bool} → (b ≡ true → x ≡ y) → b && x ≡ b && y
@@ -201,7 +202,7 @@ behind true f = f refl
 behind false f = refl
 
 -- no transaction is open
-valid-closed : (s : List ℕ) → length s ≡ stateLength → opened s ≡ 0 → leb (station s) 7 && (leb (kind s) 1 && closedOk s && locklessOk s) ≡ valid s
+valid-closed : (s : List ℕ) → length s ≡ stateLength → opened s ≡ 0 → leb (station s) 7 && (leb (kind s) mostKind && closedOk s && locklessOk s) ≡ valid s
 unfolding valid
 valid-closed s z e = rw (eq-eqb (length s) stateLength z) (behind (leb (station s) 7) (λ t. closed-rest s (leb-true _ _ t) e))
 
@@ -256,7 +257,7 @@ unfolding restsOk
 rests-short s h = not-so (eqb (opened s) 0 && valid s) (λ q. absurd (h (valid-ranged s (and-r (eqb (opened s) 0) (valid s) q) .size)))
 
 -- station, kind, open and wait as one number
-pub rests-not : (s : List ℕ) → 512 ≤ u32At s stationFrom → false ≡ restsOk s
+pub rests-not : (s : List ℕ) → 768 ≤ u32At s stationFrom → false ≡ restsOk s
 unfolding restsOk u32At
 rests-not s h =
     not-so (eqb (opened s) 0 && valid s)
@@ -265,17 +266,17 @@ rests-not s h =
     let v = valid-ranged s (and-r (eqb (opened s) 0) (valid s) q) in
     absurd (omega (arith, h, e, v .station-fits, v .kind-fits, v .closed e .nothing-out)))
 
-pub rests-joined : (s : List ℕ) {r x h l q : ℕ} → length s ≡ stateLength → u32At s stationFrom < 512 → r ≡ joined s readSetFrom → x ≡ joined s writtenSetFrom → h ≡ whole s → l ≡ joined s locksFrom → q ≡ joined s keptFrom → leb (station s) 7 && eqb (bitOr (bitOr (bitOr (bitOr r x) h) l) q) 0 ≡ restsOk s
+pub rests-joined : (s : List ℕ) {r x h l q : ℕ} → length s ≡ stateLength → u32At s stationFrom < 768 → r ≡ joined s readSetFrom → x ≡ joined s writtenSetFrom → h ≡ passingWhole s → l ≡ joined s locksFrom → q ≡ joined s keptFrom → leb (station s) 7 && eqb (bitOr (bitOr (bitOr (bitOr r x) h) l) q) 0 ≡ restsOk s
 unfolding u32At closedOk locklessOk
 rests-joined s z small er ex eh el eq =
     let open-0 : opened s ≡ 0 = omega (arith, small) in
     let wait-0 : wait s ≡ 0 = omega (arith, small) in
-    let kind-1 : kind s ≤ 1 = omega (arith, small) in
+    let kind-in : kind s ≤ mostKind = omega (arith, small) in
     let read = joined s readSetFrom in
     let written = joined s writtenSetFrom in
     let locked = joined s locksFrom in
     let kept = joined s keptFrom in
-    let test : leb (station s) 7 && eqb (bitOr (bitOr (bitOr (bitOr read written) (whole s)) locked) kept) 0 ≡ leb (station s) 7 && (leb (kind s) 1 && closedOk s && locklessOk s) =
-    rw (five read written (whole s) locked kept, none-joined s readSetFrom, none-joined s writtenSetFrom, none-joined s locksFrom, none-joined s keptFrom, le-leb (kind s) 1 kind-1, eq-eqb (wait s) 0 wait-0)
-    (in-order (leb (station s) 7) (noneIn s readSetFrom) (noneIn s writtenSetFrom) (eqb (whole s) 0) (noneIn s locksFrom) (noneIn s keptFrom)) in
+    let test : leb (station s) 7 && eqb (bitOr (bitOr (bitOr (bitOr read written) (passingWhole s)) locked) kept) 0 ≡ leb (station s) 7 && (leb (kind s) mostKind && closedOk s && locklessOk s) =
+    rw (five read written (passingWhole s) locked kept, none-joined s readSetFrom, none-joined s writtenSetFrom, none-joined s locksFrom, none-joined s keptFrom, le-leb (kind s) mostKind kind-in, eq-eqb (wait s) 0 wait-0)
+    (in-order (leb (station s) 7) (noneIn s readSetFrom) (noneIn s writtenSetFrom) (eqb (passingWhole s) 0) (noneIn s locksFrom) (noneIn s keptFrom)) in
     rw (er, ex, eh, el, eq) (test ∙ valid-closed s z open-0 ∙ sym (valid-rests s open-0))

@@ -1,7 +1,7 @@
 -- Where each field of a station's state stands: docs/STATE.md, "A station's state". Said here alone; the code has the same in src/lib.rt.
 use Prim.Native.Nat.{ℕ, _+_, _-_, _*_, _/_, _%_, _^_}
 use mathlib.Core.List.{List, [], _∷_}
-use mathlib.Core.Bool.{Bool, not, _&&_, _||_}
+use mathlib.Core.Bool.{Bool, not, _&&_, _||_, cond}
 use lib.ListN.{getD}
 use lib.Bits.{bitAnd}
 use lib.Count.{ones}
@@ -9,6 +9,7 @@ use lib.Dec.{eqb}
 use Rattle.sets.specs.Size.{size}
 use Rattle.le.specs.Le.{u32At, u64At}
 use Rattle.cells.specs.Cells.{Region, region}
+use Rattle.kinds.specs.Kinds.{locking, keeps}
 
 -- WIDTHS: of a value, of a transaction's number or a version, of a page set
 abbrev pub valueWidth : ℕ
@@ -251,9 +252,24 @@ address s = getD s addressFrom 0
 abbrev pub waitingSet : List ℕ → ℕ
 waitingSet s = getD s waitingSetFrom 0
 
+-- whose rules the station has
+abbrev pub lockingB : List ℕ → Bool
+lockingB s = locking (kind s)
+
+abbrev pub keepsB : List ℕ → Bool
+keepsB s = keeps (kind s)
+
+-- the whole locks that go with their transaction: a keeping station has none such
+unfoldable pub passingWhole : List ℕ → ℕ
+passingWhole s = cond (keepsB s) 0 (whole s)
+
 -- bit k of a set
 unfoldable pub hasBit : ℕ → ℕ → Bool
 hasBit x k = not (eqb (bitAnd x (2 ^ k)) 0)
+
+-- page p is under a whole lock that outlives its transaction
+unfoldable pub keptWholeB : List ℕ → ℕ → Bool
+keptWholeB s p = keepsB s && hasBit (whole s) p
 
 -- address a in the object sets from `at`
 unfoldable pub member : List ℕ → ℕ → ℕ → Bool

@@ -9,7 +9,7 @@ use Rattle.sets.specs.Laws.{byEq, eqb-yes, eqb-no}
 use Rattle.le.specs.Le.{setU32, setU64}
 use Rattle.station_state.specs.Layout.{setRow, valueWidth, numberWidth, copyFrom, readValueFrom, writtenValueFrom, seenFrom, copyOf, versionOf, wholeFrom, stationFrom, kindFrom, openFrom, stateLength, readSetFrom, writtenSetFrom, locksFrom}
 use Rattle.station_state.specs.Valid.{freshState}
-use Rattle.station_state.specs.Changes.{addTo, clearTo, recordReadB, firstUseB, writeLocalB, valuesTo, idleB, closedB}
+use Rattle.station_state.specs.Changes.{addTo, clearTo, recordReadB, firstUseB, writeLocalB, valuesTo, idleB, unwholeB, closedB}
 
 -- two stores over zeros
 pub fresh-stores : (st k : ℕ) (s : List ℕ) {z t u : List ℕ} → length s ≡ stateLength → z ≡ replicate (length s) 0 → t ≡ set z stationFrom st → u ≡ set t kindFrom k → u ≡ freshState st k
@@ -17,7 +17,7 @@ unfolding freshState
 fresh-stores st k s h ez et eu =
     eu ∙ ap (λ (l : List ℕ). set l kindFrom k) (et ∙ ap (λ (l : List ℕ). set l stationFrom st) (ez ∙ ap (λ (n : ℕ). replicate n 0) h))
 
-pub closed-stores : (s : List ℕ) {s₁ s₂ s₃ s₄ s₅ s₆ : List ℕ} → s₁ ≡ setU32 s wholeFrom 0 → s₂ ≡ clearTo s₁ locksFrom setRow → s₃ ≡ clearTo s₂ writtenSetFrom setRow → s₄ ≡ clearTo s₃ readSetFrom setRow → s₅ ≡ idleB s₄ → s₆ ≡ set s₅ openFrom 0 → s₆ ≡ closedB s
+pub closed-stores : (s : List ℕ) {s₁ s₂ s₃ s₄ s₅ s₆ : List ℕ} → s₁ ≡ unwholeB s → s₂ ≡ clearTo s₁ locksFrom setRow → s₃ ≡ clearTo s₂ writtenSetFrom setRow → s₄ ≡ clearTo s₃ readSetFrom setRow → s₅ ≡ idleB s₄ → s₆ ≡ set s₅ openFrom 0 → s₆ ≡ closedB s
 unfolding closedB
 closed-stores s e₁ e₂ e₃ e₄ e₅ e₆ = rw (e₆, e₅, e₄, e₃, e₂, e₁)
 

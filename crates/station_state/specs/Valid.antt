@@ -6,11 +6,12 @@ use mathlib.Core.Bool.{Bool, true, not, _&&_, _||_, cond}
 use lib.ListN.{length, set, replicate}
 use lib.Dec.{eqb, ltb, leb}
 use Rattle.limits.specs.Limit.{limit}
-use Rattle.station_state.specs.Layout.{keptFrom, readSetFrom, writtenSetFrom, locksFrom, stationFrom, kindFrom, stateLength, keptOf, number, whole, station, kind, opened, wait, address, waitingSet, member, countIn, writtenWith, noneIn}
+use Rattle.kinds.specs.Kinds.{mostKind}
+use Rattle.station_state.specs.Layout.{keptFrom, readSetFrom, writtenSetFrom, locksFrom, stationFrom, kindFrom, stateLength, keptOf, number, station, kind, opened, wait, address, waitingSet, lockingB, passingWhole, member, countIn, writtenWith, noneIn}
 
 -- "a field out of range": transactions are numbered from 1
 unfoldable pub fieldsOk : List ℕ → Bool
-fieldsOk s = leb (kind s) 1 && leb (opened s) 1 && leb (wait s) 3 && (eqb (opened s) 0 || not (eqb (number s) 0))
+fieldsOk s = leb (kind s) mostKind && leb (opened s) 1 && leb (wait s) 3 && (eqb (opened s) 0 || not (eqb (number s) 0))
 
 -- "a kept callback from the station itself"
 unfoldable pub ownKept : List ℕ → Bool
@@ -46,13 +47,13 @@ limitedOk s = fewIn s readSetFrom (eqb (wait s) 1) && fewWritten s
 unfoldable pub worksOk : List ℕ → Bool
 worksOk s = cond (eqb (opened s) 0) (closedOk s) (outOk s && limitedOk s)
 
--- no lock, and no callback kept (eight transactions of four bytes)
+-- no lock but those that outlive their transaction, and no callback kept (eight transactions of four bytes)
 unfoldable pub locklessOk : List ℕ → Bool
-locklessOk s = eqb (whole s) 0 && noneIn s locksFrom && noneIn s keptFrom
+locklessOk s = eqb (passingWhole s) 0 && noneIn s locksFrom && noneIn s keptFrom
 
 -- but for the open transaction of a locking station
 unfoldable pub holdsOk : List ℕ → Bool
-holdsOk s = cond (eqb (kind s) 0 && not (eqb (opened s) 0)) true (locklessOk s)
+holdsOk s = cond (lockingB s && not (eqb (opened s) 0)) true (locklessOk s)
 
 -- "a lent state has a wrong length, a field out of range, a kept callback from the station itself"
 unfoldable pub valid : List ℕ → Bool
@@ -78,5 +79,5 @@ freshState st k = set (set (replicate stateLength 0) stationFrom st) kindFrom k
 unfoldable pub freshOf : ℕ → ℕ → List ℕ → Freshened
 freshOf st k s =
     cond (eqb (length s) stateLength)
-    (cond (leb st 7 && leb k 1) (freshened (freshState st k) 0) (freshened s 4))
+    (cond (leb st 7 && leb k mostKind) (freshened (freshState st k) 0) (freshened s 4))
     (freshened s 1)

@@ -4,9 +4,9 @@ ghost use mathlib.Core.Path.{_≡_};
 ghost use mathlib.Core.Logic.{_≢_};
 ghost use Prim.Native.Nat.{_+_, _^_, _≤_, _<_};
 ghost use lib.ListN.{length, replicate};
-ghost use Rattle.station_state.specs.Layout.{pageSetWidth, setRow, stateLength, station as Layout·station, opened, hasBit, member as Layout·member, countIn, writtenWith, noneIn, requestedB, number as Layout·number, cached as Layout·cached, whole as Layout·whole};
+ghost use Rattle.station_state.specs.Layout.{pageSetWidth, setRow, stateLength, station as Layout·station, opened, hasBit, member as Layout·member, passingWhole, keptWholeB, countIn, writtenWith, noneIn, requestedB, number as Layout·number, cached as Layout·cached, whole as Layout·whole};
 ghost use Rattle.station_state.specs.Valid.{fieldsOk, ownKept, firstOk, setOk, outOk, fewIn, fewWritten, limitedOk, worksOk, locklessOk, holdsOk, valid as Valid·valid, freshened, freshOf, restsOk};
-ghost use Rattle.station_state.specs.Changes.{addTo, pageOn, pageOff, clearTo, copyTo, beginB, recordReadB, usedB, firstUseB, writeLocalB, writeObjectB, writeAllB, idleB, forReadB, waitObjectB, waitAllB, forWriteB, waitingValues, forCommitB, lockWaitingB, loosenB, keepB, unkeepB, closedB};
+ghost use Rattle.station_state.specs.Changes.{addTo, pageOn, pageOff, clearTo, copyTo, beginB, recordReadB, usedB, firstUseB, writeLocalB, writeObjectB, writeAllB, idleB, forReadB, waitObjectB, waitAllB, forWriteB, waitingValues, forCommitB, lockWaitingB, loosenB, keepB, unkeepB, unwholeB, closedB};
 ghost use Rattle.station_state.specs.Sets.{joined as Sets·joined};
 
 // Widths: of a value, of a transaction's number or a version, of a page set. An object set has one byte.
@@ -67,8 +67,10 @@ pub const WAITING_SET: usize = ADDRESS + 1;
 
 pub const LENGTH: usize = WAITING_SET + 1;
 
+const MOST_KIND: u32 = kinds::MOST as u32;
+
 // The four bytes from the station on, as a number, are below this where the kind is in range, nothing open and nothing out.
-const RESTING: u32 = 512;
+const RESTING: u32 = (MOST_KIND + 1) * 256;
 
 // The transaction's number.
 pub fn number(s: &[u8]) -> u32
@@ -166,6 +168,14 @@ pub fn written_with(s: &[u8], p: usize, x: u8) -> u32
     count_in(s, WRITTEN_SET) + u8::count_ones(x & !y)
 }
 
+// Whether page p is under a whole lock that outlives its transaction.
+pub fn kept_whole(s: &[u8], p: usize) -> bool
+    requires { ⌜ (length (now s) ≡ stateLength) × (p < 32) ⌝ }
+    ensures { λ r. ⌜ r ≡ keptWholeB (now (s .entry)) p ⌝ }
+{
+    kinds::keeps(s[KIND]) & has_bit32(whole(s), p)
+}
+
 // Whether a read or a write of an object of page p is out.
 pub fn requested(s: &[u8], p: usize) -> bool
     requires { ⌜ length (now s) ≡ stateLength ⌝ }
@@ -179,7 +189,7 @@ pub fn fields_ok(s: &[u8]) -> bool
     requires { ⌜ length (now s) ≡ stateLength ⌝ }
     ensures { λ r. ⌜ r ≡ fieldsOk (now (s .entry)) ⌝ }
 {
-    (s[KIND] <= 1) & (s[OPEN] <= 1) & (s[WAIT] <= 3) & ((s[OPEN] == 0) | (number(s) != 0))
+    (s[KIND] <= kinds::MOST) & (s[OPEN] <= 1) & (s[WAIT] <= 3) & ((s[OPEN] == 0) | (number(s) != 0))
 }
 
 // Whether a callback from the station itself is kept.
@@ -262,12 +272,23 @@ fn works_ok(s: &[u8]) -> bool
     out_ok(s) & limited_ok(s)
 }
 
-// Whether there is no lock, and no callback kept.
+// The whole locks that go with their transaction.
+fn passing_whole(s: &[u8]) -> u32
+    requires { ⌜ length (now s) ≡ stateLength ⌝ }
+    ensures { λ r. ⌜ r ≡ passingWhole (now (s .entry)) ⌝ }
+{
+    if kinds::keeps(s[KIND]) {
+        return 0;
+    }
+    whole(s)
+}
+
+// Whether there is no such lock and none on an object, and no callback kept.
 fn lockless_ok(s: &[u8]) -> bool
     requires { ⌜ length (now s) ≡ stateLength ⌝ }
     ensures { λ r. ⌜ r ≡ locklessOk (now (s .entry)) ⌝ }
 {
-    (whole(s) == 0) & none_in(s, LOCKS) & none_in(s, KEPT)
+    (passing_whole(s) == 0) & none_in(s, LOCKS) & none_in(s, KEPT)
 }
 
 // Of an open transaction.
@@ -275,7 +296,7 @@ fn holds_ok(s: &[u8]) -> bool
     requires { ⌜ (length (now s) ≡ stateLength) × (opened (now s) ≢ 0) ⌝ }
     ensures { λ r. ⌜ r ≡ holdsOk (now (s .entry)) ⌝ }
 {
-    if s[KIND] == 0 {
+    if kinds::locking(s[KIND]) {
         return true;
     }
     lockless_ok(s)
@@ -294,7 +315,7 @@ pub fn rests(s: &[u8]) -> bool
     }
     let sets = joined(s, READ_SET)
         | joined(s, WRITTEN_SET)
-        | le::long(whole(s))
+        | le::long(passing_whole(s))
         | joined(s, LOCKS)
         | joined(s, KEPT);
     (s[STATION] <= 7) & (sets == 0)
@@ -340,7 +361,7 @@ pub fn fresh(station: u32, kind: u32, s: &mut [u8]) -> u32
     if station > 7 {
         return 4;
     }
-    if kind > 1 {
+    if kind > MOST_KIND {
         return 4;
     }
     zero(s);
@@ -558,13 +579,13 @@ pub fn lock_waiting(s: &mut [u8], p: usize)
     le::put_u8(s, LOCKS + p, x);
 }
 
-// The whole lock on page p becomes locks on the objects written there.
-pub fn loosen(s: &mut [u8], p: usize)
+// The whole lock on page p becomes locks on the objects of x.
+pub fn loosen(s: &mut [u8], p: usize, x: u8)
     requires { ⌜ (length (now s) ≡ stateLength) × (p < 32) ⌝ }
-    ensures { λ _. ⌜ now (s .exit) ≡ loosenB p (now (s .entry)) ⌝ }
+    ensures { λ _. ⌜ now (s .exit) ≡ loosenB p x (now (s .entry)) ⌝ }
 {
-    let x = s[LOCKS + p] | s[WRITTEN_SET + p];
-    le::put_u8(s, LOCKS + p, x);
+    let y = s[LOCKS + p] | x;
+    le::put_u8(s, LOCKS + p, y);
     page_off(s, WHOLE, p);
 }
 
@@ -585,12 +606,23 @@ pub fn unkeep(s: &mut [u8], r: usize)
     le::put_u32(s, KEPT + r * NUMBER_WIDTH, 0);
 }
 
+// The whole locks go that end with their transaction.
+fn unwhole(s: &mut [u8])
+    requires { ⌜ length (now s) ≡ stateLength ⌝ }
+    ensures { λ _. ⌜ now (s .exit) ≡ unwholeB (now (s .entry)) ⌝ }
+{
+    if kinds::keeps(s[KIND]) {
+        return;
+    }
+    le::put_u32(s, WHOLE, 0);
+}
+
 // The transaction is over: no lock, no read, no write, nothing out, nothing open.
 pub fn closed(s: &mut [u8])
     requires { ⌜ length (now s) ≡ stateLength ⌝ }
     ensures { λ _. ⌜ now (s .exit) ≡ closedB (now (s .entry)) ⌝ }
 {
-    le::put_u32(s, WHOLE, 0);
+    unwhole(s);
     clear(s, LOCKS);
     clear(s, WRITTEN_SET);
     clear(s, READ_SET);

@@ -1,20 +1,20 @@
 -- A message's own effect over bytes means document 01's, kind by kind; and so does the test whether it is expected.
 use Prim.Native.Nat.{ℕ, suc, _+_, _/_, _%_, _^_, _≤_, _<_}
 use mathlib.Core.Path.{_≡_, refl, sym, ap, subst, _∙_, fun-ext}
-use mathlib.Core.Bool.{Bool, true, false, _&&_, cond, and-false, false≢true}
+use mathlib.Core.Bool.{Bool, true, false, not, _&&_, cond, and-false, false≢true}
 use mathlib.Core.List.{List, []}
 use mathlib.Core.Logic.{_≢_}
 use native.Mathlib.Omega.{arith}
-use lib.Dec.{eqb}
+use lib.Dec.{eqb, ltb}
 use lib.Pow.{pow-lt}
 use Rattle.sets.specs.Base.{upd}
-use Rattle.sets.specs.Laws.{byEq, eqb-same, eqb-yes, eqb-no, and-l}
+use Rattle.sets.specs.Laws.{byB, byEq, eqb-same, eqb-yes, eqb-no, and-l}
 use Rattle.lists.specs.Bytes.{Bytes}
 use Rattle.cells.specs.Num.{AllBytes, all-bytes, bytes-all}
 use Rattle.cells.specs.Upd.{cond-rel, branch-rel}
 use Rattle.cells.specs.Bits.{tb, tb-zero, tb-pow}
 use Rattle.line.specs.Messages.{address, locking, lastNumber, Work, ReadRequest, WriteRequest, Commit, Abort, Purge, Busy, Done, WrittenSet, NoLock, Committed}
-use Rattle.line.specs.Server.{ByCommit, ByMessage, Server, Waiter, WantRead, WantWrite, WantCommit, noWaiter, waiterWrites, waiterPend, waiterBusy, setOl, setWl, setAsked, setArrivals, setQueue, onServer, openCall, openAsk, unexpected, notice, finish, join, leave, sendPage, readWaiter, writeWaiter, commitWaiter, serveNow, joinRead, joinWrite, joinCommit, write, archive, informFrom, install, commitNow, unlist, markBusy, answered, loosen, accept, start}
+use Rattle.line.specs.Server.{ByCommit, ByMessage, Server, Waiter, WantRead, WantWrite, WantCommit, noWaiter, waiterWrites, waiterPend, waiterBusy, setOl, setWl, setWholeFor, setAsked, setArrivals, setQueue, onServer, openCall, openAsk, unexpected, notice, finish, join, leave, sendPage, readWaiter, writeWaiter, commitWaiter, serveNow, joinRead, joinWrite, joinCommit, write, archive, informFrom, install, commitNow, unlist, markBusy, answered, loosen, meet, heeded, heed, accept, start}
 use Rattle.line.specs.Server as Model
 use Rattle.message.specs.Layout.{setsFrom, stationOf, pageOf, requesterOf, objectOf, transactionOf, pagesOf, setOf}
 use Rattle.message.specs.Layout as Message
@@ -23,12 +23,12 @@ use Rattle.message.specs.Accepted.{fields-fit}
 use Rattle.message_meaning.specs.Meant.{objectsOn, pagesIn, workAt, upOf}
 use Rattle.message_meaning.specs.Kinds.{up-1, up-2, up-3, up-4, up-5, up-6, up-7, up-8}
 use Rattle.message_meaning.specs.UpAccepted.{CommitFields, UpAccepted, up-accepted}
-use Rattle.server_state.specs.Layout.{counterLimit, agesOf, arrivalsOf, lastOf, lockingB}
+use Rattle.server_state.specs.Layout.{counterLimit, agesOf, arrivalsOf, latestOf, lastOf, unfinishedOf, lockingB}
 use Rattle.server_tests.specs.Tests.{unexpectedB, openCallB, openAskB}
-use Rattle.server_changes.specs.Changes.{noticeB, finishB, leaveB, joinReadB, joinWriteB, joinCommitB, unpackB, unlistB, markBusyB, answeredB, loosenB}
+use Rattle.server_changes.specs.Changes.{noticeB, finishB, leaveB, joinReadB, joinWriteB, joinCommitB, unpackB, unlistB, markBusyB, answeredB, loosenB, meetB, heededB, heedB}
 use Rattle.server_actions.specs.Actions.{Serving, serving, onState, sendPageB, installB, commitNowB, addressOf, noticedB, onReadB, onWriteB, onCommitB, onAbortB, onPurgeB, onBusyB, onDoneB, onWrittenSetB, acceptB}
 use Rattle.server_meaning.specs.Meant.{Is, workOf}
-use Rattle.server_meaning.specs.Tests.{Wanting, arrivals-at, kind-at, last-at, last-lt, badNumber-at, lockOn-at, dropsOwn-at, openCall-at, openAsk-at}
+use Rattle.server_meaning.specs.Tests.{Wanting, arrivals-at, kind-at, last-at, last-lt, latest-at, fin-at, badNumber-at, aboveOpen-at, lockOn-at, dropsOwn-at, openCall-at, openAsk-at}
 use Rattle.server_meaning.specs.Unlocked.{unlocked-at}
 use Rattle.server_meaning.specs.Changes.{notice-is, unlist-is, loosen-is}
 use Rattle.server_meaning.specs.Waiting.{isCommit, upd-twice, leave-is, markBusy-is, answered-is, joinRead-is, joinWrite-is}
@@ -74,7 +74,7 @@ unexpected-at h k kinds x ok b =
     (λ e. rw (up-5 x e, e) (lockOn-at h i (pageOf x) (a .purge e .page-is)))
     (λ e. rw (up-6 x e, e, kind))
     (λ e. rw (up-7 x e, e, kind, dropsOwn-at h i (pagesOf x)))
-    (λ e. rw (up-8 x e, e, kind))
+    (λ e. rw (up-8 x e, e, kind, aboveOpen-at h i t l))
 
 -- PARTS OF THE EFFECT
 
@@ -102,7 +102,7 @@ module _ {b : Serving} {z : Model.Serving} (h : Serves b z) where
       (record {
         state = rw e at k;
         wanting = q;
-        sound = sound-same _ refl refl refl refl (sound-latest (h .sound) i t n);
+        sound = sound-same _ refl refl refl refl refl (sound-latest (h .sound) i t n);
         sent = h .sent;
         recs = h .recs;
       }))
@@ -117,7 +117,7 @@ module _ {b : Serving} {z : Model.Serving} (h : Serves b z) where
       record {
         state = joinRead-is (h .state) i a l la ln;
         wanting = wanting-joinRead (b .state) (h .wanting) i a l la;
-        sound = sound-same _ refl refl refl refl (sound-entry (h .sound) i w (λ _. n) (λ e. absurd (read-no-commit e)) (λ e. absurd (read-no-write e)));
+        sound = sound-same _ refl refl refl refl refl (sound-entry (h .sound) i w (λ _. n) (λ e. absurd (read-no-commit e)) (λ e. absurd (read-no-write e)));
         sent = h .sent;
         recs = h .recs;
       }
@@ -135,7 +135,7 @@ module _ {b : Serving} {z : Model.Serving} (h : Serves b z) where
             (joinWrite-is (h .state) i p set l lp lx ln);
         wanting = wanting-joinWrite (b .state) (h .wanting) i p set l lp;
         sound =
-            sound-same _ refl refl refl refl
+            sound-same _ refl refl refl refl refl
             (sound-entry (h .sound) i w (λ _. n) (λ e. absurd (write-no-commit e))
             (λ _. record { stands = rw first refl; page-only = λ c e. eqb-yes (c / 8) p (and-l (eqb (c / 8) p) _ e) ∙ sym first }));
         sent = h .sent;
@@ -154,7 +154,7 @@ module _ {b : Serving} {z : Model.Serving} (h : Serves b z) where
       record {
         state = joinCommit-is kind x hx c (h .state) i l ln;
         wanting = wanting-joinCommit (b .state) (h .wanting) i x l (all-bytes x hx);
-        sound = sound-same _ refl refl refl refl (sound-entry (h .sound) i w (λ _. n) (λ _. rw (work-number x) (c .transaction-not-0)) (λ e. absurd (write-no-commit (sym e))));
+        sound = sound-same _ refl refl refl refl refl (sound-entry (h .sound) i w (λ _. n) (λ _. rw (work-number x) (c .transaction-not-0)) (λ e. absurd (write-no-commit (sym e))));
         sent = h .sent;
         recs = h .recs;
       }
@@ -173,7 +173,7 @@ module _ {b : Serving} {z : Model.Serving} (h : Serves b z) where
       record {
         state = finish-is (h .state) i false l;
         wanting = wanting-finish (b .state) (h .wanting) i 0;
-        sound = sound-same _ refl refl refl refl (sound-finish (h .sound) i);
+        sound = sound-same _ refl refl refl refl refl (sound-finish (h .sound) i);
         sent = h .sent;
         recs = h .recs;
       }
@@ -185,7 +185,7 @@ module _ {b : Serving} {z : Model.Serving} (h : Serves b z) where
       record {
         state = unlist-is (h .state) i d l ld;
         wanting = wanting-unlist (b .state) (h .wanting) i d l;
-        sound = sound-same _ refl refl refl refl (h .sound);
+        sound = sound-same _ refl refl refl refl refl (h .sound);
         sent = h .sent;
         recs = h .recs;
       }
@@ -223,17 +223,47 @@ module _ {b : Serving} {z : Model.Serving} (h : Serves b z) where
   unfolding loosen
   loosen-means i p set l lp =
       let m = z .server in
-      let free : Server = setWl (setAsked m (upd (m .asked) p false)) (upd (m .wl) p 0) in
+      let free : Server = setWl (setWholeFor (setAsked m (upd (m .asked) p false)) (upd (m .wholeFor) p 0)) (upd (m .wl) p 0) in
       record {
         state = subst (λ (f : ℕ → ℕ). Is (loosenB i p set (b .state)) (setOl free f)) (fun-ext twice) (loosen-is (h .state) i p set l lp);
         wanting = wanting-loosen (b .state) (h .wanting) i p set lp;
-        sound = sound-same _ refl refl refl refl (sound-loosen (h .sound) p);
+        sound = sound-same _ refl refl refl refl refl (sound-loosen (h .sound) p);
         sent = h .sent;
         recs = h .recs;
       }
     where
       twice : (a : ℕ) → cond (eqb (a / 8) p && tb set (a % 8)) (suc i) (z .server .ol a) ≡ cond (eqb (a / 8) p && (eqb (a / 8) p && tb set (a % 8))) (suc i) (z .server .ol a)
       twice a = byEq (a / 8) p (λ e. rw e) (λ e. rw e)
+
+-- an 8 that answers
+
+-- "its set is locked only if that transaction is unfinished": f and t tell whether it is so
+heeded-set : (f t : Bool) (p set a : ℕ) → (eqb (a / 8) p && tb (cond (f && t) set 0) (a % 8)) ≡ (f && t && (eqb (a / 8) p && tb set (a % 8)))
+heeded-set true true p set a = refl
+heeded-set true false p set a = rw (tb-zero (a % 8)) (and-false (eqb (a / 8) p))
+heeded-set false t p set a = rw (tb-zero (a % 8)) (and-false (eqb (a / 8) p))
+
+module _ {b : Serving} {z : Model.Serving} (h : Serves b z) (i t : ℕ) (l : i < 8) where
+  heeded-is : (p set : ℕ) → _≡_ {A = ℕ → Bool} (objectsOn p (heededB i t set (b .state))) (heeded (z .server) i t (objectsOn p set))
+  unfolding heededB
+  heeded-is p set =
+      fun-ext (λ a. rw (fin-at (h .state) i l, latest-at (h .state) i l) (heeded-set (not (z .server .fin i)) (eqb t (z .server .latest i)) p set a))
+
+  -- "A transaction that the server first meets through such an 8 gets its age then."
+  meet-means : t ≢ 0 → t < 2 ^ 32 → agesOf (b .state) + 1 < 2 ^ 64 → Serves (onState b (meetB i t (b .state))) (meet i t z)
+  unfolding meetB meet
+  meet-means n lt la =
+      rw (latest-at (h .state) i l)
+      (byB (ltb (z .server .latest i) t) (λ e. rw e (notice-means h i t l n lt la)) (λ e. rw e h))
+
+heed-means : {b : Serving} {z : Model.Serving} → Serves b z → (i p t set : ℕ) → i < 8 → p < 32 → t ≢ 0 → t < 2 ^ 32 → agesOf (b .state) + 1 < 2 ^ 64
+    → Serves (onState b (heedB i p t set (b .state))) (heed i p t (objectsOn p set) z)
+unfolding heedB heed
+heed-means {b} {z} h i p t set l lp n lt la =
+    let k = meet-means h i t l n lt la in
+    let u = meetB i t (b .state) in
+    subst (λ (f : ℕ → Bool). Serves (onState b (loosenB i p (heededB i t set u) u)) (loosen i p f (meet i t z))) (heeded-is k i t l p set)
+    (loosen-means k i p (heededB i t set u) l lp)
 
 -- A COMMIT THAT INSTALLS AT ONCE
 
@@ -381,7 +411,7 @@ module _ {b : Serving} {z : Model.Serving} (h : Serves b z) (kinds x : List ℕ)
       let l = a .station-is in
       let lp = a .written-set e .page-is in
       cond-rel Serves (openAskB (b .state) i p t) (openAsk (z .server) i p t) (openAsk-at (h .state) i p t l lp)
-      (loosen-means h i p (setOf x 0) l lp) h
+      (heed-means h i p t (setOf x 0) l lp (a .written-set e .transaction-not-0) (fields-fit x hx .transaction-fits) (omega arith)) h
 
   effect-means : Serves (acceptB x b) (accept (stationOf x) (upOf x) z)
   unfolding acceptB

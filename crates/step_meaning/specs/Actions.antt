@@ -52,7 +52,7 @@ module _ {b : Serving} {x : Model.Serving} (h : Serves b x) where
       record {
         state = list-is (h .state) i (a / 8) l (omega arith);
         wanting = wanting-list (b .state) (h .wanting) i (a / 8) l;
-        sound = sound-same (setListed m (upd2 (m .listed) i (a / 8) true)) refl refl refl refl (h .sound);
+        sound = sound-same (setListed m (upd2 (m .listed) i (a / 8) true)) refl refl refl refl refl (h .sound);
         sent = sent-snoc (b .sent) (x .sent) _ _ (h .sent) (page-post (h .state) lock i a u l la lu z n);
         recs = h .recs;
       }
@@ -71,7 +71,7 @@ module _ {b : Serving} {x : Model.Serving} (h : Serves b x) where
       record {
         state = k;
         wanting = wanting-finish s (wanting-leave (b .state) (h .wanting) i l) i (keepsAgeB c);
-        sound = sound-same _ refl refl refl refl (sound-finish (sound-leave (h .sound) i) i);
+        sound = sound-same _ refl refl refl refl refl (sound-finish (sound-leave (h .sound) i) i);
         sent =
             sent-snoc (b .sent) (x .sent) _ _ (h .sent)
             (rw (latest-at k i l) (aborted-post i (x .server .latest i) c l n (rw (← latest-at (h .state) i l) (latest-lt (h .state) i l)) c1 c4));
@@ -193,7 +193,7 @@ install-means {b} {x} h i w l e n ln =
     (record {
       state = k;
       wanting = wanting-finish (leaveB i s) (wanting-leave s (wanting-write (b .state) (h .wanting) i) i l) i 0;
-      sound = sound-same _ refl refl refl refl (sound-finish (sound-leave (h .sound) i) i);
+      sound = sound-same _ refl refl refl refl refl (sound-finish (sound-leave (h .sound) i) i);
       sent =
           sent-snoc (b .sent) (x .sent) _ _ (h .sent)
           (rw (number-is (h .state) i l, last-at k)

@@ -1,25 +1,25 @@
 -- What keeps the waiting entries' bytes in range, and what keeps a server sound.
 use Prim.Native.Nat.{ℕ, zero, suc, _+_, _*_, _/_, _%_, _≤_, _<_}
-use mathlib.Core.Path.{_≡_, ap}
+use mathlib.Core.Path.{_≡_, refl, ap}
 use mathlib.Core.Bool.{Bool, true, false, cond, false≢true}
 use mathlib.Core.List.{List, [], _∷_}
 use mathlib.Core.Logic.{_≢_, inr}
 use native.Mathlib.Omega.{arith}
-use lib.Dec.{eqb}
+use lib.Dec.{eqb, ltb}
 use lib.ListN.{getD, set}
 use lib.Seq.{getD-set-other}
 use Rattle.sets.specs.Base.{upd}
-use Rattle.sets.specs.Laws.{byEq, eqb-yes}
+use Rattle.sets.specs.Laws.{byB, byEq, eqb-yes}
 use Rattle.le.specs.Le.{u64At, setU32, setU64}
 use Rattle.le.specs.Laws.{setU32-is}
 use Rattle.cells.specs.Num.{AllBytes, put-other}
-use Rattle.line.specs.Server.{Server, Waiter, NoWant, WantWrite, WantCommit, isWant, noWaiter, setWl, setLatest, setQueue}
+use Rattle.line.specs.Server.{Server, Waiter, NoWant, WantWrite, WantCommit, isWant, noWaiter, setWl, setWholeFor, setLatest, setQueue, unlocks}
 use Rattle.message.specs.Layout.{transactionOf}
 use Rattle.message.specs.Commit.{addressesAt, sentReads, sentWrites}
 use Rattle.station_state.specs.Layout.{pageSetWidth, numberWidth, valueWidth, hasBit, member}
 use Rattle.station_state.specs.Changes.{addTo, pageOn, pageOff, clearTo}
-use Rattle.server_state.specs.Layout.{ageWidth, valueFrom, valueRow, setRow, ageFrom, arrivalFrom, nextAgeFrom, nextArrivalFrom, versionFrom, workFrom, latestFrom, listedFrom, lastFrom, askedFrom, lockFrom, wholeFrom, wantFrom, requestFrom, calledFrom, pendFrom, busyFrom, unfinishedFrom, ageKeptFrom, readValuesFrom, readVersionsFrom, writtenVersionsFrom, versionRow, readSetFrom, agesOf, ageKeptOf, latestOf, lockOf, wholeOf, writtenSetFrom, writtenValuesFrom}
-use Rattle.server_changes.specs.Changes.{newAgeB, ageB, noticeB, freePageB, freePagesTo, freeOneB, freeTo, finishB, leaveB, joinB, joinReadB, joinWriteB, unpackOne, unpackTo, unpackB, joinCommitB, listB, unlistB, markBusyB, answeredB, lockOneB, lockTo, loosenB, askedB, calledB, lockPageB, valueOneB, valuesTo, writeB}
+use Rattle.server_state.specs.Layout.{ageWidth, valueFrom, valueRow, setRow, ageFrom, arrivalFrom, nextAgeFrom, nextArrivalFrom, versionFrom, workFrom, latestFrom, listedFrom, lastFrom, askedFrom, wholeForFrom, lockFrom, wholeFrom, wantFrom, requestFrom, calledFrom, pendFrom, busyFrom, unfinishedFrom, ageKeptFrom, readValuesFrom, readVersionsFrom, writtenVersionsFrom, versionRow, readSetFrom, agesOf, ageKeptOf, latestOf, lockOf, wholeOf, keepsB, writtenSetFrom, writtenValuesFrom}
+use Rattle.server_changes.specs.Changes.{newAgeB, ageB, noticeB, holdB, freePageB, freePagesTo, freePagesB, freeOneB, freeTo, finishB, leaveB, joinB, joinReadB, joinWriteB, unpackOne, unpackTo, unpackB, joinCommitB, listB, unlistB, markBusyB, answeredB, lockOneB, lockTo, loosenB, meetB, askedB, calledB, lockPageB, valueOneB, valuesTo, writeB}
 use Rattle.server_meaning.specs.Tests.{Wanting}
 use Rattle.step_meaning.specs.Relation.{Paged, Sound}
 
@@ -75,13 +75,22 @@ want-add : {s : List ℕ} → Ok s → (at a : ℕ) → at + setRow ≤ wantFrom
 unfolding addTo
 want-add k at a h l = want-set k (at + a / 8) _ (λ j q e. omega arith)
 
+-- a whole lock
+want-hold : {s : List ℕ} → Ok s → (p h t : ℕ) → p < 32 → Ok (holdB p h t s)
+unfolding holdB
+want-hold k p h t l = want-u32 (want-set (want-off k p) (wholeFrom + p) h (λ j q e. omega arith)) (wholeForFrom + p * numberWidth) t (omega arith)
+
 want-pages : {s : List ℕ} → Ok s → (i n : ℕ) → n ≤ 32 → Ok (freePagesTo i s n)
 unfolding freePagesTo freePageB
 want-pages k i zero h = k
 want-pages {s} k i (suc n) h =
     let r = want-pages k i n (omega arith) in
     let t = freePagesTo i s n in
-    want-cond (eqb (wholeOf t n) (i + 1)) (want-off (want-set r (wholeFrom + n) 0 (λ j l e. omega arith)) n) r
+    want-cond (eqb (wholeOf t n) (i + 1)) (want-hold r n 0 0 h) r
+
+want-free : {s : List ℕ} → Ok s → (i : ℕ) → Ok (freePagesB i s)
+unfolding freePagesB
+want-free {s} k i = want-cond (keepsB s i) k (want-pages k i 32 (omega arith))
 
 want-locks : {s : List ℕ} → Ok s → (i n : ℕ) → n ≤ 256 → Ok (freeTo i s n)
 unfolding freeTo freeOneB
@@ -162,10 +171,14 @@ module _ (s : List ℕ) (k : Wanting s) where
   pub wanting-notice : (i t : ℕ) → i < 8 → Wanting (noticeB i t s)
   wanting-notice i t l = noticed i t l .wants
 
+  pub wanting-meet : (i t : ℕ) → i < 8 → Wanting (meetB i t s)
+  unfolding meetB
+  wanting-meet i t l = want-cond (ltb (latestOf s i) t) (noticed i t l) here .wants
+
   finished : (i k : ℕ) → Ok (finishB i k s)
   unfolding finishB
   finished i k =
-      let freed = want-locks (want-pages here i 32 (omega arith)) i 256 (omega arith) in
+      let freed = want-locks (want-free here i) i 256 (omega arith) in
       want-set (want-set freed (unfinishedFrom + i) 0 (λ j l e. omega arith)) (ageKeptFrom + i) k (λ j l e. omega arith)
 
   pub wanting-finish : (i k : ℕ) → Wanting (finishB i k s)
@@ -194,7 +207,7 @@ module _ (s : List ℕ) (k : Wanting s) where
 
   loosened : (i p x : ℕ) → p < 32 → Ok (loosenB i p x s)
   unfolding loosenB
-  loosened i p x l = want-objects (want-set (want-off here p) (wholeFrom + p) 0 (λ j q e. omega arith)) i p x 8 l (omega arith)
+  loosened i p x l = want-objects (want-hold here p 0 0 l) i p x 8 l (omega arith)
 
   pub wanting-loosen : (i p x : ℕ) → p < 32 → Wanting (loosenB i p x s)
   wanting-loosen i p x l = loosened i p x l .wants
@@ -209,7 +222,7 @@ module _ (s : List ℕ) (k : Wanting s) where
 
   pub wanting-lockPage : (i p : ℕ) → p < 32 → Wanting (lockPageB i p s)
   unfolding lockPageB
-  wanting-lockPage i p l = want-set (want-off here p) (wholeFrom + p) (i + 1) (λ j q e. omega arith) .wants
+  wanting-lockPage i p l = want-hold here p (i + 1) (latestOf s i) l .wants
 
   pub wanting-lock : (i p x : ℕ) → p < 32 → Wanting (lockTo i p x s 8)
   wanting-lock i p x l = want-objects here i p x 8 l (omega arith) .wants
@@ -232,14 +245,14 @@ module _ (s : List ℕ) (k : Wanting s) where
 -- WHAT NUMBER 1 ASKS
 
 -- a change of other fields
-pub sound-same : {m : Server} (n : Server) → n .kind ≡ m .kind → n .latest ≡ m .latest → n .queue ≡ m .queue → n .wl ≡ m .wl → Sound m → Sound n
-sound-same n k t q w h =
+pub sound-same : {m : Server} (n : Server) → n .kind ≡ m .kind → n .latest ≡ m .latest → n .queue ≡ m .queue → n .wl ≡ m .wl → n .wholeFor ≡ m .wholeFor → Sound m → Sound n
+sound-same n k t q w g h =
     record {
       kinds = rw k (h .kinds);
       numbered = rw (q, t) (h .numbered);
       worked = rw q (h .worked);
       paged = rw q (h .paged);
-      holder = rw (w, t) (h .holder);
+      holder = rw (w, g) (h .holder);
     }
 
 pub no-commit : NoWant ≡ WantCommit → ⊥
@@ -272,18 +285,29 @@ module _ {m : Server} (h : Sound m) where
         numbered = λ j l e. numbered j (h .numbered j l e);
         worked = h .worked;
         paged = h .paged;
-        holder = λ p k e. let a = h .holder p k e in (a .0, numbered k (a .1));
+        holder = h .holder;
       }
     where
       numbered : (j : ℕ) → m .latest j ≢ 0 → upd (m .latest) i t j ≢ 0
       numbered j a = byEq j i (λ e. rw e n) (λ e. rw e a)
 
-  -- whole locks that were there before
-  pub sound-whole : (f : ℕ → ℕ) → ((p k : ℕ) → f p ≡ suc k → m .wl p ≡ suc k) → Sound (setWl m f)
-  sound-whole f g = record { kinds = h .kinds; numbered = h .numbered; worked = h .worked; paged = h .paged; holder = λ p k e. h .holder p k (g p k e) }
+  -- whole locks that were there before, given to whom they were
+  pub sound-whole : (f g : ℕ → ℕ) → ((p k : ℕ) → f p ≡ suc k → (m .wl p ≡ suc k) × (g p ≡ m .wholeFor p)) → Sound (setWl (setWholeFor m g) f)
+  sound-whole f g w =
+      record {
+        kinds = h .kinds;
+        numbered = h .numbered;
+        worked = h .worked;
+        paged = h .paged;
+        holder = λ p k e. let a = w p k e in let b = h .holder p k (a .0) in (b .0, rw (a .1) (b .1));
+      }
 
-  pub sound-finish : (i : ℕ) → Sound (setWl m (λ p. cond (eqb (m .wl p) (suc i)) 0 (m .wl p)))
-  sound-finish i = sound-whole (λ p. cond (eqb (m .wl p) (suc i)) 0 (m .wl p)) (λ p k. byEq (m .wl p) (suc i) (λ e. rw e (λ w. absurd (omega arith))) (λ e. rw e (λ w. w)))
+  -- none of those that a transaction's end leaves is new
+  pub sound-finish : (i : ℕ)
+      → Sound (setWl (setWholeFor m (λ p. cond (unlocks (m .kind i) i (m .wl p)) 0 (m .wholeFor p))) (λ p. cond (unlocks (m .kind i) i (m .wl p)) 0 (m .wl p)))
+  sound-finish i =
+      sound-whole _ _
+      (λ p k. byB (unlocks (m .kind i) i (m .wl p)) (λ e. rw e (λ w. absurd (omega arith))) (λ e. rw e (λ w. (w, refl))))
 
-  pub sound-loosen : (p : ℕ) → Sound (setWl m (upd (m .wl) p 0))
-  sound-loosen p = sound-whole (upd (m .wl) p 0) (λ q k. byEq q p (λ e. rw e (λ w. absurd (omega arith))) (λ e. rw e (λ w. w)))
+  pub sound-loosen : (p : ℕ) → Sound (setWl (setWholeFor m (upd (m .wholeFor) p 0)) (upd (m .wl) p 0))
+  sound-loosen p = sound-whole _ _ (λ q k. byEq q p (λ e. rw e (λ w. absurd (omega arith))) (λ e. rw e (λ w. (w, refl))))

@@ -12,20 +12,20 @@ use Rattle.sets.specs.Laws.{byB, byEq, eqb-same, eqb-yes, eqb-no, and-l, and-r}
 use Rattle.cells.specs.Upd.{cond-rel, branch-rel}
 use Rattle.cells.specs.Bits.{tb}
 use Rattle.line.specs.Messages.{lastNumber, Lock, NoLock, ObjectLock, WholeLock, Callback, Sent, To}
-use Rattle.line.specs.Server.{Server, Want, WantWrite, WantCommit, isWant, other, wantsPage, waiterCalled, waiterPend, setOl, setWl, setAsked, setQueue, onServer, leave, shut, ask, askFrom, holder, unavailable, sendPage, serveRead, concerned, callsFrom, call, callOnce, hinders, grantPage, grantObject, grant, installWaiter, allAnswered, afterCalls, proceed, blocked, gates, fault, stale, locked, abort, visit, firstFrom, order, pass, victim, moved, settle, accept, start, serverStep}
+use Rattle.line.specs.Server.{Server, Want, WantWrite, WantCommit, isWant, other, wantsPage, waiterCalled, waiterPend, setOl, setWl, setWholeFor, setAsked, setQueue, onServer, leave, shut, ask, askFrom, askKeepers, shutKept, holder, unavailable, sendPage, serveRead, concerned, callsFrom, call, callOnce, hinders, grantPage, grantObject, grant, installWaiter, allAnswered, afterCalls, proceed, blocked, gates, fault, stale, locked, abort, outOfTime, judge, visit, firstFrom, order, pass, victim, moved, settle, accept, start, serverStep}
 use Rattle.line.specs.Server as Model
 use Rattle.line.specs.Fit.{Object}
 use Rattle.line.specs.Pass.{if-keeps, All8, order-8, victim-waits}
 use Rattle.message_meaning.specs.Meant.{upOf}
 use Rattle.station_state.specs.Layout.{hasBit}
 use Rattle.server_state.specs.Layout.{requestFrom, wholeOf, writtenSet, wantOf, calledOf, pendOf}
-use Rattle.server_tests.specs.Tests.{faultB, blockedB, shutOutB, concernedSet, hinderedB, unavailableB}
+use Rattle.server_tests.specs.Tests.{faultB, blockedB, shutOutB, outOfTimeB, concernedSet, hinderedB, unavailableB}
 use Rattle.server_order.specs.Order.{victimB}
 use Rattle.server_changes.specs.Changes.{leaveB, calledB, lockTo}
 use Rattle.server_actions.specs.Actions.{Serving, serving, onState, sendPageB, abortB, installB, acceptB}
-use Rattle.server_actions.specs.Pass.{askB, askTo, serveReadB, callOneB, callTo, callB, callOnceB, grantPageB, grantObjectB, grantB, afterCallsB, proceedB, gatesB, visitB, orderB, passB, movedB, settleB, serverStepB}
+use Rattle.server_actions.specs.Pass.{askB, askTo, serveReadB, callOneB, callTo, callB, callOnceB, grantPageB, grantObjectB, grantB, afterCallsB, proceedB, gatesB, judgeB, askKeepersB, visitB, orderB, passB, movedB, settleB, serverStepB}
 use Rattle.server_meaning.specs.Meant.{wantAs, Is}
-use Rattle.server_meaning.specs.Tests.{Wanting, bit-is, arrival-at, last-at, last-lt, whole-at, request-at, called-at, want-at, work-at, asked-at, writes-at, fault-at, shut-at, shutOut-at, concernedSet-lt, concernedSet-at, hindered-at, allAnswered-at, unavailable-lt, unavailable-at, blocked-at}
+use Rattle.server_meaning.specs.Tests.{Wanting, bit-is, arrival-at, last-at, last-lt, whole-at, request-at, called-at, want-at, work-at, asked-at, writes-at, fault-at, outOfTime-at, held, dueOf, due-at, shutOut-at, concernedSet-lt, concernedSet-at, hindered-at, allAnswered-at, unavailable-lt, unavailable-at, blocked-at}
 use Rattle.server_meaning.specs.Order.{first-at, victim-at}
 use Rattle.server_meaning.specs.Waiting.{isCommit, commit-want, leave-is, called-is}
 use Rattle.server_meaning.specs.Changes.{asked-is, lock-is, lockPage-is}
@@ -38,16 +38,16 @@ use Rattle.step_meaning.specs.Actions.{sendPage-means, abort-means, inst
 
 module _ {m : Server} (h : Sound m) where
   pub sound-asked : (f : ℕ → Bool) → Sound (setAsked m f)
-  sound-asked f = sound-same (setAsked m f) refl refl refl refl h
+  sound-asked f = sound-same (setAsked m f) refl refl refl refl refl h
 
   pub sound-called : (i : ℕ) (f : ℕ → Bool) → i < 8 → Sound (setQueue m (upd (m .queue) i (waiterPend (waiterCalled (m .queue i) true) f)))
   sound-called i f l = sound-entry h i (waiterPend (waiterCalled (m .queue i) true) f) (h .numbered i l) (h .worked i l) (h .paged i l)
 
   pub sound-lockObject : (f : ℕ → ℕ) → Sound (setOl m f)
-  sound-lockObject f = sound-same (setOl m f) refl refl refl refl h
+  sound-lockObject f = sound-same (setOl m f) refl refl refl refl refl h
 
   -- the page's new holder has a transaction
-  pub sound-lockPage : (i p : ℕ) (f : ℕ → Bool) → i < 8 → m .latest i ≢ 0 → Sound (setWl (setAsked m f) (upd (m .wl) p (suc i)))
+  pub sound-lockPage : (i p : ℕ) (f : ℕ → Bool) → i < 8 → m .latest i ≢ 0 → Sound (setWl (setWholeFor (setAsked m f) (upd (m .wholeFor) p (m .latest i))) (upd (m .wl) p (suc i)))
   sound-lockPage i p f l n =
       record {
         kinds = h .kinds;
@@ -72,42 +72,47 @@ module _ {b : Serving} {x : Model.Serving} (h : Serves b x) where
   unfolding leave
   leave-means i l = on-state (leave-is (h .state) i l) (wanting-leave (b .state) (h .wanting) i l) (sound-leave (h .sound) i)
 
--- a lock's holder that is another station
-held : (w i : ℕ) → other w i ≡ true → w ≡ suc (holder w)
-held zero i e = absurd (false≢true e)
-held (suc w) i e = refl
+-- a page that a 19 is due for is another's
+due-other : (k : Bool) (m : Server) (i p : ℕ) → dueOf k m i p ≡ true → other (m .wl p) i ≡ true
+due-other false m i p e = and-r (wantsPage m i p) (other (m .wl p) i) e
+due-other true m i p e = and-r (wantsPage m i p) (other (m .wl p) i) (and-l (shut m i p) _ e)
 
 -- "send 19, once for each 18"
-pub ask-means : {b : Serving} {x : Model.Serving} → Serves b x → (i p : ℕ) → i < 8 → p < 32
-    → Serves (askB i b p) (cond (shut (x .server) i p && not (x .server .asked p)) (ask (holder (x .server .wl p)) p x) x)
+pub ask-means : {b : Serving} {x : Model.Serving} → Serves b x → (k : Bool) (i p : ℕ) → i < 8 → p < 32
+    → Serves (askB k i b p) (cond (dueOf k (x .server) i p && not (x .server .asked p)) (ask (holder (x .server .wl p)) p x) x)
 unfolding askB ask
-ask-means {b} {x} h i p li lp =
+ask-means {b} {x} h k i p li lp =
     let s = b .state in
     let m = x .server in
-    rw (shut-at (h .state) i p li lp, asked-at (h .state) p)
-    (branch-rel Serves (shut m i p && not (m .asked p))
+    rw (due-at (h .state) k i p li lp (λ g e. h .sound .holder p g e .0))
+    (branch-rel Serves (dueOf k m i p && not (m .asked p))
     (λ e.
-    let w : m .wl p ≡ suc (holder (m .wl p)) = held (m .wl p) i (and-r (wantsPage m i p) (other (m .wl p) i) (and-l (shut m i p) (not (m .asked p)) e)) in
-    let k = h .sound .holder p (holder (m .wl p)) w in
+    let w : m .wl p ≡ suc (holder (m .wl p)) = held (m .wl p) i (due-other k m i p (and-l (dueOf k m i p) (not (m .asked p)) e)) in
+    let a = h .sound .holder p (holder (m .wl p)) w in
     let one : wholeOf s p - 1 ≡ holder (m .wl p) = omega (arith, whole-at (h .state) p lp, w) in
     record {
       state = asked-is (h .state) p lp;
       wanting = wanting-asked s (h .wanting) p;
       sound = sound-asked (h .sound) (upd (m .asked) p true);
-      sent = rw one (sent-snoc (b .sent) (x .sent) _ _ (h .sent) (deescalate-post (h .state) (holder (m .wl p)) p (k .0) lp (k .1)));
+      sent = rw one (sent-snoc (b .sent) (x .sent) _ _ (h .sent) (deescalate-post (h .state) (holder (m .wl p)) p (a .0) lp (a .1)));
       recs = h .recs;
     })
     (λ e. h))
 
--- "pages rising": the model asks for n from p on, the bytes for all below k
-asks-from : (i : ℕ) (b : Serving) {x : Model.Serving} (n p k : ℕ) → i < 8 → p + n ≡ k → k ≤ 32 → Serves (askTo i b p) x → Serves (askTo i b k) (askFrom n p i x)
+-- "pages rising": the model asks for n from p on, the bytes for all below j
+asks-from : (k : Bool) (i : ℕ) (b : Serving) {x : Model.Serving} (n p j : ℕ) → i < 8 → p + n ≡ j → j ≤ 32 → Serves (askTo k i b p) x → Serves (askTo k i b j) (askFrom (dueOf k) n p i x)
 unfolding askTo askFrom
-asks-from i b {x} zero p k li e l h = let same : p ≡ k = omega arith in subst (λ (q : ℕ). Serves (askTo i b q) x) same h
-asks-from i b (suc n) p k li e l h = asks-from i b n (suc p) k li (omega arith) l (ask-means h i p li (omega arith))
+asks-from k i b {x} zero p j li e l h = let same : p ≡ j = omega arith in subst (λ (q : ℕ). Serves (askTo k i b q) x) same h
+asks-from k i b (suc n) p j li e l h = asks-from k i b n (suc p) j li (omega arith) l (ask-means h k i p li (omega arith))
 
-pub asks-means : {b : Serving} {x : Model.Serving} → Serves b x → (i : ℕ) → i < 8 → Serves (askTo i b 32) (askFrom 32 0 i x)
+pub asks-means : {b : Serving} {x : Model.Serving} → Serves b x → (k : Bool) (i : ℕ) → i < 8 → Serves (askTo k i b 32) (askFrom (dueOf k) 32 0 i x)
 unfolding askTo
-asks-means {b} h i l = asks-from i b 32 0 32 l refl (omega arith) h
+asks-means {b} h k i l = asks-from k i b 32 0 32 l refl (omega arith) h
+
+-- ".. as soon as another's waiting request or commit wants the page"
+pub keepers-means : {b : Serving} {x : Model.Serving} → Serves b x → (i : ℕ) → i < 8 → Serves (askKeepersB i b) (askKeepers i x)
+unfolding askKeepersB askKeepers
+keepers-means h i l = asks-means h true i l
 
 -- 16, 17 and 18 for address a, with the unavailable set as it was before i's entry went
 page-means : {b c : Serving} {x y : Model.Serving} → Serves b x → Serves c y → (lock : Lock) (i a : ℕ) → i < 8 → a < 256 → Object lock a → y .server .latest i ≢ 0
@@ -300,7 +305,7 @@ module _ {b : Serving} {x : Model.Serving} (h : Serves b x) (i : ℕ) (l : i < 8
   unfolding gatesB gates
   gates-means k l1 l3 e f =
       cond-rel Serves (blockedB (b .state) i) (blocked (x .server) i) (blocked-at (h .state) (h .wanting) i l) h
-      (cond-rel Serves (shutOutB (b .state) i) (any 32 (shut (x .server) i)) (shutOut-at (h .state) i l) (asks-means h i l) (proceed-means k l1 l3 e f))
+      (cond-rel Serves (shutOutB (b .state) i) (any 32 (shut (x .server) i)) (shutOut-at (h .state) i l) (asks-means h false i l) (proceed-means k l1 l3 e f))
 
 -- a fault is a cause; without one there is a number left
 cause-le : (a b c : Bool) → turned a 4 (turned b 2 (turned c 3 0)) ≤ 4
@@ -319,23 +324,61 @@ fault-le m i = cause-le (eqb (m .last) lastNumber) (stale m (m .queue i .work)) 
 fault-none : (m : Server) (i : ℕ) → fault m i ≡ 0 → m .last ≢ lastNumber
 fault-none m i e = eqb-no (m .last) lastNumber (cause-none (eqb (m .last) lastNumber) (stale m (m .queue i .work)) (locked m i) e)
 
+-- what 19s leave
+
+module _ (P : Server → Type 0) (keeps : (m : Server) (f : ℕ → Bool) → P m → P (setAsked m f)) where
+  asks-keep : (d : Server → ℕ → ℕ → Bool) (n p i : ℕ) (x : Model.Serving) → P (x .server) → P ((askFrom d n p i x) .server)
+  unfolding askFrom ask
+  asks-keep d zero p i x h = h
+  asks-keep d (suc n) p i x h =
+      asks-keep d n (suc p) i _ (if-keeps (λ (y : Model.Serving). P (y .server)) (d (x .server) i p && not (x .server .asked p)) (λ _. keeps (x .server) _ h) (λ _. h))
+
+  keepers-keep : (i : ℕ) (x : Model.Serving) → P (x .server) → P ((askKeepers i x) .server)
+  unfolding askKeepers
+  keepers-keep i x h = asks-keep shutKept 32 0 i x h
+
 module _ {b : Serving} {x : Model.Serving} (h : Serves b x) (i : ℕ) (l : i < 8) where
-  waiting : (k : ℕ) → wantOf (b .state) i ≡ k → isWant (wantAs k) ≡ true → x .server .latest i ≢ 0
-  waiting k e w = h .sound .numbered i l (rw (want-at (h .state) i l, e) w)
+  -- whoever waits has a transaction
+  waiting : (k : ℕ) → x .server .queue i .want ≡ wantAs k → isWant (wantAs k) ≡ true → x .server .latest i ≢ 0
+  waiting k e w = h .sound .numbered i l (rw e w)
+
+  -- a waiter's turn, behind the 19s to keeping holders
+  gates-turn : (k : ℕ) → 1 ≤ k → k ≤ 2 → isWant (wantAs k) ≡ true → x .server .queue i .want ≡ wantAs k → Serves (gatesB k i (askKeepersB i b)) (gates (wantAs k) i (askKeepers i x))
+  gates-turn k l1 l2 w e =
+      let g = keepers-means h i l in
+      let want = keepers-keep (λ (m : Server). m .queue i .want ≡ wantAs k) (λ m f q. q) i x e in
+      gates-means g i l (keepers-keep (λ (m : Server). m .latest i ≢ 0) (λ m f q. q) i x (waiting k e w)) k l1 (omega arith) want (λ f. absurd (omega arith))
+
+  -- a commit that is looked at
+  pub judge-means : x .server .queue i .want ≡ WantCommit → Serves (judgeB i b) (judge i x)
+  unfolding judgeB judge
+  judge-means e =
+      let m = x .server in
+      rw (fault-at (h .state) i l (commit-byte e))
+      (branch-rel Serves (eqb (fault m i) 0)
+      (λ f. gates-means h i l (waiting 3 e refl) 3 (omega arith) (omega arith) e (λ _. fault-none m i (eqb-yes (fault m i) 0 f)))
+      (λ f. abort-means h i (fault m i) l (omega (arith, eqb-no (fault m i) 0 f)) (fault-le m i) (waiting 3 e refl)))
+    where
+      commit-byte : x .server .queue i .want ≡ WantCommit → wantOf (b .state) i ≡ 3
+      commit-byte e = eqb-yes (wantOf (b .state) i) 3 (commit-want (wantOf (b .state) i) ∙ ap isCommit (sym (want-at (h .state) i l) ∙ e))
+
+module _ {b : Serving} {x : Model.Serving} (h : Serves b x) (i : ℕ) (l : i < 8) where
+  -- "even one .. given cause 3 (19 goes first), not 2 or 4"
+  commit-turn : wantOf (b .state) i ≡ 3 → x .server .queue i .want ≡ WantCommit
+      → Serves (judgeB i (cond (outOfTimeB (b .state) i) b (askKeepersB i b))) (judge i (cond (outOfTime (x .server) i) x (askKeepers i x)))
+  commit-turn k e =
+      rw (outOfTime-at (h .state) i l k)
+      (byB (outOfTime (x .server) i) (λ o. rw o (judge-means h i l e))
+      (λ o. rw o (judge-means (keepers-means h i l) i l (keepers-keep (λ (m : Server). m .queue i .want ≡ WantCommit) (λ m f q. q) i x e))))
 
   visit-as : (k : ℕ) → wantOf (b .state) i ≡ k → k ≤ 3
-      → Serves (cond (eqb k 0) b (cond (eqb k 3) (cond (eqb (faultB (b .state) i) 0) (gatesB k i b) (abortB i (faultB (b .state) i) b)) (gatesB k i b)))
+      → Serves (cond (eqb k 0) b (cond (eqb k 3) (judgeB i (cond (outOfTimeB (b .state) i) b (askKeepersB i b))) (gatesB k i (askKeepersB i b))))
       (visit (wantAs k) i x)
   unfolding visit
   visit-as zero e q = h
-  visit-as (suc zero) e q = gates-means h i l (waiting 1 e refl) 1 (omega arith) (omega arith) (want-at (h .state) i l ∙ rw e) (λ f. absurd (omega arith))
-  visit-as (suc (suc zero)) e q = gates-means h i l (waiting 2 e refl) 2 (omega arith) (omega arith) (want-at (h .state) i l ∙ rw e) (λ f. absurd (omega arith))
-  visit-as (suc (suc (suc zero))) e q =
-      let m = x .server in
-      rw (fault-at (h .state) i l e)
-      (branch-rel Serves (eqb (fault m i) 0)
-      (λ f. gates-means h i l (waiting 3 e refl) 3 (omega arith) (omega arith) (want-at (h .state) i l ∙ rw e) (λ _. fault-none m i (eqb-yes (fault m i) 0 f)))
-      (λ f. abort-means h i (fault m i) l (omega (arith, eqb-no (fault m i) 0 f)) (fault-le m i) (waiting 3 e refl)))
+  visit-as (suc zero) e q = gates-turn h i l 1 (omega arith) (omega arith) refl (want-at (h .state) i l ∙ rw e)
+  visit-as (suc (suc zero)) e q = gates-turn h i l 2 (omega arith) (omega arith) refl (want-at (h .state) i l ∙ rw e)
+  visit-as (suc (suc (suc zero))) e q = commit-turn e (want-at (h .state) i l ∙ rw e)
   visit-as (suc (suc (suc (suc k)))) e q = absurd (omega arith)
 
   pub visit-means : Serves (visitB i b) (visit (x .server .queue i .want) i x)

@@ -31,13 +31,13 @@ use Rattle.message_meaning.specs.Meant.{objectsOn, objectsIn, pageAt, downOf}
 use Rattle.message_meaning.specs.Kinds.{down-16, down-17, down-18, down-19, down-20, down-21, down-22, down-23}
 use Rattle.message_meaning.specs.Inverse.{ReadBack, written-read, message-are}
 use Rattle.station_state.specs.Layout.{valueWidth, numberWidth}
-use Rattle.server_state.specs.Layout.{pageRow, pageVersionRow, setRow, pageValuesFrom, pageVersionsFrom, valueFrom, versionFrom as State·versionFrom, writtenSetCell, writtenValueCell, table, serverLength, latestOf, writtenSet, writtenSetFrom}
+use Rattle.server_state.specs.Layout.{pageRow, pageVersionRow, setRow, pageValuesFrom, pageVersionsFrom, valueFrom, versionFrom as State·versionFrom, writtenSetCell, writtenValueCell, table, serverLength, latestOf, wholeForOf, writtenSet, writtenSetFrom}
 use Rattle.server_actions.specs.Actions.{plain, pageB, deescalateB, callbackB, committedB, abortedB, writtenSets, invalidateB}
 use Rattle.cells.specs.Cells.{view}
 use Rattle.station_meaning.specs.Meant.{within}
 use Rattle.station_meaning.specs.Tests.{has-if}
 use Rattle.server_meaning.specs.Meant.{Is, workOf}
-use Rattle.server_meaning.specs.Tests.{bit-is, value-at, version-at, latest-at, latest-lt, writes-at, writes-high}
+use Rattle.server_meaning.specs.Tests.{bit-is, value-at, version-at, latest-at, latest-lt, wholeFor-at, wholeFor-lt, writes-at, writes-high}
 use Rattle.step_meaning.specs.Relation.{ReadAs}
 
 -- WHAT ALL HAVE IN COMMON
@@ -323,29 +323,29 @@ module _ {s : List ℕ} {m : Server} (h : Is s m) where
 
   -- DE-ESCALATION
 
-  deescalate-ok : (i p : ℕ) → i < 8 → p < 32 → m .latest i ≢ 0 → deescalateOk (deescalateB i p s) ≡ true
+  deescalate-ok : (i p : ℕ) → p < 32 → m .wholeFor p ≢ 0 → deescalateOk (deescalateB i p s) ≡ true
   unfolding deescalateOk
-  deescalate-ok i p l lp h0 =
-      let t = latestOf s i in
-      let r = plain-back 19 i p 0 t 0 0 (latest-lt h i l) (omega arith) (omega arith) in
+  deescalate-ok i p lp h0 =
+      let t = wholeForOf s p in
+      let r = plain-back 19 i p 0 t 0 0 (wholeFor-lt h p lp) (omega arith) (omega arith) in
       rw (
         r .page-is,
         le-leb p 31 (omega arith),
         no-object 19 i p t 0 0 (replicate setsLength 0) (replicate behindLength 0),
-        named (deescalateB i p s) (m .latest i) (r .transaction-is ∙ latest-at h i l) h0,
+        named (deescalateB i p s) (m .wholeFor p) (r .transaction-is ∙ wholeFor-at h p lp) h0,
         none-from-pages 19 i p 0 t 0 0,
       )
 
-  -- "19 de-escalate (page, transaction)"
-  pub deescalate-post : (i p : ℕ) → i < 8 → p < 32 → m .latest i ≢ 0 → ReadAs (deescalateB i p s) (To i (Deescalate p (m .latest i)))
+  -- "19 de-escalate (page, transaction)": it names "the 18's transaction, as 19 always does"
+  pub deescalate-post : (i p : ℕ) → i < 8 → p < 32 → m .wholeFor p ≢ 0 → ReadAs (deescalateB i p s) (To i (Deescalate p (m .wholeFor p)))
   unfolding downFieldsOk
   deescalate-post i p l lp h0 =
-      let t = latestOf s i in
-      let r = plain-back 19 i p 0 t 0 0 (latest-lt h i l) (omega arith) (omega arith) in
+      let t = wholeForOf s p in
+      let r = plain-back 19 i p 0 t 0 0 (wholeFor-lt h p lp) (omega arith) (omega arith) in
       sent i 19 (deescalateB i p s) l (r .kind-is) refl refl (r .station-is) (plain-length 19 i p 0 t 0 0)
       (plain-are 19 i p 0 t 0 0 (omega arith) (omega arith) (omega arith) (omega arith))
-      (rw (r .kind-is) (deescalate-ok i p l lp h0))
-      (down-19 _ (r .kind-is) ∙ rw (r .page-is, r .transaction-is, latest-at h i l))
+      (rw (r .kind-is) (deescalate-ok i p lp h0))
+      (down-19 _ (r .kind-is) ∙ rw (r .page-is, r .transaction-is, wholeFor-at h p lp))
 
   -- CALLBACKS
 

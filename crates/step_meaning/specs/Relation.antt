@@ -8,6 +8,7 @@ use mathlib.Core.List.{List, [], _∷_}
 use lib.ListN.{length}
 use Rattle.sets.specs.Base.{snoc}
 use Rattle.lists.specs.Bytes.{Bytes}
+use Rattle.kinds.specs.Kinds.{mostKind}
 use Rattle.layout.specs.Record.{bytesOf}
 use Rattle.line.specs.Messages.{pageOf, address, Sent, To, Rec}
 use Rattle.line.specs.Server.{Server, WantWrite, WantCommit, waits}
@@ -27,13 +28,13 @@ pub record Paged (req : ℕ) (writes : ℕ → Bool) : Type 0 where
 
 -- what number 1 asks of the server, in the model's words, as far as messages and records need it
 pub record Sound (m : Server) : Type 0 where
-  pub kinds : (i : ℕ) → m .kind i ≤ 1
+  pub kinds : (i : ℕ) → m .kind i ≤ mostKind
   -- whoever waits has a transaction, and so has the work of a commit
   pub numbered : (i : ℕ) → i < 8 → waits m i ≡ true → m .latest i ≢ 0
   pub worked : (i : ℕ) → i < 8 → m .queue i .want ≡ WantCommit → m .queue i .work .transaction ≢ 0
   pub paged : (i : ℕ) → i < 8 → m .queue i .want ≡ WantWrite → Paged (m .queue i .req) (m .queue i .writes)
-  -- a page that is locked whole is so by a station of the line with a transaction
-  pub holder : (p h : ℕ) → m .wl p ≡ suc h → (h < 8) × (m .latest h ≢ 0)
+  -- a page that is locked whole is so by a station of the line, and was given to a transaction
+  pub holder : (p h : ℕ) → m .wl p ≡ suc h → (h < 8) × (m .wholeFor p ≢ 0)
 
 -- a message is read by the station that it goes to as what was sent
 pub record ReadAs (m : List ℕ) (x : Sent) : Type 0 where

@@ -15,7 +15,7 @@ use Rattle.line.specs.Pass.{Clear, Ready}
 use Rattle.line.specs.Apart.{good-number}
 use Rattle.line.specs.Line.{World, worldDown, Op, perform, tell, carryUp, carryDown, sentTo, isRefused, fresh}
 use Rattle.truth.specs.Clauses.{callTokens, Shape}
-use Rattle.truth.specs.Inv.{CallsOf, Inv, afterOwner, afterStation, taken, Acts, Layer}
+use Rattle.truth.specs.Inv.{CallsOf, Inv, afterOwner, afterStation, taken, Acts, Layer, heard-good}
 use Rattle.truth.specs.Frame.{append-nil, Accepts, accepts, noticed-queue}
 use Rattle.truth.specs.Callbacks.{pop-up, answered-none}
 use Rattle.truth.specs.CallbacksServer.{CallsIn, finish-calls, join-calls, notice-calls, abort-calls, install-calls, commit-calls, page-calls, ask-calls, read-calls, object-calls, whole-calls, call-calls, busy-calls, answered-calls}
@@ -252,7 +252,8 @@ module _ (i : ℕ) (l : List Up) (w : World) (b : i < 8) (h : Inv w) (g : Arrive
         busy-late = λ k T e q. lost-head (Busy k T) q;
         dones = λ k T p e q. under-answered t u d i k (unlist i p x) (answer-last k T p q e) (under-unlist t u d i p x (lost-head (Done k T p) q));
         done-late = λ k T p e q. under-unlist t u d i p x (lost-head (Done k T p) q);
-        loosens = λ p T set e q. under-loosen t u d i p set x (lost-head (WrittenSet p T set) q);
+        loosens = λ p T set e c q. under-loosen t u d i p _ x (lost-head (WrittenSet p T set) q);
+        loosens-new = λ p T set e k r q. under-loosen t u d i p _ (notice i T x) (noted (WrittenSet p T set) T (heard-good w h i b T k r) q);
         loosens-late = λ p T set e q. lost-head (WrittenSet p T set) q;
       }
 

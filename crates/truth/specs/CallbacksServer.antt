@@ -10,7 +10,7 @@ use Rattle.sets.specs.Base.{upd, upd2, snoc, has}
 use Rattle.sets.specs.Laws.{byB, byEq, eqb-same, eqb-yes, eqb-no, any-no, not-yes}
 use Rattle.line.specs.Messages.{pageOf, lastNumber, Work, Up, Lock, NoLock, ObjectLock, WholeLock, Down, Page, Deescalate, Committed, Aborted, Invalidate, Sent, To}
 use Rattle.line.specs.Station.{Station}
-use Rattle.line.specs.Server.{End, ByCommit, ByCause, Server, Serving, onServer, send, setListed, setAsked, setOl, setWl, valuesOn, unavailable, Waiter, isWant, noWaiter, waits, badNumber, notice, finish, join, leave, sendPage, abort, write, archive, install, commitNow, markBusy, answered, ask, serveRead, concerned, call, grantObject, grantPage, allAnswered}
+use Rattle.line.specs.Server.{End, ByCommit, ByCause, Server, Serving, onServer, send, setListed, setAsked, setOl, setWl, valuesOn, unavailable, Waiter, isWant, noWaiter, waits, badNumber, notice, finish, join, leave, sendPage, abort, write, archive, install, commitNow, markBusy, answered, ask, serveRead, concerned, call, grantObject, grantPage, allAnswered, setWholeFor}
 use Rattle.line.specs.Line.{sentTo}
 use Rattle.line.specs.Laws.{sentTo-snoc}
 use Rattle.line.specs.Apart.{GoodNumber, good-number}
@@ -104,7 +104,7 @@ module _ (t : ℕ → Station) (u : ℕ → List Up) (d : ℕ → List Down) (r 
 
   pub ask-calls : (k p : ℕ) (x : Serving) → CallsIn t u d r j x → CallsIn t u d r j (ask k p x)
   unfolding ask
-  ask-calls k p x h = send-calls k (Deescalate p (x .server .latest k)) (onServer x (setAsked (x .server) (upd (x .server .asked) p true))) refl tt h
+  ask-calls k p x h = send-calls k (Deescalate p (x .server .wholeFor p)) (onServer x (setAsked (x .server) (upd (x .server .asked) p true))) refl tt h
 
   pub read-calls : (i : ℕ) (x : Serving) → x .server .queue i .called ≡ false → CallsIn t u d r j x → CallsIn t u d r j (serveRead i x)
   unfolding serveRead
@@ -132,7 +132,7 @@ module _ (t : ℕ → Station) (u : ℕ → List Up) (d : ℕ → List Down) (r 
       let s : Server = x .server in
       let a : ℕ = s .queue i .req in
       let y : Serving = leave i x in
-      page-calls WholeLock i a (unavailable s i a) (onServer y (setWl (setAsked (y .server) (upd (s .asked) (pageOf a) false)) (upd (s .wl) (pageOf a) (suc i)))) (granted-calls i x b c h)
+      page-calls WholeLock i a (unavailable s i a) (onServer y (setWl (setWholeFor (setAsked (y .server) (upd (s .asked) (pageOf a) false)) (upd (s .wholeFor) (pageOf a) (s .latest i))) (upd (s .wl) (pageOf a) (suc i)))) (granted-calls i x b c h)
 
   -- P.call: of r itself ..
   own-calls : (x : Serving) → waits (x .server) r ≡ true → x .server .queue r .called ≡ false → x .server .fin r ≡ false → CallsIn t u d r j x → CallsIn t u d r j (call r x)

@@ -8,7 +8,7 @@ use lib.Dec.{eqb}
 use Rattle.sets.specs.Base.{upd, snoc}
 use Rattle.sets.specs.Laws.{byB, byEq, eqb-yes, eqb-no}
 use Rattle.line.specs.Messages.{locking, Up, ReadRequest, WriteRequest, Commit, Abort, Purge, Busy, Done, WrittenSet, Lock, NoLock, ObjectLock, WholeLock, Down, Callback, Nothing}
-use Rattle.line.specs.Station.{Station, Did, does, didStation, setKept, Kept, NotKept, KeptCall, workOf, live, drops, mark, dropPages, recordRead, writeLocal, doCallback, closed, close, undo, readLocal, readAsk, writeAsk, arrive, takeLock, writtenOn, loosen, onDeescalate, onCommitted, onAborted, stationStep}
+use Rattle.line.specs.Station.{Station, Did, does, didStation, setKept, Kept, NotKept, KeptCall, workOf, live, drops, mark, dropPages, recordRead, writeLocal, doCallback, closed, close, undo, readLocal, readAsk, writeAsk, arrive, takeLock, writtenOn, loosen, onDeescalate, onCommitted, onAborted, stationStep, givesUp, answersFor}
 use Rattle.line.specs.Server.{Waiter}
 use Rattle.line.specs.Line.{Op, perform}
 use Rattle.truth.specs.Clauses.{Callbacks}
@@ -79,7 +79,7 @@ module _ (r L : ℕ) (F : Bool) (q : Waiter) (p : Bool) (U : List Up) (D : List 
           writes-ask = λ p f b c e. byB (locking (s .kind)) (λ z. rw z (push-up (WriteRequest p (s .num) _) refl tt h)) (λ z. rw z (push-up (ReadRequest _ (s .num)) refl tt h));
           commits = λ a. push-up (Commit (workOf s)) refl tt h;
           aborts = λ a. close-calls _ (rw (undo-kept s r) (byB (locking (s .kind)) (λ z. rw z (push-up (Abort (s .num)) refl tt h)) (λ z. rw z (still (s .kept r) h))));
-          purges = λ k a b c e. push-up (Purge k) refl tt h;
+          purges = λ k a b c e n. push-up (Purge k) refl tt h;
         }
 
     pub owner-calls : (op : Op) → CallsDid r L F q p U D (perform op s)
@@ -110,8 +110,9 @@ module _ (r L : ℕ) (F : Bool) (q : Waiter) (p : Bool) (U : List Up) (D : List 
           page-read = λ a t v u x e f h. rw (arrived-kept NoLock a v u x s r) (still (s .kept r) (pop-down _ h));
           page-write = λ l a t v u x p y e f g c h. rw (arrived-kept l a v u x s r) (still (s .kept r) (pop-down _ h));
           deescalates = λ k t e h.
-              let g : Callbacks r L F q p (s .kept r) (snoc U (WrittenSet k t (writtenOn k t s))) D = push-up (WrittenSet k t (writtenOn k t s)) refl tt (pop-down _ h) in
-              byB (live s t && s .wl k) (λ z. rw z g) (λ z. rw z g);
+              let v : ℕ = answersFor t s in
+              let g : Callbacks r L F q p (s .kept r) (snoc U (WrittenSet k v (writtenOn k v s))) D = push-up (WrittenSet k v (writtenOn k v s)) refl tt (pop-down _ h) in
+              byB (givesUp k t s) (λ z. rw z g) (λ z. rw z g);
           keeps = λ k t set e f h.
               byEq r k
               (λ z.

@@ -10,9 +10,9 @@ use Rattle.sets.specs.Base.{upd, snoc, nowhere, Val, none, has, any}
 use Rattle.sets.specs.Laws.{byB, byEq, eqb-same, eqb-yes, and-l, and-r, or-yes, or-no, not-yes, any-no}
 use Rattle.line.specs.All.{All, all-map}
 use Rattle.line.specs.Messages.{pageOf, address, locking, lastNumber, Work, Up, ReadRequest, WriteRequest, Commit, Abort, Purge, Busy, Done, WrittenSet, Lock, NoLock, ObjectLock, WholeLock, Down, Page, Deescalate, Callback, Committed, Aborted, Invalidate, AbortedFor}
-use Rattle.line.specs.Station.{Station, Did, does, setKept, Wait, Idle, ForRead, ForWrite, ForCommit, forRead, forWrite, requested, live, usedAt, usedPage, drops, dropPages, mark, recordRead, writeLocal, doCallback, closed, close, undo, readLocal, readAsk, writeAsk, arrive, takeLock, onDeescalate, onCommitted, onAborted, stationStep, workOf, writesTo}
+use Rattle.line.specs.Station.{Station, Did, does, setKept, Wait, Idle, ForRead, ForWrite, ForCommit, forRead, forWrite, requested, live, usedAt, usedPage, drops, dropPages, mark, recordRead, writeLocal, doCallback, closed, close, undo, readLocal, readAsk, writeAsk, arrive, takeLock, onDeescalate, onCommitted, onAborted, stationStep, workOf, writesTo, givesUp, answersFor, keptWhole}
 use Rattle.line.specs.Station as S
-use Rattle.line.specs.Server.{ByCommit, ByCause, Server, Serving, send, onServer, setQueue, setAsked, setOl, setWl, valuesOn, unavailable, Waiter, waiterPend, waiterCalled, Want, NoWant, WantRead, WantWrite, WantCommit, waits, unexpected, notice, finish, join, leave, sendPage, abort, write, archive, install, serveNow, joinRead, joinWrite, joinCommit, commitNow, unlist, markBusy, answered, loosen, accept, ask, serveRead, concerned, call, grantPage, grantObject, installWaiter, start}
+use Rattle.line.specs.Server.{ByCommit, ByCause, Server, Serving, send, onServer, setQueue, setAsked, setOl, setWl, valuesOn, unavailable, Waiter, waiterPend, waiterCalled, Want, NoWant, WantRead, WantWrite, WantCommit, waits, unexpected, notice, finish, join, leave, sendPage, abort, write, archive, install, serveNow, joinRead, joinWrite, joinCommit, commitNow, unlist, markBusy, answered, loosen, accept, ask, serveRead, concerned, call, grantPage, grantObject, installWaiter, start, setWholeFor}
 use Rattle.line.specs.Line.{Op, Call, fresh, run, perform, sentTo}
 use Rattle.line.specs.Pass.{Atomic, if-keeps, step-keeps}
 use Rattle.line.specs.Runs.{Moves, run-keeps}
@@ -228,10 +228,18 @@ unused s p a n e =
 
 -- a callback drops no page used or asked for
 pub drops-unused : (set : ℕ → Bool) (s : Station) (p : ℕ) → drops set s p ≡ true → usedPage s p ≡ false
-drops-unused set s p e = not-yes (usedPage s p) (and-r (s .cached p && any 8 (λ o. set (address p o))) _ (and-l (s .cached p && any 8 (λ o. set (address p o)) && not (usedPage s p)) _ e))
+drops-unused set s p e =
+    let named : Bool = s .cached p && any 8 (λ o. set (address p o)) in
+    not-yes (usedPage s p) (and-r named _ (and-l (named && not (usedPage s p)) _ (and-l (named && not (usedPage s p) && not (requested (s .wait) p)) _ e)))
 
 pub drops-unasked : (set : ℕ → Bool) (s : Station) (p : ℕ) → drops set s p ≡ true → requested (s .wait) p ≡ false
-drops-unasked set s p e = not-yes (requested (s .wait) p) (and-r (s .cached p && any 8 (λ o. set (address p o)) && not (usedPage s p)) _ e)
+drops-unasked set s p e =
+    let unused : Bool = s .cached p && any 8 (λ o. set (address p o)) && not (usedPage s p) in
+    not-yes (requested (s .wait) p) (and-r unused _ (and-l (unused && not (requested (s .wait) p)) _ e))
+
+-- nor one under a kept lock
+pub drops-unkept : (set : ℕ → Bool) (s : Station) (p : ℕ) → drops set s p ≡ true → keptWhole s p ≡ false
+drops-unkept set s p e = not-yes (keptWhole s p) (and-r (s .cached p && any 8 (λ o. set (address p o)) && not (usedPage s p) && not (requested (s .wait) p)) _ e)
 
 -- what is read stays cached when pages not used are dropped
 kept-cached : (s : Station) (d : ℕ → Bool) → ((p : ℕ) → d p ≡ true → usedPage s p ≡ false) → ((a : ℕ) → has (s .rd a) ≡ true → s .cached (pageOf a) ≡ true) → (a : ℕ) → has (s .rd a) ≡ true → (not (d (pageOf a)) && s .cached (pageOf a)) ≡ true
@@ -328,7 +336,7 @@ module _ (skind : ℕ) (q : Waiter) (latest : ℕ) (fin : Bool) (listed : ℕ �
               ending listed (q .want) (q .req) U D (does (AbortedFor 0) (undo s) (cond (locking (s .kind)) (Abort (s .num) ∷ []) []))
               (λ p. rw k (unasked-add (Abort (s .num)) refl (n p)))
               (λ p. rw (undo-cached s k, k) (add-plain (c .page p) (Abort (s .num)) refl));
-          purges = λ p b r n e.
+          purges = λ p b r n e v.
               record {
                 page = λ x. add-drop (c .page x) (Purge p) refl (λ y. tokens-unasked h k x (rw (eqb-yes x p y) r));
                 C3 = kept-cached s (λ x. eqb x p) (λ x y. rw (eqb-yes x p y) n) (c .C3);
@@ -368,8 +376,8 @@ module _ (skind : ℕ) (q : Waiter) (latest : ℕ) (fin : Bool) (listed : ℕ �
         page-write = λ l a t v u x p y e f o g h c.
             rw (lock-cached l a s, lock-rd l a s) (page-cover listed (q .want) (q .req) U D s a (Page l a t v u x) (s .rd) (λ p. refl) (λ b z n. z) c);
         deescalates = λ p t e h c.
-            let g = answers (Deescalate p t) (WrittenSet p t _) (λ x. refl) c in
-            byB (live s t && s .wl p) (λ z. rw z g) (λ z. rw z g);
+            let g = answers (Deescalate p t) (WrittenSet p (answersFor t s) _) (λ x. refl) c in
+            byB (givesUp p t s) (λ z. rw z g) (λ z. rw z g);
         keeps = λ r t set e f h c. answers (Callback r t set) (Busy r t) (λ x. refl) c;
         dones = λ r t set e f h c.
             record {
@@ -495,7 +503,7 @@ module _ (st : ℕ → Station) (u : ℕ → List Up) (d : ℕ → List Down) wh
   atomic-cover =
       record {
         aborts = λ i c x b t h. abort-cover i c x h;
-        asks = λ i g p x b t e h. send-cover g (Deescalate p (x .server .latest g)) (onServer x (setAsked (x .server) (upd (x .server .asked) p true))) (λ q. refl) (record { kinds = h .kinds; cover = h .cover });
+        asks = λ i g p x b t e h. send-cover g (Deescalate p (x .server .wholeFor p)) (onServer x (setAsked (x .server) (upd (x .server .asked) p true))) (λ q. refl) (record { kinds = h .kinds; cover = h .cover });
         reads = λ i x b w c h.
             let a : ℕ = x .server .queue i .req in
             page-sent NoLock i a (unavailable (x .server) i a) (leave i x) (no-drop i x h (λ p. rw w refl)) (leave-cover i x h);
@@ -509,7 +517,7 @@ module _ (st : ℕ → Station) (u : ℕ → List Up) (d : ℕ → List Down) wh
             let a : ℕ = x .server .queue i .req in
             let y : Serving = leave i x in
             let g = leave-cover i x h in
-            page-sent WholeLock i a (unavailable (x .server) i a) (onServer y (setWl (setAsked (y .server) (upd (x .server .asked) (pageOf a) false)) (upd (x .server .wl) (pageOf a) (suc i)))) (no-drop i x h (λ p. rw w refl)) (record { kinds = g .kinds; cover = g .cover });
+            page-sent WholeLock i a (unavailable (x .server) i a) (onServer y (setWl (setWholeFor (setAsked (y .server) (upd (x .server .asked) (pageOf a) false)) (upd (x .server .wholeFor) (pageOf a) (x .server .latest i))) (upd (x .server .wl) (pageOf a) (suc i)))) (no-drop i x h (λ p. rw w refl)) (record { kinds = g .kinds; cover = g .cover });
         installs = λ i x b w f r h. install-cover i (x .server .queue i .work) x h;
       }
 
@@ -594,7 +602,8 @@ module _ (i : ℕ) (l : List Up) (s : Server) (st : ℕ → Station) (u : ℕ �
         busy-late = λ r t o g. taken (Busy r t) g;
         dones = λ r t c o g. requeued r _ (unlist i c x) refl refl (unlisted (Done r t c) c (λ q. refl) g);
         done-late = λ r t c o g. unlisted (Done r t c) c (λ q. refl) g;
-        loosens = λ p t set o g. let c = taken (WrittenSet p t set) g in record { kinds = c .kinds; cover = c .cover };
+        loosens = λ p t set o b g. let c = taken (WrittenSet p t set) g in record { kinds = c .kinds; cover = c .cover };
+        loosens-new = λ p t set o k r g. let c = t′ t (WrittenSet p t set) g in record { kinds = c .kinds; cover = c .cover };
         loosens-late = λ p t set o g. taken (WrittenSet p t set) g;
       }
 

@@ -9,13 +9,13 @@ use Rattle.sets.specs.Base.{upd, none, has}
 use Rattle.sets.specs.Laws.{byB, byEq, eqb-same, eqb-yes, and-l, and-r}
 use Rattle.line.specs.Messages.{pageOf, lastNumber, locking, Work, Up, Done, WrittenSet, Down}
 use Rattle.line.specs.Station.{Station}
-use Rattle.line.specs.Server.{End, ByMessage, Server, Serving, Waiter, waiterBusy, waiterPend, isWant, waits, other, badNumber, unexpected, notice, finish, join, leave, sendPage, abort, write, archive, install, serveNow, joinRead, joinWrite, joinCommit, commitNow, unlist, openCall, markBusy, answered, loosen, accept, start}
+use Rattle.line.specs.Server.{End, ByMessage, Server, Serving, Waiter, waiterBusy, waiterPend, isWant, waits, other, badNumber, unexpected, notice, finish, join, leave, sendPage, abort, write, archive, install, serveNow, joinRead, joinWrite, joinCommit, commitNow, unlist, openCall, markBusy, answered, loosen, accept, start, openAsk, heeded}
 use Rattle.line.specs.Line.{World, carryDown}
-use Rattle.line.specs.Apart.{good-number}
+use Rattle.line.specs.Apart.{good-number, asked-of}
 use Rattle.line.specs.Truth.{count}
 use Rattle.truth.specs.Clauses.{doneOf}
 use Rattle.truth.specs.Frame.{append-nil, Accepts, accepts, if-serving, installs}
-use Rattle.truth.specs.Inv.{Inv, ExclusionOf, taken}
+use Rattle.truth.specs.Inv.{Inv, ExclusionOf, taken, heard-good}
 use Rattle.truth.specs.Exclusion.{unlisted-hidden, read-free, called-less, Exclusive, ExclusiveIn, lines, Known, KnownApart, known, exclusion-in}
 use Rattle.truth.specs.ExclusionFields.{objects-keep, wholes-keep, listed-keeps, queue-keeps, up-keeps, lines-keep, finish-keeps, entry-keeps, leave-keeps, send-keeps, tell-keeps}
 
@@ -26,7 +26,7 @@ module _ (t : ℕ → Station) (u : ℕ → List Up) (e : ℕ → List Down) whe
 
   pub abort-keeps : (i c : ℕ) (x : Serving) → During x → During (abort i c x)
   unfolding abort finish leave
-  abort-keeps i c x h = tell-keeps e (x .sent) (finish-keeps (leave-keeps h i) i) i _ (λ a. refl)
+  abort-keeps i c x h = tell-keeps e (x .sent) (finish-keeps (leave-keeps h i) (x .server .kind i) i) i _ (λ a. refl)
 
   -- a list that loses pages
   fewer : (i : ℕ) (x : Serving) (d : ℕ → Bool) → During x → During (unlist i d x)
@@ -37,7 +37,7 @@ module _ (t : ℕ → Station) (u : ℕ → List Up) (e : ℕ → List Down) whe
   unfolding finish archive write leave
   install-keeps i w x h =
       installs During i w (λ j y o g. tell-keeps e (y .sent) g j _ (λ a. refl))
-      x (tell-keeps e (x .sent) (finish-keeps (leave-keeps h i) i) i _ (λ a. refl))
+      x (tell-keeps e (x .sent) (finish-keeps (leave-keeps h i) (x .server .kind i) i) i _ (λ a. refl))
 
   -- a new transaction of a station that does not wait
   notice-keeps : (i n : ℕ) (x : Serving) → waits (x .server) i ≡ false → During x → During (notice i n x)
@@ -69,7 +69,7 @@ module _ (t : ℕ → Station) (u : ℕ → List Up) (e : ℕ → List Down) whe
 
   finished : (i : ℕ) (e : End) (x : Serving) → During x → During (finish i e x)
   unfolding finish
-  finished i e x h = finish-keeps h i
+  finished i e x h = finish-keeps h (x .server .kind i) i
 
   busy-keeps : (i r : ℕ) (x : Serving) → During x → During (markBusy i r x)
   unfolding markBusy
@@ -150,7 +150,7 @@ module _ (s : Server) (t : ℕ → Station) (u : ℕ → List Up) (d : ℕ → L
 
 module _ (apart : KnownApart) where
   pub exclusion-accepted : (i : ℕ) (m : Up) (l : List Up) (w : World) → i < 8 → w .up i ≡ m ∷ l → unexpected i m (w .server) ≡ false → Inv w → ExclusionOf (carryDown (accept i m (start (w .server))) (taken i l w))
-  unfolding joinRead joinWrite joinCommit answered unlist loosen
+  unfolding joinRead joinWrite joinCommit answered unlist loosen notice
   exclusion-accepted i m l w b q e h =
       exclusion-in (taken i l w) (accept i m (start (w .server))) (accepts i x (λ n y. w .up i ≡ n ∷ l → During t u′ (w .down) y) moves m e q)
     where
@@ -181,6 +181,20 @@ module _ (apart : KnownApart) where
       seen : (n : ℕ) (k : Up) → badNumber s i n ≡ false → w .up i ≡ k ∷ l → During t u′ (w .down) (notice i n x)
       seen n k o p = notice-keeps t u′ (w .down) i n x (good-number s i n o .idle) (base k p)
 
+      -- an 8: whatever set of it is locked
+      loosed : (c n : ℕ) (set v : ℕ → Bool) → openAsk s i c n ≡ true → w .up i ≡ WrittenSet c n set ∷ l → During t u′ (w .down) (loosen i c v x)
+      loosed c n set v o p =
+          ended (up-keeps (loosen-keeps s t (w .up) (w .down) i g c v (asked-of s i c n o)) u′ (shorter s t (w .up) (w .down) i l (g .exclusive) (WrittenSet c n set) p))
+
+      loosed-new : (c n : ℕ) (set v : ℕ → Bool) → openAsk s i c n ≡ true → badNumber s i n ≡ false → w .up i ≡ WrittenSet c n set ∷ l → During t u′ (w .down) (loosen i c v (notice i n x))
+      loosed-new c n set v o k p =
+          let h = loosed c n set v o p in
+          if-serving (λ y. During t u′ (w .down) (loosen i c v y)) (eqb n (s .latest i)) (λ q. h)
+          (λ q.
+          queue-keeps h (s .queue) (upd (s .latest) i n)
+          (λ r z f. record { waits = z; called = f; writes = λ a y. y; pend = λ j. refl })
+          (λ r z f. byEq r i (λ y. absurd (false≢true (sym (good-number s i n k .idle) ∙ (rw (eqb-yes r i y) at z)))) (λ y. rw y refl)))
+
       moves : Accepts i x (λ n y. w .up i ≡ n ∷ l → During t u′ (w .down) y)
       moves =
           record {
@@ -197,8 +211,7 @@ module _ (apart : KnownApart) where
                 ended (listed-keeps (done-keeps s t (w .up) (w .down) i l (g .exclusive) r n d p o) _
                 (λ j a c f k y z. byEq j i (λ v. rw (v, z) refl) (λ v. rw (v, z) refl)));
             done-late = λ r n d o p. fewer t u′ (w .down) i x d (base _ p);
-            loosens = λ c n set o p.
-                let held : s .wl c ≡ suc i = eqb-yes (s .wl c) (suc i) (and-l (eqb (s .wl c) (suc i)) _ (and-l _ (not (s .fin i)) (and-l _ (eqb n (s .latest i)) o))) in
-                ended (up-keeps (loosen-keeps s t (w .up) (w .down) i g c set held) u′ (shorter s t (w .up) (w .down) i l (g .exclusive) (WrittenSet c n set) p));
+            loosens = λ c n set o v p. loosed c n set (heeded s i n set) o p;
+            loosens-new = λ c n set o k r p. loosed-new c n set (heeded ((notice i n x) .server) i n set) o (heard-good w h i b n k r) p;
             loosens-late = λ c n set o p. base _ p;
           }

@@ -9,7 +9,7 @@ use Rattle.sets.specs.Base.{upd, snoc, has}
 use Rattle.sets.specs.Laws.{byB, byEq, eqb-yes, eqb-no}
 use Rattle.line.specs.Messages.{pageOf, locking, Up, Down, Sent, To}
 use Rattle.line.specs.Station.{Station}
-use Rattle.line.specs.Server.{Waiter, noWaiter, isWant, other}
+use Rattle.line.specs.Server.{Waiter, noWaiter, isWant, other, unlocks}
 use Rattle.line.specs.Line.{sentTo}
 use Rattle.line.specs.Truth.{count}
 use Rattle.truth.specs.Clauses.{doneOf, shows, Hidden, NoShowBehind}
@@ -24,8 +24,9 @@ pub record SameCall (v w : Waiter) : Type 0 where
   pub pend : (j : ℕ) → v .pend j ≡ w .pend j
 
 -- a lock left by `finish` was another's before
-left-other : (x i j : ℕ) → other (cond (eqb x (suc i)) 0 x) j ≡ true → other x j ≡ true
-left-other x i j o = byEq x (suc i) (λ e. absurd (false≢true (rw e at o))) (λ e. rw e at o)
+left-by : (b : Bool) (x j : ℕ) → other (cond b 0 x) j ≡ true → other x j ≡ true
+left-by true x j o = absurd (false≢true o)
+left-by false x j o = o
 
 pub eqb-off : (i r : ℕ) → eqb i r ≡ false → eqb r i ≡ false
 eqb-off i r e = byEq r i (λ f. absurd (eqb-no i r e (sym (eqb-yes r i f)))) (λ f. f)
@@ -104,15 +105,15 @@ module _ {t : ℕ → Station} {u : ℕ → List Up} {ol wl : ℕ → ℕ} {list
       }
 
   -- "every transaction's end frees its locks"
-  pub finish-keeps : (i : ℕ) → Exclusive t u (λ a. cond (eqb (ol a) (suc i)) 0 (ol a)) (λ p. cond (eqb (wl p) (suc i)) 0 (wl p)) listed latest queue d
-  finish-keeps i =
+  pub finish-keeps : (k i : ℕ) → Exclusive t u (λ a. cond (eqb (ol a) (suc i)) 0 (ol a)) (λ p. cond (unlocks k i (wl p)) 0 (wl p)) listed latest queue d
+  finish-keeps k i =
       record {
         locked = λ j a b c q.
             let l = h .locked j a b c q in
             record {
-              F1 = λ o. l .F1 (left-other (ol a) i j o);
-              F2a = λ o. l .F2a (left-other (wl (pageOf a)) i j o);
-              F3a = λ e. byB (other (cond (eqb (ol a) (suc i)) 0 (ol a)) j) (λ o. absurd (false≢true (sym (l .F3a e) ∙ left-other (ol a) i j o))) (λ o. o);
+              F1 = λ o. l .F1 (left-by (eqb (ol a) (suc i)) (ol a) j o);
+              F2a = λ o. l .F2a (left-by (unlocks k i (wl (pageOf a))) (wl (pageOf a)) j o);
+              F3a = λ e. byB (other (cond (eqb (ol a) (suc i)) 0 (ol a)) j) (λ o. absurd (false≢true (sym (l .F3a e) ∙ left-by (eqb (ol a) (suc i)) (ol a) j o))) (λ o. o);
             };
         called = h .called;
       }

@@ -8,7 +8,7 @@ use lib.Dec.{eqb}
 use Rattle.sets.specs.Base.{upd, snoc, has, any, Val}
 use Rattle.sets.specs.Laws.{byB, byEq, eqb-same, eqb-yes, any-no, and-l, and-r, or-no}
 use Rattle.line.specs.Messages.{pageOf, locking, Up, ReadRequest, WriteRequest, Abort, Done, Lock, NoLock, ObjectLock, WholeLock, Down, Page, Deescalate, Callback, Answer, Nothing, Begun, Value, Waits, Written, CommittedAs, AbortedFor, Purged, Refused, Empty}
-use Rattle.line.specs.Station.{Station, Did, does, didStation, setKept, NotKept, KeptCall, live, usedAt, shown, drops, dropPages, mark, recordRead, writeLocal, doCallback, closed, close, undo, wrotePage, readLocal, readAsk, writeAsk, arrive, takeLock, loosen, onDeescalate, onCommitted, onAborted, stationStep}
+use Rattle.line.specs.Station.{Station, Did, does, didStation, setKept, NotKept, KeptCall, live, usedAt, shown, drops, dropPages, mark, recordRead, writeLocal, doCallback, closed, close, undo, wrotePage, readLocal, readAsk, writeAsk, arrive, takeLock, loosen, onDeescalate, onCommitted, onAborted, stationStep, givesUp, answersFor}
 use Rattle.line.specs.Server.{Server, other}
 use Rattle.line.specs.Line.{World, worldDown, Op, perform, tell, carryUp, isRefused}
 use Rattle.line.specs.Truth.{count}
@@ -273,7 +273,7 @@ module _ (s : Server) (t : ℕ → Station) (u : ℕ → List Up) (d : ℕ → L
             aborts = λ e.
                 fine-end _ (d i) (undone-kind (t i)) (undone-less (t i)) (undone-kept (t i)) leaves
                 (λ q a. idle-none (t i .kind) (t i .num) (t i .opened) (t i .wait) q (e .idle) a (d i) (h .tokens i b .S1b-down));
-            purges = λ p c e f g. still _ (drop-less (λ q. eqb q p) (t i)) (λ r n. refl);
+            purges = λ p c e f g k. still _ (drop-less (λ q. eqb q p) (t i)) (λ r n. refl);
           }
 
   module _ (l : List Down) where
@@ -387,7 +387,7 @@ module _ (s : Server) (t : ℕ → Station) (u : ℕ → List Up) (d : ℕ → L
     unfolding onDeescalate loosen
     deescalates p n q =
         fine-tail (Deescalate p n) q _
-        (byB (live (t i) n && t i .wl p) (λ e. rw e (record { kind = refl; shows = λ a z. z; rd = λ a z. z })) (λ e. rw e (same-less (t i))))
+        (byB (givesUp p n (t i)) (λ e. rw e (record { kind = refl; shows = λ a z. z; rd = λ a z. z })) (λ e. rw e (same-less (t i))))
         (λ r c. refl)
 
     pub station-fine : (m : Down) → d i ≡ m ∷ l → isRefused ((stationStep m (t i)) .answer) ≡ false → Fine s i (u i) l (stationStep m (t i))

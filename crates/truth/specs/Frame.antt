@@ -9,12 +9,12 @@ use lib.Dec.{eqb, ltb}
 use Rattle.sets.specs.Base.{upd, snoc, Val, none, some, has, any, turned}
 use Rattle.sets.specs.Laws.{byB, byEq, eqb-same, eqb-yes, eqb-no, ltb-yes, ltb-no, and-l, and-r, or-yes, or-no, not-yes, not-no}
 use Rattle.line.specs.All.{All, all-append}
-use Rattle.line.specs.Messages.{pageOf, locking, Work, Up, ReadRequest, WriteRequest, Commit, Abort, Purge, Busy, Done, WrittenSet, Lock, NoLock, ObjectLock, WholeLock, Down, Page, Deescalate, Callback, Committed, Aborted, Invalidate, Sent, To, Nothing, Begun, Value, Waits, Written, AbortedFor, Purged, Refused}
-use Rattle.line.specs.Station.{Station, Did, does, didStation, unless, setKept, setNum, setOpened, setWait, Wait, Idle, ForRead, ForWrite, ForCommit, waiting, forRead, forWrite, writesTo, forCommit, requested, Kept, NotKept, KeptCall, live, usedAt, usedPage, shown, workOf, ended, fits, fitsPage, checkBegin, openThen, checkOpen, longRead, longWrite, checkRead, someOn, badSet, checkWrite, checkPurge, dropPages, recordRead, writeLocal, doCallback, doKept, doAllKept, closed, close, undo, ownBegin, readLocal, readAsk, readAs, ownRead, named, writeAsk, writeSet, ofPage, ownWrite, ownCommit, ownAbort, ownPurge, arrive, takeLock, answerWait, onPage, onDeescalate, onCallback, onCommitted, onAborted, onInvalidate, onDown, stationStep, inUse, ignored, mark}
-use Rattle.line.specs.Server.{Server, Serving, send, informed, write, archive, inform, informFrom, install, badNumber, unlocked, lockOn, unexpected, notice, finish, leave, serveNow, joinRead, joinWrite, joinCommit, commitNow, unlist, openCall, markBusy, answered, openAsk, loosen, accept, concerned, callsFrom, ByCommit, ByMessage}
+use Rattle.line.specs.Messages.{pageOf, locking, Work, Up, ReadRequest, WriteRequest, Commit, Abort, Purge, Busy, Done, WrittenSet, Lock, NoLock, ObjectLock, WholeLock, Down, Page, Deescalate, Callback, Committed, Aborted, Invalidate, Sent, To, Nothing, Begun, Value, Waits, Written, AbortedFor, Purged, Refused, keeps}
+use Rattle.line.specs.Station.{Station, Did, does, didStation, unless, setKept, setNum, setOpened, setWait, Wait, Idle, ForRead, ForWrite, ForCommit, waiting, forRead, forWrite, writesTo, forCommit, requested, Kept, NotKept, KeptCall, live, usedAt, usedPage, shown, workOf, ended, fits, fitsPage, checkBegin, openThen, checkOpen, longRead, longWrite, checkRead, someOn, badSet, checkWrite, checkPurge, dropPages, recordRead, writeLocal, doCallback, doKept, doAllKept, closed, close, undo, ownBegin, readLocal, readAsk, readAs, ownRead, named, writeAsk, writeSet, ofPage, ownWrite, ownCommit, ownAbort, ownPurge, arrive, takeLock, answerWait, onPage, onDeescalate, onCallback, onCommitted, onAborted, onInvalidate, onDown, stationStep, inUse, ignored, mark, keptWhole}
+use Rattle.line.specs.Server.{Server, Serving, send, informed, write, archive, inform, informFrom, install, badNumber, unlocked, lockOn, unexpected, notice, finish, leave, serveNow, joinRead, joinWrite, joinCommit, commitNow, unlist, openCall, markBusy, answered, openAsk, loosen, accept, concerned, callsFrom, ByCommit, ByMessage, meet, heeded, heed}
 use Rattle.line.specs.Line.{Op, Begin, Read, WriteSet, Commits, Aborts, Purges, perform, sentTo}
 use Rattle.line.specs.Laws.{sentTo-snoc}
-use Rattle.line.specs.Apart.{good-number}
+use Rattle.line.specs.Apart.{good-number, Renews, heard-keeps, heard-renews}
 use Rattle.line.specs.Truth.{In, here, there, count}
 use Rattle.line.specs.Asks.{Asks, set-asks}
 
@@ -202,7 +202,7 @@ pub record Owns (s : Station) (P : Op → Did → Type 0) : Type 0 where
   pub writes-ask : (p : ℕ) (f : ℕ → Val) → Asks p (ofPage p f) → Active s → someOn p (named (ofPage p f) s) ≡ true → P (WriteSet p f) (writeAsk p (ofPage p f) s)
   pub commits : Active s → P Commits (does Waits (setWait s ForCommit) (Commit (workOf s) ∷ []))
   pub aborts : Active s → P Aborts (close (does (AbortedFor 0) (undo s) (cond (locking (s .kind)) (Abort (s .num) ∷ []) [])))
-  pub purges : (p : ℕ) → p < 32 → requested (s .wait) p ≡ false → usedPage s p ≡ false → s .cached p ≡ true → P (Purges p) (does Purged (dropPages (λ q. eqb q p) s) (Purge p ∷ []))
+  pub purges : (p : ℕ) → p < 32 → requested (s .wait) p ≡ false → usedPage s p ≡ false → s .cached p ≡ true → keptWhole s p ≡ false → P (Purges p) (does Purged (dropPages (λ q. eqb q p) s) (Purge p ∷ []))
 
 pub if-did : (P : Did → Type 0) (b : Bool) {d e : Did} → (b ≡ true → P d) → (b ≡ false → P e) → P (cond b d e)
 if-did P true t f = t refl
@@ -259,8 +259,9 @@ module _ (s : Station) where
         (λ e.
         let u = passed (not (ltb p 32)) 4 _ refl e in
         let v = passed (requested (s .wait) p) 7 _ refl (u .1) in
-        let w = or-no (usedPage s p) (not (s .cached p)) (passed (usedPage s p || not (s .cached p)) 10 0 refl (v .1) .0) in
-        k .purges p (ltb-yes p 32 (not-no (ltb p 32) (u .0))) (v .0) (w .0) (not-no (s .cached p) (w .1)))
+        let x = or-no (usedPage s p || not (s .cached p)) (keptWhole s p) (passed (usedPage s p || not (s .cached p) || keptWhole s p) 10 0 refl (v .1) .0) in
+        let w = or-no (usedPage s p) (not (s .cached p)) (x .0) in
+        k .purges p (ltb-yes p 32 (not-no (ltb p 32) (u .0))) (v .0) (w .0) (not-no (s .cached p) (w .1)) (x .1))
 
 -- kept callbacks, when a transaction ends: P of the closed station, kept by each callback done, holds at the end
 module _ (P : Did → Type 0) (k : (r t : ℕ) (set : ℕ → Bool) (d : Did) → d .station .kept r ≡ KeptCall t set → P d → P (doCallback r t set (didStation d (setKept (d .station) (upd (d .station .kept) r NotKept))))) where
@@ -400,7 +401,10 @@ pub record Accepts (i : ℕ) (x : Serving) (P : Up → Serving → Type 0) : Typ
   pub busy-late : (r t : ℕ) → openCall (x .server) i r t ≡ false → P (Busy r t) x
   pub dones : (r t : ℕ) (d : ℕ → Bool) → openCall (x .server) i r t ≡ true → P (Done r t d) (answered i r (unlist i d x))
   pub done-late : (r t : ℕ) (d : ℕ → Bool) → openCall (x .server) i r t ≡ false → P (Done r t d) (unlist i d x)
-  pub loosens : (p t : ℕ) (set : ℕ → Bool) → openAsk (x .server) i p t ≡ true → P (WrittenSet p t set) (loosen i p set x)
+  pub loosens : (p t : ℕ) (set : ℕ → Bool) → openAsk (x .server) i p t ≡ true → t ≤ x .server .latest i → P (WrittenSet p t set) (loosen i p (heeded (x .server) i t set) x)
+  -- wish 10: a transaction that the server has not met
+  pub loosens-new : (p t : ℕ) (set : ℕ → Bool) → openAsk (x .server) i p t ≡ true → keeps (x .server .kind i) ≡ true → Renews (x .server .kind i) (x .server .latest i) t (x .server .fin i)
+      → P (WrittenSet p t set) (loosen i p (heeded ((notice i t x) .server) i t set) (notice i t x))
   pub loosens-late : (p t : ℕ) (set : ℕ → Bool) → openAsk (x .server) i p t ≡ false → P (WrittenSet p t set) x
 
 pub if-serving : (P : Serving → Type 0) (b : Bool) {x y : Serving} → (b ≡ true → P x) → (b ≡ false → P y) → P (cond b x y)
@@ -408,7 +412,7 @@ if-serving P true t f = t refl
 if-serving P false t f = f refl
 
 pub accepts : (i : ℕ) (x : Serving) (P : Up → Serving → Type 0) → Accepts i x P → (m : Up) → unexpected i m (x .server) ≡ false → P m (accept i m x)
-unfolding accept
+unfolding accept heed meet
 accepts i x P k (ReadRequest a t) u = if-serving (P (ReadRequest a t)) (locking (x .server .kind i)) (λ e. k .read-waits a t u e) (λ e. k .read-now a t u e)
 accepts i x P k (WriteRequest p t set) u =
     let v = or-no (badNumber (x .server) i t) (not (locking (x .server .kind i))) u in
@@ -422,7 +426,13 @@ accepts i x P k (Abort t) u =
 accepts i x P k (Purge p) u = k .purges p u
 accepts i x P k (Busy r t) u = if-serving (P (Busy r t)) (openCall (x .server) i r t) (λ e. k .busy r t e) (λ e. k .busy-late r t e)
 accepts i x P k (Done r t d) u = if-serving (P (Done r t d)) (openCall (x .server) i r t) (λ e. k .dones r t d e) (λ e. k .done-late r t d e)
-accepts i x P k (WrittenSet p t set) u = if-serving (P (WrittenSet p t set)) (openAsk (x .server) i p t) (λ e. k .loosens p t set e) (λ e. k .loosens-late p t set e)
+accepts i x P k (WrittenSet p t set) u =
+    if-serving (P (WrittenSet p t set)) (openAsk (x .server) i p t)
+    (λ e.
+    if-serving (λ y. P (WrittenSet p t set) (loosen i p (heeded (y .server) i t set) y)) (ltb (x .server .latest i) t)
+    (λ q. k .loosens-new p t set e (heard-keeps (x .server) i p t e q) (heard-renews (x .server) i p t set u e q))
+    (λ q. k .loosens p t set e (ltb-no (x .server .latest i) t q)))
+    (λ e. k .loosens-late p t set e)
 
 -- INSTALL: the 21, then the 23s one by one
 module _ (P : Serving → Type 0) (i : ℕ) (w : Work)

@@ -88,7 +88,7 @@ module _ (w : World) where
   goals-acts =
       record {
         aborts = λ i c x b e h. aborts-keep i c x b e h;
-        asks = λ i g p x b e f h. quiet-keeps w x _ (To g (Deescalate p (x .server .latest g)) ∷ []) refl refl refl refl (refl, tt) (h .goals);
+        asks = λ i g p x b e f h. quiet-keeps w x _ (To g (Deescalate p (x .server .wholeFor p)) ∷ []) refl refl refl refl (refl, tt) (h .goals);
         reads = λ i x b e f h. quiet-keeps w x _ (To i (Page _ _ _ _ _ _) ∷ []) refl refl refl refl (refl, tt) (h .goals);
         calls = λ i x b e f g k h. quiet-keeps w x _ (callsFrom 8 0 (x .server) i) refl refl refl refl (calls-quiet 8 0 (x .server) i) (h .goals);
         objects = λ i x b e f h. quiet-keeps w x _ (To i (Page _ _ _ _ _ _) ∷ []) refl refl refl refl (refl, tt) (h .goals);
@@ -156,7 +156,8 @@ module _ (i : ℕ) (l : List Up) (w : World) (b : i < 8) (h : Inv w) where
         busy-late = λ r t u e. nothing _ refl refl refl refl;
         dones = λ r t d u e. nothing _ refl refl refl refl;
         done-late = λ r t d u e. nothing _ refl refl refl refl;
-        loosens = λ p t set u e. nothing _ refl refl refl refl;
+        loosens = λ p t set u c e. nothing _ refl refl refl refl;
+        loosens-new = λ p t set u k r e. let x = start (w .server) in nothing _ (noticed-sent i t x) (noticed-recs i t x) (noticed-last i t x) (noticed-val i t x);
         loosens-late = λ p t set u e. nothing _ refl refl refl refl;
       }
 

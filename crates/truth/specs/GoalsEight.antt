@@ -100,7 +100,8 @@ module _ (i : ℕ) (b : i < 8) (x : Serving) (h : Serving8 x) where
         busy-late = λ r t e. h;
         dones = λ r t d e. h;
         done-late = λ r t d e. h;
-        loosens = λ p t set e. h;
+        loosens = λ p t set e b. h;
+        loosens-new = λ p t set e k r. noticed-8 t;
         loosens-late = λ p t set e. h;
       })
 

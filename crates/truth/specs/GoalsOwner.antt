@@ -154,7 +154,7 @@ module _ (i : ℕ) (w : World) (b8 : i < 8) (h : Inv w) where
             ended-goals w i Aborts 0 _ (close-ends (w .station i .num) (AbortedFor 0) _ (undo-num (w .station i)) refl) (g .archived)
             (λ b rd wr. told-abort (g .owned i b) (act .opened) (none-due (act .idle)) 0 rd wr)
             (λ j b e. g .owned j b);
-        purges = λ p r q f u. record { archived = g .archived; owned = by-station _ i (λ b. rw (eqb-same i) (g .owned i b)) (λ j b e. rw e (g .owned j b)) };
+        purges = λ p r q f u k. record { archived = g .archived; owned = by-station _ i (λ b. rw (eqb-same i) (g .owned i b)) (λ j b e. rw e (g .owned j b)) };
       }
 
 pub goals-owner : (i : ℕ) (op : Op) (w : World) → i < 8 → Inv w → GoalsOf (afterOwner i op w)

@@ -7,7 +7,7 @@ use native.Mathlib.Omega.{arith}
 use Rattle.sets.specs.Base.{upd, none}
 use Rattle.sets.specs.Laws.{byB, eqb-same, eqb-yes, and-l, and-r, any-some}
 use Rattle.line.specs.Messages.{Lock, NoLock, ObjectLock, WholeLock, Up, Down, Page, Deescalate, Callback, Committed, Aborted, Invalidate, CommittedAs, AbortedFor}
-use Rattle.line.specs.Station.{Station, Did, Idle, forCommit, live, usedAt, dropPages, recordRead, writeLocal, mark, doCallback, loosen, arrive, takeLock, onDeescalate, onCommitted, onAborted, stationStep, inUse}
+use Rattle.line.specs.Station.{Station, Did, Idle, forCommit, live, usedAt, dropPages, recordRead, writeLocal, mark, doCallback, loosen, arrive, takeLock, onDeescalate, onCommitted, onAborted, stationStep, inUse, givesUp, answersFor}
 use Rattle.line.specs.Server.{Want, isWant}
 use Rattle.line.specs.Line.{World, worldDown, Read, ToldCommit, tell, carryUp, isRefused, writesOf}
 use Rattle.line.specs.Truth.{count}
@@ -113,7 +113,7 @@ module _ (i : ℕ) (l : List Down) (w : World) (b8 : i < 8) (h : Inv w) where
                   by-station _ i
                   (λ b.
                   let o = takes-next (Deescalate p t) tt (next _ q b) in
-                  rw (eqb-same i) (byB (live s t && s .wl p) (λ c. rw c o) (λ c. rw c o)))
+                  rw (eqb-same i) (byB (givesUp p t s) (λ c. rw c o) (λ c. rw c o)))
                   (λ j b c. rw c (g .owned j b));
             };
         keeps =

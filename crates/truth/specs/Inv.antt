@@ -5,11 +5,11 @@ use mathlib.Core.Bool.{true, false}
 use mathlib.Core.List.{List, _∷_}
 use Prim.Native.Nat.{ℕ, _<_}
 use Rattle.sets.specs.Base.{upd, any}
-use Rattle.line.specs.Messages.{pageOf, Up, Down}
+use Rattle.line.specs.Messages.{pageOf, Up, Down, keeps}
 use Rattle.line.specs.Station.{stationStep}
-use Rattle.line.specs.Server.{Serving, WantRead, WantWrite, WantCommit, waits, hinders, fault, abort, ask, serveRead, call, grantObject, grantPage, installWaiter, unexpected, accept, start}
+use Rattle.line.specs.Server.{Serving, WantRead, WantWrite, WantCommit, waits, hinders, fault, abort, ask, serveRead, call, grantObject, grantPage, installWaiter, unexpected, accept, start, badNumber}
 use Rattle.line.specs.Pass.{Clear, Ready, Shut}
-use Rattle.line.specs.Apart.{Apart}
+use Rattle.line.specs.Apart.{Apart, Renews, keeps-locks, renews-good}
 use Rattle.line.specs.Line.{World, worldUp, worldDown, Op, perform, tell, carryUp, carryDown, isRefused, fresh}
 use Rattle.truth.specs.Clauses.{TokensAt, CoverageAt, CallbacksAt, G4At, LockedAt, CalledAt, A2At, ValuesAt, Versions, ValidatedAt, Archived, OwnedAt}
 
@@ -52,6 +52,10 @@ pub record Inv (w : World) : Type 0 where
   pub values : ValuesOf w
   pub validated : ValidatedOf w
   pub goals : GoalsOf w
+
+-- a new number that an 8 brings is a good one
+pub heard-good : (w : World) → Inv w → (i : ℕ) → i < 8 → (t : ℕ) → keeps (w .server .kind i) ≡ true → Renews (w .server .kind i) (w .server .latest i) t (w .server .fin i) → badNumber (w .server) i t ≡ false
+heard-good w h i b t k r = renews-good (w .server) i t r (keeps-locks (w .server .kind i) k) (h .apart .waiting .entry i b .waits-open)
 
 -- the worlds after the moves
 abbrev pub afterOwner : ℕ → Op → World → World

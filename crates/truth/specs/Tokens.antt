@@ -10,12 +10,12 @@ use Rattle.sets.specs.Base.{upd, upd2, snoc, nowhere, Val, none, some, has, non
 use Rattle.sets.specs.Laws.{byB, byEq, eqb-same, eqb-yes, and-l, and-r, or-yes, not-no, any-some, any-yes, and-both}
 use Rattle.line.specs.All.{All, all-map}
 use Rattle.line.specs.Messages.{pageOf, address, locking, lastNumber, Work, Up, ReadRequest, WriteRequest, Commit, Abort, Purge, Busy, Done, WrittenSet, Lock, NoLock, ObjectLock, WholeLock, Down, Page, Deescalate, Callback, Committed, Aborted, Invalidate, AbortedFor, Written}
-use Rattle.line.specs.Station.{Station, Did, does, Wait, Idle, ForRead, ForWrite, ForCommit, waiting, forRead, forWrite, writesTo, forCommit, someOn, lowestOn, live, dropPages, mark, recordRead, orVal, writeLocal, doCallback, closed, close, undo, readLocal, readAsk, named, writeAsk, ofPage, arrive, takeLock, onDeescalate, onCommitted, onAborted, stationStep, workOf}
+use Rattle.line.specs.Station.{Station, Did, does, Wait, Idle, ForRead, ForWrite, ForCommit, waiting, forRead, forWrite, writesTo, forCommit, someOn, lowestOn, live, dropPages, mark, recordRead, orVal, writeLocal, doCallback, closed, close, undo, readLocal, readAsk, named, writeAsk, ofPage, arrive, takeLock, onDeescalate, onCommitted, onAborted, stationStep, workOf, givesUp, answersFor}
 use Rattle.line.specs.Station as S
-use Rattle.line.specs.Server.{End, ByCommit, ByCause, ByMessage, Server, Serving, send, onServer, setListed, setAsked, setOl, setWl, valuesOn, unavailable, Waiter, noWaiter, waiterPend, waiterCalled, waiterBusy, Want, NoWant, WantRead, WantWrite, WantCommit, isWant, waits, badNumber, unexpected, notice, finish, join, leave, sendPage, abort, write, archive, install, readWaiter, writeWaiter, commitWaiter, serveNow, joinRead, joinWrite, joinCommit, commitNow, unlist, openCall, markBusy, answered, loosen, accept, ask, serveRead, concerned, call, grantPage, grantObject, installWaiter, start}
+use Rattle.line.specs.Server.{End, ByCommit, ByCause, ByMessage, Server, Serving, send, onServer, setListed, setAsked, setOl, setWl, valuesOn, unavailable, Waiter, noWaiter, waiterPend, waiterCalled, waiterBusy, Want, NoWant, WantRead, WantWrite, WantCommit, isWant, waits, badNumber, unexpected, notice, finish, join, leave, sendPage, abort, write, archive, install, readWaiter, writeWaiter, commitWaiter, serveNow, joinRead, joinWrite, joinCommit, commitNow, unlist, openCall, markBusy, answered, loosen, accept, ask, serveRead, concerned, call, grantPage, grantObject, installWaiter, start, setWholeFor}
 use Rattle.line.specs.Line.{Op, Call, fresh, run, perform, sentTo}
 use Rattle.line.specs.Pass.{Atomic, if-keeps, step-keeps}
-use Rattle.line.specs.Apart.{good-number}
+use Rattle.line.specs.Apart.{good-number, renews-good, keeps-locks}
 use Rattle.line.specs.Runs.{Moves, run-keeps}
 use Rattle.line.specs.Truth.{In, count}
 use Rattle.truth.specs.Clauses.{stale, tokenUp, tokenDown, Fit, pageWait, lockWait, abortWait, FitUp, FitDown, FitWaiter, SameWork, WaitingWork, Shape, Tokens, TokensAt}
@@ -545,7 +545,7 @@ module _ (skind : ℕ) (q : Waiter) (latest : ℕ) (fin : Bool) (U : List Up) (D
               token-up (Commit (workOf s)) (record { below = omega arith; same = λ z. refl; alive = λ z. c .opened; waits = λ z. refl }) (refl, refl)
               (own-commit (c .opened) (h .range-used)) (quiet (c .idle));
           aborts = λ c. closing (does (AbortedFor 0) (undo s) (cond (locking (s .kind)) (Abort (s .num) ∷ []) [])) (rw (undo-kind s, undo-num s) (abort-quiet (c .idle)));
-          purges = λ p b r n e. add-up (Purge p) refl tt tt h;
+          purges = λ p b r n e k. add-up (Purge p) refl tt tt h;
         }
 
     pub perform-after : (op : Op) → After skind q latest fin U D (perform op s)
@@ -589,8 +589,8 @@ module _ (skind : ℕ) (q : Waiter) (latest : ℕ) (fin : Bool) (U : List Up) (D
               rw (append-nil U) (quiet-tokens (took-down (Page NoLock a t v u x) (rw (live-hot t e) refl) h) (own-idle (live-open t e) refl (range-read a _ b (h .range-used))));
           page-write = λ l a t v u x p y e f o c h. written l a t v u x p y e f h;
           deescalates = λ p t e h.
-              let g = add-up (WrittenSet p t _) refl tt tt (pop-down (Deescalate p t) h) in
-              byB (live s t && s .wl p) (λ z. rw z g) (λ z. rw z g);
+              let g = add-up (WrittenSet p _ _) refl tt tt (pop-down (Deescalate p t) h) in
+              byB (givesUp p t s) (λ z. rw z g) (λ z. rw z g);
           keeps = λ r t set e f h. add-up (Busy r t) refl tt tt (pop-down (Callback r t set) h);
           dones = λ r t set e f h. add-up (Done r t _) refl tt tt (pop-down (Callback r t set) h);
           commits = λ t n e f h. closing _ (rw (append-nil U) (shut-taken (Committed t n) refl h));
@@ -771,7 +771,7 @@ module _ (st : ℕ → Station) (u : ℕ → List Up) (d : ℕ → List Down) wh
   atomic-tokens =
       record {
         aborts = λ i c x b t h. abort-back i c x (abort-fit (st i .kind) (st i .num) (st i .opened) (st i .wait) (x .server .latest i) (x .server .queue i .want) (x .server .queue i .req) t (h i .S1b-waiter)) (leave-gone i x h t);
-        asks = λ i g p x b t e h. send-plain g (Deescalate p (x .server .latest g)) (onServer x (setAsked (x .server) (upd (x .server .asked) p true))) (λ old. refl) (λ kind num opened z. tt) h;
+        asks = λ i g p x b t e h. send-plain g (Deescalate p (x .server .wholeFor p)) (onServer x (setAsked (x .server) (upd (x .server .asked) p true))) (λ old. refl) (λ kind num opened z. tt) h;
         reads = λ i x b w c h.
             let f = rw w at (h i .S1b-waiter) in
             let a : ℕ = x .server .queue i .req in
@@ -788,7 +788,7 @@ module _ (st : ℕ → Station) (u : ℕ → List Up) (d : ℕ → List Down) wh
             let g = leave-gone i x h (ap isWant w) in
             let a : ℕ = x .server .queue i .req in
             let y : Serving = leave i x in
-            page-back WholeLock i a (unavailable (x .server) i a) (onServer y (setWl (setAsked (y .server) (upd (x .server .asked) (pageOf a) false)) (upd (x .server .wl) (pageOf a) (suc i)))) (λ n v. f) (record { far = g .far; here = g .here; mine = g .mine });
+            page-back WholeLock i a (unavailable (x .server) i a) (onServer y (setWl (setWholeFor (setAsked (y .server) (upd (x .server .asked) (pageOf a) false)) (upd (x .server .wholeFor) (pageOf a) (x .server .latest i))) (upd (x .server .wl) (pageOf a) (suc i)))) (λ n v. f) (record { far = g .far; here = g .here; mine = g .mine });
         installs = λ i x b w f r h.
             let g = rw w at (h i .S1b-waiter) in
             let s = rw w at (h i .S3-waiter) in
@@ -926,6 +926,16 @@ module _ (i : ℕ) (l : List Up) (s : Server) (st : ℕ → Station) (u : ℕ �
       (renumbered (pop-up (Abort t) g) ((notice i t x) .server .latest i) true (idle t b)))
       (λ e. rw e (rw e at (notice-far t b j e)))
 
+  -- a number that comes with no token
+  met : (t : ℕ) → badNumber s i t ≡ false → (m : Up) → Head m → Then (notice i t (start s))
+  met t b m g j =
+      let x : Serving = start s in
+      byEq j i
+      (λ e.
+      rw (eqb-yes j i e, noticed-kind i t x, noticed-queue i t x, noticed-sent i t x, eqb-same i, append-nil (d i))
+      (renumbered (pop-up m g) ((notice i t x) .server .latest i) ((notice i t x) .server .fin i) (idle t b)))
+      (λ e. notice-far t b j e)
+
   pub call-waits : (r t : ℕ) → openCall s i r t ≡ true → waits s r ≡ true
   call-waits r t o = and-l (waits s r) _ (and-l (waits s r && eqb t (s .latest r)) _ o)
 
@@ -948,7 +958,8 @@ module _ (i : ℕ) (l : List Up) (s : Server) (st : ℕ → Station) (u : ℕ �
             let p = popped (Done r t c) g in
             byEq j r (λ e. rw (e, eqb-yes j r e) (answered-tokens (p r) (upd (s .queue r .busy) i false) (upd (s .queue r .pend) i false) (call-waits r t o))) (λ e. rw e (p j));
         done-late = λ r t c o g. popped (Done r t c) g;
-        loosens = λ p t set o g. popped (WrittenSet p t set) g;
+        loosens = λ p t set o b g. popped (WrittenSet p t set) g;
+        loosens-new = λ p t set o k r g. met t (renews-good s i t r (keeps-locks (s .kind i) k) (h i .S4)) (WrittenSet p t set) g;
         loosens-late = λ p t set o g. popped (WrittenSet p t set) g;
       }
 
@@ -1010,7 +1021,7 @@ owner-frozen s e =
       writes-ask = λ p v b c f. not-idle (s .wait) e (c .idle);
       commits = λ c. not-idle (s .wait) e (c .idle);
       aborts = λ c. not-idle (s .wait) e (c .idle);
-      purges = λ p b r n f. record { num = refl; opened = refl; rd = refl; wr = refl; wait = refl };
+      purges = λ p b r n f k. record { num = refl; opened = refl; rd = refl; wr = refl; wait = refl };
     }
 
 pub frozen-owner : (s : Station) (op : Op) → s .wait ≡ ForCommit → Frozen s ((perform op s) .station)
@@ -1033,7 +1044,7 @@ station-frozen s e =
       old-page = λ a t v u x f n. record { num = refl; opened = refl; rd = refl; wr = refl; wait = refl };
       page-read = λ a t v u x f g n. absurd (false≢true (sym (ap forCommit g) ∙ ap forCommit e));
       page-write = λ l a t v u x p y f g o c n. absurd (false≢true (sym (ap forCommit g) ∙ ap forCommit e));
-      deescalates = λ p t f n. byB (live s t && s .wl p) (λ z. rw z (record { num = refl; opened = refl; rd = refl; wr = refl; wait = refl })) (λ z. rw z (still s));
+      deescalates = λ p t f n. byB (givesUp p t s) (λ z. rw z (record { num = refl; opened = refl; rd = refl; wr = refl; wait = refl })) (λ z. rw z (still s));
       keeps = λ r t set f g n. record { num = refl; opened = refl; rd = refl; wr = refl; wait = refl };
       dones = λ r t set f g n. record { num = refl; opened = refl; rd = refl; wr = refl; wait = refl };
       commits = λ t n f g k. not-token k;

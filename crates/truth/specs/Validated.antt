@@ -11,7 +11,7 @@ use Rattle.sets.specs.Laws.{byB, byEq, eqb-same, eqb-yes, ltb-yes, ltb-no, and-
 use Rattle.line.specs.All.{All}
 use Rattle.line.specs.Messages.{pageOf, locking, Up, NoLock, ObjectLock, WholeLock, Down, Answer, Nothing, Begun, Value, Waits, Written, CommittedAs, AbortedFor, Purged, Refused, Empty}
 use Rattle.line.specs.Station.{Station, Did, stationStep}
-use Rattle.line.specs.Server.{Serving, onServer, setOl, setWl, setAsked, Waiter, WantRead, WantWrite, unavailable, leave, serveRead, grantObject, grantPage, installWaiter, unexpected, accept, start}
+use Rattle.line.specs.Server.{Serving, onServer, setOl, setWl, setAsked, Waiter, WantRead, WantWrite, unavailable, leave, serveRead, grantObject, grantPage, installWaiter, unexpected, accept, start, setWholeFor}
 use Rattle.line.specs.Line.{World, worldDown, Op, perform, tell, carryUp, carryDown, isRefused, fresh, sentTo}
 use Rattle.truth.specs.Clauses.{Tokens, TokensAt, Hist, Versions, RecordedDown, ValidatedAt}
 use Rattle.truth.specs.Frame.{append-nil}
@@ -155,7 +155,7 @@ module _ (w : World) where
       let a : ℕ = x .server .queue i .req in
       let g = leaves (w .archive) (w .station) (w .up) (w .down) i x (h .within) in
       sends-page (w .archive) (w .station) (w .up) (w .down) WholeLock i a (unavailable (x .server) i a)
-      (onServer (leave i x) (setWl (setAsked ((leave i x) .server) (upd (x .server .asked) (pageOf a) false)) (upd (x .server .wl) (pageOf a) (suc i))))
+      (onServer (leave i x) (setWl (setWholeFor (setAsked ((leave i x) .server) (upd (x .server .asked) (pageOf a) false)) (upd (x .server .wholeFor) (pageOf a) (x .server .latest i))) (upd (x .server .wl) (pageOf a) (suc i))))
       (lock-waits i x h e) (record { versions = g .versions; validated = g .validated })
 
   installs-within : (i : ℕ) (x : Serving) → Before w x → Under (installWaiter i x)

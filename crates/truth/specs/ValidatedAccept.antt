@@ -79,6 +79,7 @@ module _ (A : List Rec) (t : ℕ → Station) (u : ℕ → List Up) (d : ℕ →
         busy-late = λ r n o g. h;
         dones = λ r n p o g. answers A t u d i r (unlist i p x) (unlists A t u d i p x h);
         done-late = λ r n p o g. unlists A t u d i p x h;
-        loosens = λ p n set o g. loosens A t u d i p set x h;
+        loosens = λ p n set o b g. loosens A t u d i p _ x h;
+        loosens-new = λ p n set o k r g. loosens A t u d i p _ (notice i n x) (noticed n);
         loosens-late = λ p n set o g. h;
       })

@@ -7,7 +7,7 @@ use lib.Dec.{eqb}
 use Rattle.sets.specs.Base.{upd, none, some, has, Val}
 use Rattle.sets.specs.Laws.{byB, eqb-same, and-l}
 use Rattle.line.specs.Messages.{pageOf, locking, Up, ReadRequest, Commit, Purge, Lock, NoLock, ObjectLock, WholeLock, Down, Page, Committed, Aborted, Invalidate, Rec, AbortedFor, CommittedAs, WriteRequest}
-use Rattle.line.specs.Station.{Station, Did, does, didStation, setCver, setKept, setWait, Idle, ForRead, ForWrite, forRead, NotKept, KeptCall, live, usedAt, wrotePage, workOf, mark, dropPages, recordRead, writeLocal, doCallback, closed, close, undo, readLocal, readAsk, writeAsk, arrive, takeLock, onDeescalate, onCommitted, onAborted, loosen, writtenOn, stationStep, named, lowestOn, ofPage}
+use Rattle.line.specs.Station.{Station, Did, does, didStation, setCver, setKept, setWait, Idle, ForRead, ForWrite, forRead, NotKept, KeptCall, live, usedAt, wrotePage, workOf, mark, dropPages, recordRead, writeLocal, doCallback, closed, close, undo, readLocal, readAsk, writeAsk, arrive, takeLock, onDeescalate, onCommitted, onAborted, loosen, writtenOn, stationStep, named, lowestOn, ofPage, givesUp, answersFor}
 use Rattle.line.specs.Server.{Waiter}
 use Rattle.line.specs.Line.{Op, perform, isRefused}
 use Rattle.truth.specs.Clauses.{TrueReads}
@@ -57,7 +57,7 @@ perform-kind op s =
       writes-ask = λ p v b c e. refl;
       commits = λ c. refl;
       aborts = λ c. close-kind (s .kind) _ (undo-kind s);
-      purges = λ p b r u c. refl;
+      purges = λ p b r u c k. refl;
     })
     op
 
@@ -70,7 +70,7 @@ step-kind m s =
       old-page = λ a t v u x e. refl;
       page-read = λ a t v u x e g. arrived-kind NoLock a s;
       page-write = λ l a t v u x p y e g k c. arrived-kind l a s;
-      deescalates = λ p t e. loosen-kind p (writtenOn p t s) (live s t && s .wl p) s;
+      deescalates = λ p t e. loosen-kind p (writtenOn p (answersFor t s) s) (givesUp p t s) s;
       keeps = λ r t set e g. refl;
       dones = λ r t set e g. refl;
       commits = λ t n e g. close-kind (s .kind) _ refl;
@@ -118,7 +118,7 @@ module _ (A : List Rec) (last : ℕ) (s : Station) (q : Waiter) (U : List Up) (D
         writes-ask = λ p v b c e. asked p (ofPage p v);
         commits = λ c. sentUp h (Commit (workOf s) ∷ []) (work-reads, tt);
         aborts = λ c. rw f owner-ends;
-        purges = λ p b r u c. sentUp (shrunk h (dropped-less (λ o. eqb o p) s)) (Purge p ∷ []) (tt, tt);
+        purges = λ p b r u c k. sentUp (shrunk h (dropped-less (λ o. eqb o p) s)) (Purge p ∷ []) (tt, tt);
       }
 
   pub owner-valid : (op : Op) → AtStation A last ((perform op s) .station) q (U ++ (perform op s) .sent) D

@@ -135,7 +135,7 @@ module _ (A : List Rec) (t : ℕ → Station) (u : ℕ → List Up) (d : ℕ →
 
   pub asks : (h p : ℕ) (x : Serving) → In x → In (ask h p x)
   unfolding ask
-  asks h p x k = sends (onServer x (setAsked (x .server) (upd (x .server .asked) p true))) h (Deescalate p (x .server .latest h)) (λ b f. tt) (record { versions = k .versions; validated = k .validated })
+  asks h p x k = sends (onServer x (setAsked (x .server) (upd (x .server .asked) p true))) h (Deescalate p (x .server .wholeFor p)) (λ b f. tt) (record { versions = k .versions; validated = k .validated })
 
   -- a page goes to a locking station
   pub sends-page : (l : Lock) (i a : ℕ) (v : ℕ → Bool) (x : Serving) → (i < 8 → locking (t i .kind) ≡ false → ⊥) → In x → In (sendPage l i a v x)

@@ -150,7 +150,8 @@ module _ (i : ℕ) (l : List Up) (w : World) (b : i < 8) (h : Inv w) where
         busy-late = λ r t o q. served-start;
         dones = λ r t d o q. served-start;
         done-late = λ r t d o q. served-start;
-        loosens = λ p t set o q. served-start;
+        loosens = λ p t set o c q. served-start;
+        loosens-new = λ p t set o k r q. noticed-served t;
         loosens-late = λ p t set o q. served-start;
       }
 
@@ -210,7 +211,7 @@ module _ (w : World) where
   acts-values =
       record {
         aborts = λ i c x b t h. values-of x _ h (served-abort (w .station) (w .down) i c x (served-of x h));
-        asks = λ i g p x b t u h. values-of x _ h (served-sent (w .station) (w .down) (x .server .val) (x .sent) g (Deescalate p (x .server .latest g)) refl (λ a. tt) tt (served-of x h));
+        asks = λ i g p x b t u h. values-of x _ h (served-sent (w .station) (w .down) (x .server .val) (x .sent) g (Deescalate p (x .server .wholeFor p)) refl (λ a. tt) tt (served-of x h));
         reads = λ i x b v c h. values-of x _ h (served-page (w .station) (w .down) (x .server .val) (x .sent) i NoLock (x .server .queue i .req) _ _ _ (available (x .server) i (x .server .queue i .req) (read-wanted i x v h)) (served-of x h));
         calls = λ i x b t u v c h. values-of x _ h (called-served i x (served-of x h));
         objects = λ i x b v r h. values-of x _ h (served-page (w .station) (w .down) (x .server .val) (x .sent) i ObjectLock (x .server .queue i .req) _ _ _ tt (served-of x h));

@@ -8,7 +8,7 @@ use Rattle.sets.specs.Base.{none, has, valOr, Val, some}
 use Rattle.sets.specs.Laws.{byB, byEq, eqb-same, eqb-yes}
 use Rattle.line.specs.All.{All}
 use Rattle.line.specs.Messages.{pageOf, locking, Lock, NoLock, ObjectLock, WholeLock, Down, Page, Deescalate, Callback, Aborted, Invalidate}
-use Rattle.line.specs.Station.{Station, Did, Wait, Idle, ForRead, ForWrite, ForCommit, waiting, forCommit, live, dropPages, mark, drops, recordRead, writeLocal, doCallback, closed, close, undo, readLocal, readAsk, writeAsk, arrive, takeLock, onDeescalate, loosen, onCommitted, onAborted, stationStep, orVal, ofPage}
+use Rattle.line.specs.Station.{Station, Did, Wait, Idle, ForRead, ForWrite, ForCommit, waiting, forCommit, live, dropPages, mark, drops, recordRead, writeLocal, doCallback, closed, close, undo, readLocal, readAsk, writeAsk, arrive, takeLock, onDeescalate, loosen, onCommitted, onAborted, stationStep, orVal, ofPage, givesUp, answersFor}
 use Rattle.line.specs.Line.{Op, perform, isRefused}
 use Rattle.line.specs.Truth.{count}
 use Rattle.truth.specs.Clauses.{FitDown, isCommitted, A2, Values}
@@ -133,7 +133,7 @@ module _ (val : ℕ → ℕ) (s : Station) (D : List Down) (n : Known s D) (h : 
         writes-ask = λ p f b c q. record { written = h .written; values = h .values };
         commits = λ c. record { written = h .written; values = h .values };
         aborts = λ c. aborted-own val D _ s refl h;
-        purges = λ p b r u c. dropped-own val D (λ q. eqb q p) s h;
+        purges = λ p b r u c k. dropped-own val D (λ q. eqb q p) s h;
       }
 
   pub owner-own : (op : Op) → Own val ((perform op s) .station) D
@@ -180,7 +180,7 @@ module _ (val : ℕ → ℕ) (s : Station) (D : List Down) where
             write-own val D y (arrived k a v u x s) z (page-own k a t v u x z h);
         deescalates = λ p t e n h r.
             let g = taken-own val (Deescalate p t) s D refl h in
-            byB (live s t && s .wl p) (λ q. rw q (record { written = g .written; values = g .values })) (λ q. rw q g);
+            byB (givesUp p t s) (λ q. rw q (record { written = g .written; values = g .values })) (λ q. rw q g);
         keeps = λ c t set e q n h r. let g = taken-own val (Callback c t set) s D refl h in record { written = g .written; values = g .values };
         dones = λ c t set e q n h r. called-own val D c t set _ (taken-own val (Callback c t set) s D refl h);
         commits = λ t c e q n h r. closes-own val D _ (record { written = λ a b. A2-none; values = λ a b k. values-committed (h .values a b k) });

@@ -6,7 +6,7 @@ use mathlib.Core.List.{List, [], _∷_}
 use lib.ListN.{set, replicate}
 use lib.Dec.{ltb}
 use Rattle.le.specs.Le.{u16At, u32At, u64At, setU32, setU64}
-use Rattle.station_state.specs.Layout.{stateLength, openFrom, waitFrom, kind, noneIn}
+use Rattle.station_state.specs.Layout.{stateLength, openFrom, waitFrom, kind, noneIn, passingWhole}
 use Rattle.station_state.specs.Valid.{fieldsOk, ownKept, closedOk, firstOk, worksOk, locklessOk, holdsOk, freshState}
 use Rattle.station_state.specs.Valid as Station
 use Rattle.station_answer.specs.declared.Answer.{Answer}
@@ -181,11 +181,11 @@ looked-hold = (shows refl, (shows refl, (shows refl, (shows refl, (shows refl, (
 
 -- number 1 of the two states, and of the output, computed once
 validating-valid : Station.valid validating ≡ true
-unfolding Station.valid fieldsOk ownKept worksOk closedOk firstOk holdsOk locklessOk noneIn freshState u32At u64At
+unfolding Station.valid fieldsOk ownKept worksOk closedOk firstOk holdsOk locklessOk passingWhole noneIn freshState u32At u64At
 validating-valid = refl
 
 locking-valid : Station.valid locking ≡ true
-unfolding Station.valid fieldsOk ownKept worksOk closedOk firstOk holdsOk locklessOk noneIn freshState u32At u64At
+unfolding Station.valid fieldsOk ownKept worksOk closedOk firstOk holdsOk locklessOk passingWhole noneIn freshState u32At u64At
 locking-valid = refl
 
 validating-kind : kind validating ≡ 1

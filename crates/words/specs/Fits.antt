@@ -38,7 +38,7 @@ words-short (Reads n) = omega (arith, numbered-short (ascii "") n (ascii " reads
 words-short (Writes m) = omega (arith, numbered-short (ascii "") m (ascii " writes, but a record has at most 256"))
 words-short Transaction = omega arith
 words-short (Station s) = omega (arith, numbered-short (ascii "station ") s (ascii ", but stations are 0 to 7"))
-words-short (Kind k) = omega (arith, numbered-short (ascii "kind ") k (ascii ", but kinds are 0 and 1"))
+words-short (Kind k) = omega (arith, numbered-short (ascii "kind ") k (ascii ", but kinds are 0 to 2"))
 words-short (Zero at is) = omega (arith, numbered-short (ascii "this byte is ") is (ascii ", but it must be 0"))
 words-short (Order at before is) =
     rw length-append

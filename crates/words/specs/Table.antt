@@ -28,7 +28,7 @@ rows =
     ∷ row (Writes 257) "257 writes, but a record has at most 256"
     ∷ row Transaction "transaction 0, but the first is 1"
     ∷ row (Station 9) "station 9, but stations are 0 to 7"
-    ∷ row (Kind 2) "kind 2, but kinds are 0 and 1"
+    ∷ row (Kind 3) "kind 3, but kinds are 0 to 2"
     ∷ row (Zero 14 7) "this byte is 7, but it must be 0"
     ∷ row (Order 17 9 8) "address 8 behind 9, but addresses rise"
     ∷ row (Sequence 5 2) "commit 5 behind commit 2, but commits are numbered 1, 2, 3 and on"

@@ -100,7 +100,7 @@ fn put_words(out: &mut [u8], at: usize, f: Fault) -> usize
         Fault::Writes(m) => say(out, at, b"", m, b" writes, but a record has at most 256"),
         Fault::Transaction => text::put_text(out, at, b"transaction 0, but the first is 1"),
         Fault::Station(s) => say(out, at, b"station ", s, b", but stations are 0 to 7"),
-        Fault::Kind(k) => say(out, at, b"kind ", k, b", but kinds are 0 and 1"),
+        Fault::Kind(k) => say(out, at, b"kind ", k, b", but kinds are 0 to 2"),
         Fault::Zero { is, .. } => say(out, at, b"this byte is ", is, b", but it must be 0"),
         Fault::Order { before, is, .. } => order_words(out, at, before, is),
         Fault::Sequence { commit, last } => sequence_words(out, at, commit, last),

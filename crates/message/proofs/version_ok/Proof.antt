@@ -13,9 +13,12 @@ add-get-u32 c = search needs
 get-u32-requires : tie.Need-get-u32-requires
 get-u32-requires c κs = search needs
 
+locking-requires : tie.Need-locking-requires
+locking-requires c κs = search needs
+
 returns : tie.Need-returns
 unfolding versionOk
-returns c = rw (c .get-u32 .ensures)
+returns c = cc
 
 pub version-ok-spec : {M : Type 1} → statement M
-version-ok-spec = tie.close (tie.spec mul-get-u32 add-get-u32 get-u32-requires returns)
+version-ok-spec = tie.close (tie.spec mul-get-u32 add-get-u32 get-u32-requires locking-requires returns)

@@ -16,23 +16,23 @@ get-u32-requires c κs = search needs
 open-ask-requires : tie.Need-open-ask-requires
 open-ask-requires c κs = search needs
 
-shared-slice-read-loosen : tie.Need-shared-slice-read-loosen
-shared-slice-read-loosen c = search needs
+shared-slice-read-heed : tie.Need-shared-slice-read-heed
+shared-slice-read-heed c = search needs
 
-loosen-requires : tie.Need-loosen-requires
-loosen-requires c κs = search needs
+heed-requires : tie.Need-heed-requires
+heed-requires c κs = search needs
 
 same-length : tie.Need-same-length
 same-length c = search needs
 
 returns : tie.Need-returns
-returns c = set-open _ _ (c .before .before .before .before .before .before .before .before .before .before .station .ensures) (c .before .before .before .before .before .before .before .before .before .named .ensures) (c .before .before .before .before .before .before .before .get-u32 .ensures) (c .before .before .before .before .before .before .open-ask .ensures) (c .before .before .before .before .before .if1 .taken) (c .before .before .loosen .ensures)
+returns c = set-open _ _ (c .before .before .before .before .before .before .before .before .before .before .station .ensures) (c .before .before .before .before .before .before .before .before .before .named .ensures) (c .before .before .before .before .before .before .before .before .get-u32 .ensures) (c .before .before .before .before .before .before .open-ask .ensures) (c .before .before .before .before .before .if1 .taken) (c .before .before .heed .ensures)
 
 same-length-2 : tie.Need-same-length-2
 same-length-2 c = search needs
 
 returns-2 : tie.Need-returns-2
-returns-2 c = set-late _ _ (c .before .before .before .before .before .station .ensures) (c .before .before .before .before .named .ensures) (c .before .before .get-u32 .ensures) (c .before .open-ask .ensures) (c .if1 .left)
+returns-2 c = set-late _ _ (c .before .before .before .before .before .station .ensures) (c .before .before .before .before .named .ensures) (c .before .before .before .get-u32 .ensures) (c .before .open-ask .ensures) (c .if1 .left)
 
 pub on-written-set-spec : {M : Type 1} → statement M
 on-written-set-spec =
@@ -42,8 +42,8 @@ on-written-set-spec =
     named-requires
     get-u32-requires
     open-ask-requires
-    shared-slice-read-loosen
-    loosen-requires
+    shared-slice-read-heed
+    heed-requires
     same-length
     returns
     same-length-2

@@ -15,21 +15,15 @@ slice-read-if1 c = search needs
 holder-requires : tie.Need-holder-requires
 holder-requires c κs = search needs
 
-add-put-u8 : tie.Need-add-put-u8
-add-put-u8 c = search needs
-
-put-u8-requires : tie.Need-put-u8-requires
-put-u8-requires c κs = search needs
-
-page-off-requires : tie.Need-page-off-requires
-page-off-requires c κs = search needs
+hold-requires : tie.Need-hold-requires
+hold-requires c κs = search needs
 
 same-length : tie.Need-same-length
 same-length c = search needs
 
 returns : tie.Need-returns
 unfolding freePageB
-returns c = simp (sym (c .before .before .before .before .before .before .before .before .before .holder .ensures), eq-eqb _ _ (c .before .before .before .before .before .before .before .before .if1 .taken), sym (c .before .before .before .before .before .before .put-u8 .ensures)) (c .before .before .page-off .ensures)
+returns c = simp (sym (c .before .before .before .before .before .holder .ensures), eq-eqb _ _ (c .before .before .before .before .if1 .taken)) (c .before .before .hold .ensures)
 
 returns-2 : tie.Need-returns-2
 unfolding freePageB
@@ -42,9 +36,7 @@ free-page-spec =
     add-if1
     slice-read-if1
     holder-requires
-    add-put-u8
-    put-u8-requires
-    page-off-requires
+    hold-requires
     same-length
     returns
     returns-2)

@@ -1,53 +1,37 @@
--- `server_changes::free_pages` meets its contract. The loop's invariant: the state is the definition's at the count of pages passed.
-use Prim.Native.Nat.{_≤_, _-_}
-use mathlib.Core.Path.{_≡_, ap, _∙_}
-use native.Mathlib.Numerals.{add-one}
-use native.Mathlib.Omega.{arith}
+-- `server_changes::free_pages` meets its contract.
+use Rattle.server_changes.specs.Changes.{freePagesB}
+use mathlib.Core.Path.{sym}
 use borrow.Author.Needs.{needs}
-use Rattle.server_changes.specs.Changes.{freePagesTo}
-use lib.ListN.{length}
 use Rattle.server_changes.proofs.free_pages.Statement.{statement}
 use Rattle.server_changes.proofs.free_pages.Tie as tie
 
-abbrev Inv-loop : tie.InvT-loop
-Inv-loop s₀ i p₀ s p = (p ≤ 32) × (length s ≡ length s₀) × (s ≡ freePagesTo i s₀ p)
+keeps-requires : tie.Need-keeps-requires
+keeps-requires c κs = search needs
 
-abbrev μ-loop : tie.MeasureT-loop
-μ-loop s₀ i p₀ s p = 32 - p
-
-loop-holds : tie.Need-loop-holds Inv-loop μ-loop
-unfolding freePagesTo
-loop-holds c = search needs
-
-free-page-requires : tie.Need-free-page-requires Inv-loop μ-loop
-free-page-requires c κs = search needs
-
-add-p : tie.Need-add-p Inv-loop μ-loop
-add-p c = search needs
-
-loop-less : tie.Need-loop-less Inv-loop μ-loop
-loop-less c = search needs
-
-loop-again : tie.Need-loop-again Inv-loop μ-loop
-unfolding freePagesTo
-loop-again c = (search needs, search needs, rw add-one (cc))
-
-same-length : tie.Need-same-length Inv-loop μ-loop
+same-length : tie.Need-same-length
 same-length c = search needs
 
-returns : tie.Need-returns Inv-loop μ-loop
-returns c = c .before .loop .inv .2 ∙ ap (freePagesTo _ _) (omega arith)
+returns : tie.Need-returns
+unfolding freePagesB
+returns c = simp (sym (c .before .keeps .ensures), c .if1 .taken)
+
+free-all-pages-requires : tie.Need-free-all-pages-requires
+free-all-pages-requires c κs = search needs
+
+same-length-2 : tie.Need-same-length-2
+same-length-2 c = search needs
+
+returns-2 : tie.Need-returns-2
+unfolding freePagesB
+returns-2 c = simp (sym (c .before .before .before .before .before .keeps .ensures), c .before .before .before .before .if1 .left) (c .before .before .free-all-pages .ensures)
 
 pub free-pages-spec : {M : Type 1} → statement M
 free-pages-spec =
     tie.close
     (tie.spec
-    Inv-loop
-    μ-loop
-    loop-holds
-    free-page-requires
-    add-p
-    loop-less
-    loop-again
+    keeps-requires
     same-length
-    returns)
+    returns
+    free-all-pages-requires
+    same-length-2
+    returns-2)

@@ -4,14 +4,8 @@ use borrow.Author.Needs.{needs}
 use Rattle.server_changes.proofs.loosen.Statement.{statement}
 use Rattle.server_changes.proofs.loosen.Tie as tie
 
-page-off-requires : tie.Need-page-off-requires
-page-off-requires c κs = search needs
-
-add-put-u8 : tie.Need-add-put-u8
-add-put-u8 c = search needs
-
-put-u8-requires : tie.Need-put-u8-requires
-put-u8-requires c κs = search needs
+hold-requires : tie.Need-hold-requires
+hold-requires c κs = search needs
 
 lock-set-requires : tie.Need-lock-set-requires
 lock-set-requires c κs = search needs
@@ -26,4 +20,8 @@ returns c = cc
 pub loosen-spec : {M : Type 1} → statement M
 loosen-spec =
     tie.close
-    (tie.spec page-off-requires add-put-u8 put-u8-requires lock-set-requires same-length returns)
+    (tie.spec
+    hold-requires
+    lock-set-requires
+    same-length
+    returns)

@@ -20,11 +20,8 @@ loop-holds : tie.Need-loop-holds Inv-loop μ-loop
 unfolding maskTo
 loop-holds c = search needs
 
-add-bit-if : tie.Need-add-bit-if Inv-loop μ-loop
-add-bit-if c = search needs
-
-shared-slice-read-bit-if : tie.Need-shared-slice-read-bit-if Inv-loop μ-loop
-shared-slice-read-bit-if c = search needs
+locking-requires : tie.Need-locking-requires Inv-loop μ-loop
+locking-requires c κs = search needs
 
 bit-if-requires : tie.Need-bit-if-requires Inv-loop μ-loop
 bit-if-requires c κs = search needs
@@ -50,8 +47,7 @@ locking-set-spec =
     Inv-loop
     μ-loop
     loop-holds
-    add-bit-if
-    shared-slice-read-bit-if
+    locking-requires
     bit-if-requires
     add-j
     loop-less

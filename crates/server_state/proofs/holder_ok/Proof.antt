@@ -1,4 +1,5 @@
 -- `server_state::holder_ok` meets its contract.
+use mathlib.Core.Path.{sym}
 use borrow.Author.Tests.{eq-eqb, ne-eqb, le-leb, lt-leb}
 use Rattle.server_state.specs.Valid.{holderOk}
 use borrow.Author.Needs.{needs}
@@ -16,21 +17,18 @@ returns-2 c = simp (ne-eqb _ _ (c .before .if1 .left), lt-leb _ _ (c .if2 .taken
 sub-i : tie.Need-sub-i
 sub-i c = search needs
 
+locking-requires : tie.Need-locking-requires
+locking-requires c κs = search needs
+
 add-result : tie.Need-add-result
 add-result c = search needs
 
 shared-slice-read-result : tie.Need-shared-slice-read-result
 shared-slice-read-result c = search needs
 
-add-result-2 : tie.Need-add-result-2
-add-result-2 c = search needs
-
-shared-slice-read-result-2 : tie.Need-shared-slice-read-result-2
-shared-slice-read-result-2 c = search needs
-
 returns-3 : tie.Need-returns-3
 unfolding holderOk
-returns-3 c = simp (ne-eqb _ _ (c .before .before .before .if1 .left), le-leb _ _ (c .before .before .if2 .left))
+returns-3 c = simp (ne-eqb _ _ (c .before .before .before .if1 .left), le-leb _ _ (c .before .before .if2 .left), sym (c .before .locking .ensures))
 
 pub holder-ok-spec : {M : Type 1} → statement M
 holder-ok-spec =
@@ -39,8 +37,7 @@ holder-ok-spec =
     returns
     returns-2
     sub-i
+    locking-requires
     add-result
     shared-slice-read-result
-    add-result-2
-    shared-slice-read-result-2
     returns-3)

@@ -14,15 +14,12 @@ shared-slice-read-has-bit8 c = search needs
 has-bit8-requires : tie.Need-has-bit8-requires
 has-bit8-requires c κs = search needs
 
-add-result : tie.Need-add-result
-add-result c = search needs
-
-shared-slice-read-result : tie.Need-shared-slice-read-result
-shared-slice-read-result c = search needs
+locking-requires : tie.Need-locking-requires
+locking-requires c κs = search needs
 
 returns : tie.Need-returns
 unfolding owesAt
-returns c = simp (sym (c .before .has-bit8 .ensures))
+returns c = simp (sym (c .before .has-bit8 .ensures), sym (c .locking .ensures))
 
 pub owes-at-spec : {M : Type 1} → statement M
 owes-at-spec =
@@ -31,6 +28,5 @@ owes-at-spec =
     add-has-bit8
     shared-slice-read-has-bit8
     has-bit8-requires
-    add-result
-    shared-slice-read-result
+    locking-requires
     returns)

@@ -1,20 +1,17 @@
 -- `server_state::request_ok` meets its contract.
 use mathlib.Core.Path.{sym}
-use borrow.Author.Tests.{eq-eqb, ne-eqb}
+use borrow.Author.Tests.{eq-eqb, ne-eqb, not-true, not-false}
 use Rattle.server_state.specs.Valid.{requestOk}
 use borrow.Author.Needs.{needs}
 use Rattle.server_state.proofs.request_ok.Statement.{statement}
 use Rattle.server_state.proofs.request_ok.Tie as tie
 
-add-if1 : tie.Need-add-if1
-add-if1 c = search needs
-
-shared-slice-read-if1 : tie.Need-shared-slice-read-if1
-shared-slice-read-if1 c = search needs
+locking-requires : tie.Need-locking-requires
+locking-requires c κs = search needs
 
 returns : tie.Need-returns
 unfolding requestOk
-returns c = simp (ne-eqb _ _ (c .if1 .taken))
+returns c = simp (sym (c .before .locking .ensures), not-true (c .before .locking .result) (c .if1 .taken))
 
 add-if2 : tie.Need-add-if2
 add-if2 c = search needs
@@ -48,21 +45,20 @@ none-in-requires c κs = search needs
 
 returns-2 : tie.Need-returns-2
 unfolding requestOk
-returns-2 c = simp (eq-eqb _ _ (c .before .before .before .before .before .if1 .left), eq-eqb _ _ (c .before .before .before .if2 .taken), sym (c .before .only-in .ensures), sym (c .none-in .ensures))
+returns-2 c = simp (sym (c .before .before .before .before .before .before .locking .ensures), not-false (c .before .before .before .before .before .before .locking .result) (c .before .before .before .before .before .if1 .left), eq-eqb _ _ (c .before .before .before .if2 .taken), sym (c .before .only-in .ensures), sym (c .none-in .ensures))
 
 write-ok-requires : tie.Need-write-ok-requires
 write-ok-requires c κs = search needs
 
 returns-3 : tie.Need-returns-3
 unfolding requestOk
-returns-3 c = simp (eq-eqb _ _ (c .before .before .before .if1 .left), ne-eqb _ _ (c .before .if2 .left)) (c .write-ok .ensures)
+returns-3 c = simp (sym (c .before .before .before .before .locking .ensures), not-false (c .before .before .before .before .locking .result) (c .before .before .before .if1 .left), ne-eqb _ _ (c .before .if2 .left)) (c .write-ok .ensures)
 
 pub request-ok-spec : {M : Type 1} → statement M
 request-ok-spec =
     tie.close
     (tie.spec
-    add-if1
-    shared-slice-read-if1
+    locking-requires
     returns
     add-if2
     shared-slice-read-if2

@@ -13,17 +13,14 @@ add-over c = search needs
 shared-slice-read-over : tie.Need-shared-slice-read-over
 shared-slice-read-over c = search needs
 
+locking-requires : tie.Need-locking-requires
+locking-requires c κs = search needs
+
 add-result : tie.Need-add-result
 add-result c = search needs
 
 shared-slice-read-result : tie.Need-shared-slice-read-result
 shared-slice-read-result c = search needs
-
-add-result-2 : tie.Need-add-result-2
-add-result-2 c = search needs
-
-shared-slice-read-result-2 : tie.Need-shared-slice-read-result-2
-shared-slice-read-result-2 c = search needs
 
 returns : tie.Need-returns
 unfolding badNumberB
@@ -36,8 +33,7 @@ bad-number-spec =
     latest-requires
     add-over
     shared-slice-read-over
+    locking-requires
     add-result
     shared-slice-read-result
-    add-result-2
-    shared-slice-read-result-2
     returns)

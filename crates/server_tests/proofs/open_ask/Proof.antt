@@ -19,6 +19,9 @@ asked-requires c κs = search needs
 has-bit32-requires : tie.Need-has-bit32-requires
 has-bit32-requires c κs = search needs
 
+keeps-requires : tie.Need-keeps-requires
+keeps-requires c κs = search needs
+
 add-result-2 : tie.Need-add-result-2
 add-result-2 c = search needs
 
@@ -41,6 +44,7 @@ open-ask-spec =
     add-result
     asked-requires
     has-bit32-requires
+    keeps-requires
     add-result-2
     shared-slice-read-result
     latest-requires

@@ -12,11 +12,8 @@ byte-requires c κs = search needs
 get-u32-requires : tie.Need-get-u32-requires
 get-u32-requires c κs = search needs
 
-add-validates : tie.Need-add-validates
-add-validates c = search needs
-
-shared-slice-read-validates : tie.Need-shared-slice-read-validates
-shared-slice-read-validates c = search needs
+locking-requires : tie.Need-locking-requires
+locking-requires c κs = search needs
 
 shared-slice-read-match : tie.Need-shared-slice-read-match
 shared-slice-read-match c = search needs
@@ -48,6 +45,12 @@ get-u32-requires-2 c κs = search needs
 drops-own-requires : tie.Need-drops-own-requires
 drops-own-requires c κs = search needs
 
+keeps-requires : tie.Need-keeps-requires
+keeps-requires c κs = search needs
+
+above-open-requires : tie.Need-above-open-requires
+above-open-requires c κs = search needs
+
 returns : tie.Need-returns
 unfolding unexpectedB
 returns c = rw (c .before .match .keys1) (cc)
@@ -78,7 +81,7 @@ returns-7 c = rw (c .before .before .match .keys7) (cc)
 
 returns-8 : tie.Need-returns-8
 unfolding unexpectedB
-returns-8 c = rw (c .match .keys8) (cc)
+returns-8 c = rw (c .before .before .match .keys8) (cc)
 
 returns-9 : tie.Need-returns-9
 returns-9 c = let r = c .match .rest in absurd (no-other _ (c .before .before .before .before .before .before .before .pre .3) (r .0 .0 .0 .0 .0 .0 .0 .1) (r .0 .0 .0 .0 .0 .0 .1) (r .0 .0 .0 .0 .0 .1) (r .0 .0 .0 .0 .1) (r .0 .0 .0 .1) (r .0 .0 .1) (r .0 .1) (r .1))
@@ -89,8 +92,7 @@ unexpected-spec =
     (tie.spec
     byte-requires
     get-u32-requires
-    add-validates
-    shared-slice-read-validates
+    locking-requires
     shared-slice-read-match
     bad-number-requires
     bad-number-requires-2
@@ -101,6 +103,8 @@ unexpected-spec =
     lock-on-requires
     get-u32-requires-2
     drops-own-requires
+    keeps-requires
+    above-open-requires
     returns
     returns-2
     returns-3

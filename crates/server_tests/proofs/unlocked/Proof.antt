@@ -36,11 +36,8 @@ loop-again : tie.Need-loop-again Inv-loop μ-loop
 unfolding anyTo
 loop-again c = (search needs, rw add-one (cc))
 
-add-result : tie.Need-add-result Inv-loop μ-loop
-add-result c = search needs
-
-shared-slice-read-result : tie.Need-shared-slice-read-result Inv-loop μ-loop
-shared-slice-read-result c = search needs
+locking-requires : tie.Need-locking-requires Inv-loop μ-loop
+locking-requires c κs = search needs
 
 returns : tie.Need-returns Inv-loop μ-loop
 unfolding unlockedB
@@ -58,6 +55,5 @@ unlocked-spec =
     add-k
     loop-less
     loop-again
-    add-result
-    shared-slice-read-result
+    locking-requires
     returns)

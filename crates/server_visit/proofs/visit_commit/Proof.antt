@@ -1,8 +1,7 @@
 -- `server_visit::visit_commit` meets its contract.
-use mathlib.Core.Path.{sym, _∙_}
-use native.Mathlib.Omega.{arith}
-use borrow.Author.Tests.{eq-eqb, ne-eqb}
-use Rattle.server_visit.specs.Visits.{visitCommitB, fault-last, yes-room, no-room, yes-post, no-post}
+use Rattle.server_actions.specs.Posting.{room-first}
+use Rattle.server_actions.specs.Parts.{acts-judge}
+use Rattle.server_visit.specs.Visits.{out-by, out-room, out-post, in-room, in-post, keepers-held, keepers-blockers, keepers-fault, keepers-room, keepers-chain}
 use borrow.Author.Needs.{needs}
 use Rattle.server_visit.proofs.visit_commit.Statement.{statement}
 use Rattle.server_visit.proofs.visit_commit.Tie as tie
@@ -10,9 +9,8 @@ use Rattle.server_visit.proofs.visit_commit.Tie as tie
 fault-requires : tie.Need-fault-requires
 fault-requires c κs = search needs
 
-gates-requires : tie.Need-gates-requires
-unfolding visitCommitB
-gates-requires c κs = (search needs, search needs, c .before .before .before .before .before .before .before .before .before .pre .2, c .before .before .before .before .before .before .before .before .before .pre .3, λ _ _. fault-last _ _ (λ j. omega (arith, c .before .before .before .before .before .before .before .before .slice-known .given j)) (sym (c .before .before .before .before .fault .ensures) ∙ c .before .before .before .if1 .taken), yes-room _ _ _ _ _ _ (eq-eqb _ _ (sym (c .before .before .before .before .fault .ensures) ∙ c .before .before .before .if1 .taken)) (c .before .before .before .before .before .before .before .before .before .pre .4))
+abort-requires : tie.Need-abort-requires
+abort-requires c κs = (search needs, search needs, rw (c .before .before .before .before .fault .ensures) (out-room _ _ _ _ _ (out-by _ _ (c .before .before .before .before .fault .ensures) (c .before .before .before .if1 .taken)) (c .before .before .before .before .before .before .before .before .before .pre .4)))
 
 same-length : tie.Need-same-length
 same-length c = search needs
@@ -24,12 +22,13 @@ same-length-3 : tie.Need-same-length-3
 same-length-3 c = search needs
 
 returns : tie.Need-returns
-unfolding visitCommitB
-returns c = yes-post _ _ _ _ _ _ (eq-eqb _ _ (sym (c .before .before .before .before .before .before .before .before .before .before .before .fault .ensures) ∙ c .before .before .before .before .before .before .before .before .before .before .if1 .taken)) (c .before .before .before .before .before .before .gates .ensures)
+returns c = out-post _ _ _ _ _ (out-by _ _ (c .before .before .before .before .before .before .before .before .before .before .before .fault .ensures) (c .before .before .before .before .before .before .before .before .before .before .if1 .taken)) (rw (c .before .before .before .before .before .before .before .before .before .before .before .fault .ensures) at (c .before .before .before .before .before .before .abort .ensures))
 
-abort-requires : tie.Need-abort-requires
-unfolding visitCommitB
-abort-requires c κs = (search needs, search needs, rw (c .before .before .before .before .fault .ensures) (no-room _ _ _ _ _ _ (ne-eqb _ _ (λ e. c .before .before .before .if1 .left (c .before .before .before .before .fault .ensures ∙ e))) (c .before .before .before .before .before .before .before .before .before .pre .4)))
+ask-keepers-requires : tie.Need-ask-keepers-requires
+ask-keepers-requires c κs = (search needs, search needs, c .before .before .before .before .before .before .before .before .before .pre .2, room-first _ _ _ (acts-judge _) _ (in-room _ _ _ _ _ (out-by _ _ (c .before .before .before .before .fault .ensures) (c .before .before .before .if1 .left)) (c .before .before .before .before .before .before .before .before .before .pre .4)))
+
+judge-requires : tie.Need-judge-requires
+judge-requires c κs = (search needs, search needs, keepers-held _ _ _ _ _ (c .before .before .before .before .before .before .before .before .before .ask-keepers .ensures) (c .before .before .before .before .before .before .before .before .before .before .before .before .before .before .before .before .before .before .before .pre .2), keepers-blockers _ _ _ _ _ (c .before .before .before .before .before .before .before .before .before .ask-keepers .ensures) (c .before .before .before .before .before .before .before .before .before .before .before .before .before .before .before .before .before .before .before .pre .1) (c .before .before .before .before .before .before .before .before .before .before .before .before .before .before .before .before .before .before .before .pre .3), keepers-fault _ _ _ _ _ (c .before .before .before .before .before .before .before .before .before .ask-keepers .ensures) (c .before .before .before .before .before .before .before .before .before .before .before .before .before .before .before .before .before .before .before .pre .1) (c .before .before .before .before .before .before .before .before .before .before .before .before .before .before .fault .ensures), keepers-room _ _ _ _ _ (c .before .before .before .before .before .before .before .before .before .ask-keepers .ensures) (acts-judge _) (in-room _ _ _ _ _ (out-by _ _ (c .before .before .before .before .before .before .before .before .before .before .before .before .before .before .fault .ensures) (c .before .before .before .before .before .before .before .before .before .before .before .before .before .if1 .left)) (c .before .before .before .before .before .before .before .before .before .before .before .before .before .before .before .before .before .before .before .pre .4)))
 
 same-length-4 : tie.Need-same-length-4
 same-length-4 c = search needs
@@ -41,20 +40,20 @@ same-length-6 : tie.Need-same-length-6
 same-length-6 c = search needs
 
 returns-2 : tie.Need-returns-2
-unfolding visitCommitB
-returns-2 c = no-post _ _ _ _ _ _ (ne-eqb _ _ (λ e. c .before .before .before .before .before .before .before .before .before .before .if1 .left (c .before .before .before .before .before .before .before .before .before .before .before .fault .ensures ∙ e))) (rw (c .before .before .before .before .before .before .before .before .before .before .before .fault .ensures) at (c .before .before .before .before .before .before .abort .ensures))
+returns-2 c = in-post _ _ _ _ _ (out-by _ _ (c .before .before .before .before .before .before .before .before .before .before .before .before .before .before .before .before .before .before .before .before .before .fault .ensures) (c .before .before .before .before .before .before .before .before .before .before .before .before .before .before .before .before .before .before .before .before .if1 .left)) (keepers-chain _ _ _ _ _ (c .before .before .before .before .before .before .before .before .before .before .before .before .before .before .before .before .ask-keepers .ensures) (acts-judge _) (c .before .before .before .before .before .before .judge .ensures))
 
 pub visit-commit-spec : {M : Type 1} → statement M
 visit-commit-spec =
     tie.close
     (tie.spec
     fault-requires
-    gates-requires
+    abort-requires
     same-length
     same-length-2
     same-length-3
     returns
-    abort-requires
+    ask-keepers-requires
+    judge-requires
     same-length-4
     same-length-5
     same-length-6

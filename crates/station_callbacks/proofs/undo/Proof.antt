@@ -1,13 +1,15 @@
 -- `station_callbacks::undo` meets its contract.
 use mathlib.Core.Path.{sym}
-use borrow.Author.Tests.{eq-eqb, ne-eqb}
 use Rattle.station_callbacks.specs.Callbacks.{undoB}
 use borrow.Author.Needs.{needs}
 use Rattle.station_callbacks.proofs.undo.Statement.{statement}
 use Rattle.station_callbacks.proofs.undo.Tie as tie
 
-slice-read-if1 : tie.Need-slice-read-if1
-slice-read-if1 c = search needs
+slice-read-locking : tie.Need-slice-read-locking
+slice-read-locking c = search needs
+
+locking-requires : tie.Need-locking-requires
+locking-requires c κs = search needs
 
 sets-at-requires : tie.Need-sets-at-requires
 sets-at-requires c κs = search needs
@@ -23,7 +25,7 @@ same-length c = search needs
 
 returns : tie.Need-returns
 unfolding undoB
-returns c = simp (eq-eqb _ _ (c .before .before .before .before .before .before .before .if1 .taken), sym (c .before .before .before .before .before .sets-at .ensures)) (c .before .before .mark .ensures)
+returns c = simp (sym (c .before .before .before .before .before .before .before .before .locking .ensures), c .before .before .before .before .before .before .before .if1 .taken, sym (c .before .before .before .before .before .sets-at .ensures)) (c .before .before .mark .ensures)
 
 written-pages-requires : tie.Need-written-pages-requires
 written-pages-requires c κs = search needs
@@ -36,13 +38,14 @@ same-length-2 c = search needs
 
 returns-2 : tie.Need-returns-2
 unfolding undoB
-returns-2 c = simp (ne-eqb _ _ (c .before .before .before .before .before .before .if1 .left), sym (c .before .before .before .before .written-pages .ensures)) (c .before .before .drop-pages .ensures)
+returns-2 c = simp (sym (c .before .before .before .before .before .before .before .locking .ensures), c .before .before .before .before .before .before .if1 .left, sym (c .before .before .before .before .written-pages .ensures)) (c .before .before .drop-pages .ensures)
 
 pub undo-spec : {M : Type 1} → statement M
 undo-spec =
     tie.close
     (tie.spec
-    slice-read-if1
+    slice-read-locking
+    locking-requires
     sets-at-requires
     slice-aggregate-mark
     mark-requires

@@ -1,16 +1,19 @@
 -- `station_commit::version_sent` meets its contract.
+use mathlib.Core.Path.{sym}
 use Rattle.station_commit.specs.Commit.{versionSent}
-use borrow.Author.Tests.{eq-eqb, ne-eqb}
 use borrow.Author.Needs.{needs}
 use Rattle.station_commit.proofs.version_sent.Statement.{statement}
 use Rattle.station_commit.proofs.version_sent.Tie as tie
 
-shared-slice-read-if1 : tie.Need-shared-slice-read-if1
-shared-slice-read-if1 c = search needs
+shared-slice-read-locking : tie.Need-shared-slice-read-locking
+shared-slice-read-locking c = search needs
+
+locking-requires : tie.Need-locking-requires
+locking-requires c κs = search needs
 
 returns : tie.Need-returns
 unfolding versionSent
-returns c = simp (eq-eqb _ _ (c .if1 .taken))
+returns c = simp (sym (c .before .locking .ensures), c .if1 .taken)
 
 mul-get-u32 : tie.Need-mul-get-u32
 mul-get-u32 c = search needs
@@ -23,13 +26,14 @@ get-u32-requires c κs = search needs
 
 returns-2 : tie.Need-returns-2
 unfolding versionSent
-returns-2 c = simp (ne-eqb _ _ (c .before .if1 .left)) (c .get-u32 .ensures)
+returns-2 c = simp (sym (c .before .before .locking .ensures), c .before .if1 .left) (c .get-u32 .ensures)
 
 pub version-sent-spec : {M : Type 1} → statement M
 version-sent-spec =
     tie.close
     (tie.spec
-    shared-slice-read-if1
+    shared-slice-read-locking
+    locking-requires
     returns
     mul-get-u32
     add-get-u32

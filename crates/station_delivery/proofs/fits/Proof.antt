@@ -1,4 +1,6 @@
 -- `station_delivery::fits` meets its contract.
+use mathlib.Core.Path.{ap}
+use mathlib.Core.Bool.{not}
 use Rattle.station_delivery.specs.Delivery.{fitsB}
 use Rattle.station_delivery.specs.Laws.{no-other}
 use borrow.Author.Needs.{needs}
@@ -17,11 +19,17 @@ fits-lock-requires c κs = search needs
 fits-lock-requires-2 : tie.Need-fits-lock-requires-2
 fits-lock-requires-2 c κs = search needs
 
-shared-slice-read-result : tie.Need-shared-slice-read-result
-shared-slice-read-result c = search needs
+shared-slice-read-locking : tie.Need-shared-slice-read-locking
+shared-slice-read-locking c = search needs
 
-shared-slice-read-result-2 : tie.Need-shared-slice-read-result-2
-shared-slice-read-result-2 c = search needs
+locking-requires : tie.Need-locking-requires
+locking-requires c κs = search needs
+
+shared-slice-read-locking-2 : tie.Need-shared-slice-read-locking-2
+shared-slice-read-locking-2 c = search needs
+
+locking-requires-2 : tie.Need-locking-requires-2
+locking-requires-2 c κs = search needs
 
 fits-committed-requires : tie.Need-fits-committed-requires
 fits-committed-requires c κs = search needs
@@ -29,8 +37,11 @@ fits-committed-requires c κs = search needs
 fits-aborted-requires : tie.Need-fits-aborted-requires
 fits-aborted-requires c κs = search needs
 
-shared-slice-read-result-3 : tie.Need-shared-slice-read-result-3
-shared-slice-read-result-3 c = search needs
+shared-slice-read-locking-3 : tie.Need-shared-slice-read-locking-3
+shared-slice-read-locking-3 c = search needs
+
+locking-requires-3 : tie.Need-locking-requires-3
+locking-requires-3 c κs = search needs
 
 returns : tie.Need-returns
 unfolding fitsB
@@ -46,11 +57,11 @@ returns-3 c = rw (c .before .match .keys3) (c .fits-lock2 .ensures)
 
 returns-4 : tie.Need-returns-4
 unfolding fitsB
-returns-4 c = rw (c .before .match .keys4)
+returns-4 c = rw (c .before .before .match .keys4) (c .locking .ensures)
 
 returns-5 : tie.Need-returns-5
 unfolding fitsB
-returns-5 c = rw (c .before .match .keys5)
+returns-5 c = rw (c .before .before .match .keys5) (c .locking2 .ensures)
 
 returns-6 : tie.Need-returns-6
 unfolding fitsB
@@ -62,7 +73,7 @@ returns-7 c = rw (c .before .match .keys7) (c .fits-aborted .ensures)
 
 returns-8 : tie.Need-returns-8
 unfolding fitsB
-returns-8 c = rw (c .before .match .keys8)
+returns-8 c = rw (c .before .before .match .keys8) (ap not (c .locking3 .ensures))
 
 returns-9 : tie.Need-returns-9
 returns-9 c = let r = c .match .rest in absurd (no-other _ (c .before .before .before .before .pre .2) (r .0 .0 .0 .0 .0 .0 .0 .1) (r .0 .0 .0 .0 .0 .0 .1) (r .0 .0 .0 .0 .0 .1) (r .0 .0 .0 .0 .1) (r .0 .0 .0 .1) (r .0 .0 .1) (r .0 .1) (r .1))
@@ -75,11 +86,14 @@ fits-spec =
     fits-page-requires
     fits-lock-requires
     fits-lock-requires-2
-    shared-slice-read-result
-    shared-slice-read-result-2
+    shared-slice-read-locking
+    locking-requires
+    shared-slice-read-locking-2
+    locking-requires-2
     fits-committed-requires
     fits-aborted-requires
-    shared-slice-read-result-3
+    shared-slice-read-locking-3
+    locking-requires-3
     returns
     returns-2
     returns-3

@@ -6,8 +6,11 @@ use borrow.Author.Needs.{needs}
 use Rattle.station_delivery.proofs.fits_lock.Statement.{statement}
 use Rattle.station_delivery.proofs.fits_lock.Tie as tie
 
-shared-slice-read-result : tie.Need-shared-slice-read-result
-shared-slice-read-result c = search needs
+shared-slice-read-locking : tie.Need-shared-slice-read-locking
+shared-slice-read-locking c = search needs
+
+locking-requires : tie.Need-locking-requires
+locking-requires c κs = search needs
 
 get-u32-requires : tie.Need-get-u32-requires
 get-u32-requires c κs = search needs
@@ -32,7 +35,8 @@ pub fits-lock-spec : {M : Type 1} → statement M
 fits-lock-spec =
     tie.close
     (tie.spec
-    shared-slice-read-result
+    shared-slice-read-locking
+    locking-requires
     get-u32-requires
     live-requires
     shared-slice-read-for-write-on

@@ -35,8 +35,11 @@ live-requires c κs = search needs
 for-read-of-requires : tie.Need-for-read-of-requires
 for-read-of-requires c κs = search needs
 
-shared-slice-read-result : tie.Need-shared-slice-read-result
-shared-slice-read-result c = search needs
+shared-slice-read-locking : tie.Need-shared-slice-read-locking
+shared-slice-read-locking c = search needs
+
+locking-requires : tie.Need-locking-requires
+locking-requires c κs = search needs
 
 for-write-of-requires : tie.Need-for-write-of-requires
 for-write-of-requires c κs = search needs
@@ -59,6 +62,7 @@ fits-page-spec =
     ended-requires
     live-requires
     for-read-of-requires
-    shared-slice-read-result
+    shared-slice-read-locking
+    locking-requires
     for-write-of-requires
     returns)

@@ -13,8 +13,8 @@ slice-read-put-up c = search needs
 shared-slice-read-put-up : tie.Need-shared-slice-read-put-up
 shared-slice-read-put-up c = search needs
 
-get-u32-requires : tie.Need-get-u32-requires
-get-u32-requires c κs = search needs
+answers-for-requires : tie.Need-answers-for-requires
+answers-for-requires c κs = search needs
 
 put-up-requires : tie.Need-put-up-requires
 put-up-requires c κs = search needs
@@ -32,7 +32,7 @@ same-length-2 : tie.Need-same-length-2
 same-length-2 c = search needs
 
 returns : tie.Need-returns
-returns c = deescalate-sent _ _ _ (c .before .before .before .before .before .before .before .before .before .before .before .before .written-on .ensures) (c .before .before .before .before .before .before .before .before .get-u32 .ensures) (c .before .before .before .before .before .before .before .put-up .ensures) (c .before .before .before .loosened .ensures) (c .say .ensures)
+returns c = deescalate-sent _ _ _ (c .before .before .before .before .before .before .before .before .before .before .before .before .before .written-on .ensures) (c .before .before .before .before .before .before .before .before .answers-for .ensures) (c .before .before .before .before .before .before .before .put-up .ensures) (c .before .before .before .loosened .ensures) (c .say .ensures)
 
 pub on-deescalate-spec : {M : Type 1} → statement M
 on-deescalate-spec =
@@ -41,7 +41,7 @@ on-deescalate-spec =
     written-on-requires
     slice-read-put-up
     shared-slice-read-put-up
-    get-u32-requires
+    answers-for-requires
     put-up-requires
     loosened-requires
     say-requires

@@ -5,8 +5,8 @@ use borrow.Author.Needs.{needs}
 use Rattle.station_delivery.proofs.written_on.Statement.{statement}
 use Rattle.station_delivery.proofs.written_on.Tie as tie
 
-get-u32-requires : tie.Need-get-u32-requires
-get-u32-requires c κs = search needs
+answers-for-requires : tie.Need-answers-for-requires
+answers-for-requires c κs = search needs
 
 live-requires : tie.Need-live-requires
 live-requires c κs = search needs
@@ -25,17 +25,17 @@ shared-slice-read-result-2 c = search needs
 
 returns : tie.Need-returns
 unfolding writtenOnB
-returns c = simp (sym (c .before .before .before .before .get-u32 .ensures), sym (c .before .before .before .live .ensures), c .before .before .if1 .taken)
+returns c = simp (sym (c .before .before .before .before .answers-for .ensures), sym (c .before .before .before .live .ensures), c .before .before .if1 .taken)
 
 returns-2 : tie.Need-returns-2
 unfolding writtenOnB
-returns-2 c = simp (sym (c .before .before .get-u32 .ensures), sym (c .before .live .ensures), c .if1 .left)
+returns-2 c = simp (sym (c .before .before .answers-for .ensures), sym (c .before .live .ensures), c .if1 .left)
 
 pub written-on-spec : {M : Type 1} → statement M
 written-on-spec =
     tie.close
     (tie.spec
-    get-u32-requires
+    answers-for-requires
     live-requires
     shared-slice-read-result
     cast-result

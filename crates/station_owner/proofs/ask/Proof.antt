@@ -1,13 +1,15 @@
 -- `station_owner::ask` meets its contract.
 use mathlib.Core.Path.{sym}
-use borrow.Author.Tests.{eq-eqb, ne-eqb}
 use Rattle.station_owner.specs.Owner.{askB}
 use borrow.Author.Needs.{needs}
 use Rattle.station_owner.proofs.ask.Statement.{statement}
 use Rattle.station_owner.proofs.ask.Tie as tie
 
-shared-slice-read-if1 : tie.Need-shared-slice-read-if1
-shared-slice-read-if1 c = search needs
+shared-slice-read-locking : tie.Need-shared-slice-read-locking
+shared-slice-read-locking c = search needs
+
+locking-requires : tie.Need-locking-requires
+locking-requires c κs = search needs
 
 shared-slice-read-put-up : tie.Need-shared-slice-read-put-up
 shared-slice-read-put-up c = search needs
@@ -26,7 +28,7 @@ same-length c = search needs
 
 returns : tie.Need-returns
 unfolding askB
-returns c = simp (eq-eqb _ _ (c .before .before .before .before .before .before .if1 .taken), sym (c .before .before .before .number .ensures)) (c .before .before .put-up .ensures)
+returns c = simp (sym (c .before .before .before .before .before .before .before .locking .ensures), c .before .before .before .before .before .before .if1 .taken, sym (c .before .before .before .number .ensures)) (c .before .before .put-up .ensures)
 
 mul-request : tie.Need-mul-request
 mul-request c = search needs
@@ -45,13 +47,14 @@ same-length-2 c = search needs
 
 returns-2 : tie.Need-returns-2
 unfolding askB
-returns-2 c = simp (ne-eqb _ _ (c .before .before .before .before .before .if1 .left), sym (c .before .before .before .before .lowest .ensures .0)) (c .before .before .request .ensures)
+returns-2 c = simp (sym (c .before .before .before .before .before .before .locking .ensures), c .before .before .before .before .before .if1 .left, sym (c .before .before .before .before .lowest .ensures .0)) (c .before .before .request .ensures)
 
 pub ask-spec : {M : Type 1} → statement M
 ask-spec =
     tie.close
     (tie.spec
-    shared-slice-read-if1
+    shared-slice-read-locking
+    locking-requires
     shared-slice-read-put-up
     cast-put-up
     number-requires

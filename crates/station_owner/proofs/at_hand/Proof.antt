@@ -1,13 +1,15 @@
 -- `station_owner::at_hand` meets its contract.
 use mathlib.Core.Path.{sym}
-use borrow.Author.Tests.{eq-eqb, ne-eqb}
 use Rattle.station_owner.specs.Owner.{atHandB}
 use borrow.Author.Needs.{needs}
 use Rattle.station_owner.proofs.at_hand.Statement.{statement}
 use Rattle.station_owner.proofs.at_hand.Tie as tie
 
-shared-slice-read-if1 : tie.Need-shared-slice-read-if1
-shared-slice-read-if1 c = search needs
+shared-slice-read-locking : tie.Need-shared-slice-read-locking
+shared-slice-read-locking c = search needs
+
+locking-requires : tie.Need-locking-requires
+locking-requires c κs = search needs
 
 whole-requires : tie.Need-whole-requires
 whole-requires c κs = search needs
@@ -17,7 +19,7 @@ has-bit32-requires c κs = search needs
 
 returns : tie.Need-returns
 unfolding atHandB
-returns c = simp (eq-eqb _ _ (c .before .before .before .if1 .taken), sym (c .before .before .whole .ensures), sym (c .before .has-bit32 .ensures), c .if2 .taken)
+returns c = simp (sym (c .before .before .before .before .locking .ensures), c .before .before .before .if1 .taken, sym (c .before .before .whole .ensures), sym (c .before .has-bit32 .ensures), c .if2 .taken)
 
 add-result : tie.Need-add-result
 add-result c = search needs
@@ -27,7 +29,7 @@ shared-slice-read-result c = search needs
 
 returns-2 : tie.Need-returns-2
 unfolding atHandB
-returns-2 c = simp (eq-eqb _ _ (c .before .before .before .before .if1 .taken), sym (c .before .before .before .whole .ensures), sym (c .before .before .has-bit32 .ensures), c .before .if2 .left)
+returns-2 c = simp (sym (c .before .before .before .before .before .locking .ensures), c .before .before .before .before .if1 .taken, sym (c .before .before .before .whole .ensures), sym (c .before .before .has-bit32 .ensures), c .before .if2 .left)
 
 cached-requires : tie.Need-cached-requires
 cached-requires c κs = search needs
@@ -43,17 +45,18 @@ shared-slice-read-result-2 c = search needs
 
 returns-3 : tie.Need-returns-3
 unfolding atHandB
-returns-3 c = simp (ne-eqb _ _ (c .before .before .before .before .if1 .left), sym (c .before .before .before .cached .ensures), sym (c .before .before .has-bit322 .ensures), c .before .if3 .taken)
+returns-3 c = simp (sym (c .before .before .before .before .before .locking .ensures), c .before .before .before .before .if1 .left, sym (c .before .before .before .cached .ensures), sym (c .before .before .has-bit322 .ensures), c .before .if3 .taken)
 
 returns-4 : tie.Need-returns-4
 unfolding atHandB
-returns-4 c = simp (ne-eqb _ _ (c .before .before .before .if1 .left), sym (c .before .before .cached .ensures), sym (c .before .has-bit322 .ensures), c .if3 .left)
+returns-4 c = simp (sym (c .before .before .before .before .locking .ensures), c .before .before .before .if1 .left, sym (c .before .before .cached .ensures), sym (c .before .has-bit322 .ensures), c .if3 .left)
 
 pub at-hand-spec : {M : Type 1} → statement M
 at-hand-spec =
     tie.close
     (tie.spec
-    shared-slice-read-if1
+    shared-slice-read-locking
+    locking-requires
     whole-requires
     has-bit32-requires
     returns

@@ -4,12 +4,15 @@ use borrow.Author.Needs.{needs}
 use Rattle.station_owner.proofs.bad_set.Statement.{statement}
 use Rattle.station_owner.proofs.bad_set.Tie as tie
 
-shared-slice-read-result : tie.Need-shared-slice-read-result
-shared-slice-read-result c = search needs
+shared-slice-read-locking : tie.Need-shared-slice-read-locking
+shared-slice-read-locking c = search needs
+
+locking-requires : tie.Need-locking-requires
+locking-requires c κs = search needs
 
 returns : tie.Need-returns
 unfolding badSetB
-returns c = search needs
+returns c = cc
 
 pub bad-set-spec : {M : Type 1} → statement M
-bad-set-spec = tie.close (tie.spec shared-slice-read-result returns)
+bad-set-spec = tie.close (tie.spec shared-slice-read-locking locking-requires returns)

@@ -26,13 +26,16 @@ cached-requires c κs = search needs
 has-bit32-requires : tie.Need-has-bit32-requires
 has-bit32-requires c κs = search needs
 
+kept-whole-requires : tie.Need-kept-whole-requires
+kept-whole-requires c κs = search needs
+
 returns-3 : tie.Need-returns-3
 unfolding checkPurgeB
-returns-3 c = simp (lt-ltb _ _ (c .before .before .before .before .before .before .if1 .left), sym (c .before .before .before .before .before .requested .ensures), c .before .before .before .before .if2 .left, sym (c .before .before .before .used-page .ensures), sym (c .before .before .cached .ensures), sym (c .before .has-bit32 .ensures), c .if3 .taken)
+returns-3 c = simp (lt-ltb _ _ (c .before .before .before .before .before .before .before .if1 .left), sym (c .before .before .before .before .before .before .requested .ensures), c .before .before .before .before .before .if2 .left, sym (c .before .before .before .before .used-page .ensures), sym (c .before .before .before .cached .ensures), sym (c .before .before .has-bit32 .ensures), sym (c .before .kept-whole .ensures), c .if3 .taken)
 
 returns-4 : tie.Need-returns-4
 unfolding checkPurgeB
-returns-4 c = simp (lt-ltb _ _ (c .before .before .before .before .before .before .if1 .left), sym (c .before .before .before .before .before .requested .ensures), c .before .before .before .before .if2 .left, sym (c .before .before .before .used-page .ensures), sym (c .before .before .cached .ensures), sym (c .before .has-bit32 .ensures), c .if3 .left)
+returns-4 c = simp (lt-ltb _ _ (c .before .before .before .before .before .before .before .if1 .left), sym (c .before .before .before .before .before .before .requested .ensures), c .before .before .before .before .before .if2 .left, sym (c .before .before .before .before .used-page .ensures), sym (c .before .before .before .cached .ensures), sym (c .before .before .has-bit32 .ensures), sym (c .before .kept-whole .ensures), c .if3 .left)
 
 pub check-purge-spec : {M : Type 1} → statement M
 check-purge-spec =
@@ -44,5 +47,6 @@ check-purge-spec =
     used-page-requires
     cached-requires
     has-bit32-requires
+    kept-whole-requires
     returns-3
     returns-4)

@@ -1,5 +1,4 @@
 -- `station_owner::tell_abort` meets its contract.
-use borrow.Author.Tests.{eq-eqb, ne-eqb}
 use mathlib.Core.Path.{refl, sym}
 use Rattle.station_callbacks.specs.Callbacks.{flat}
 use Rattle.station_owner.specs.Owner.{abortsB}
@@ -8,8 +7,11 @@ use borrow.Author.Needs.{needs}
 use Rattle.station_owner.proofs.tell_abort.Statement.{statement}
 use Rattle.station_owner.proofs.tell_abort.Tie as tie
 
-shared-slice-read-if1 : tie.Need-shared-slice-read-if1
-shared-slice-read-if1 c = search needs
+shared-slice-read-locking : tie.Need-shared-slice-read-locking
+shared-slice-read-locking c = search needs
+
+locking-requires : tie.Need-locking-requires
+locking-requires c κs = search needs
 
 shared-slice-read-put-up : tie.Need-shared-slice-read-put-up
 shared-slice-read-put-up c = search needs
@@ -25,17 +27,18 @@ same-length c = search needs
 
 returns : tie.Need-returns
 unfolding abortsB
-returns c = simp (eq-eqb _ _ (c .before .before .before .before .before .before .if1 .taken), sym (c .before .before .before .number .ensures)) (post-one _ _ _ (c .before .before .put-up .ensures))
+returns c = simp (sym (c .before .before .before .before .before .before .before .locking .ensures), c .before .before .before .before .before .before .if1 .taken, sym (c .before .before .before .number .ensures)) (post-one _ _ _ (c .before .before .put-up .ensures))
 
 returns-2 : tie.Need-returns-2
 unfolding abortsB flat
-returns-2 c = simp (ne-eqb _ _ (c .if1 .left)) refl
+returns-2 c = simp (sym (c .before .locking .ensures), c .if1 .left) refl
 
 pub tell-abort-spec : {M : Type 1} → statement M
 tell-abort-spec =
     tie.close
     (tie.spec
-    shared-slice-read-if1
+    shared-slice-read-locking
+    locking-requires
     shared-slice-read-put-up
     number-requires
     put-up-requires

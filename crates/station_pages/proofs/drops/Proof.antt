@@ -19,6 +19,9 @@ used-page-requires c κs = search needs
 requested-requires : tie.Need-requested-requires
 requested-requires c κs = search needs
 
+kept-whole-requires : tie.Need-kept-whole-requires
+kept-whole-requires c κs = search needs
+
 returns : tie.Need-returns
 unfolding dropsB
 returns c = cc
@@ -32,4 +35,5 @@ drops-spec =
     shared-slice-read-result
     used-page-requires
     requested-requires
+    kept-whole-requires
     returns)

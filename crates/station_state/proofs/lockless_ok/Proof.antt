@@ -5,8 +5,8 @@ use Rattle.station_state.specs.Valid.{locklessOk}
 use Rattle.station_state.proofs.lockless_ok.Statement.{statement}
 use Rattle.station_state.proofs.lockless_ok.Tie as tie
 
-whole-requires : tie.Need-whole-requires
-whole-requires c κs = search needs
+passing-whole-requires : tie.Need-passing-whole-requires
+passing-whole-requires c κs = search needs
 
 none-in-requires : tie.Need-none-in-requires
 none-in-requires c κs = search needs
@@ -16,8 +16,8 @@ none-in-requires-2 c κs = search needs
 
 returns : tie.Need-returns
 unfolding locklessOk
-returns c = simp (sym (c .before .before .whole .ensures), sym (c .before .none-in .ensures), sym (c .none-in2 .ensures))
+returns c = simp (sym (c .before .before .passing-whole .ensures), sym (c .before .none-in .ensures), sym (c .none-in2 .ensures))
 
 pub lockless-ok-spec : {M : Type 1} → statement M
 lockless-ok-spec =
-    tie.close (tie.spec whole-requires none-in-requires none-in-requires-2 returns)
+    tie.close (tie.spec passing-whole-requires none-in-requires none-in-requires-2 returns)

@@ -4,17 +4,11 @@ use borrow.Author.Needs.{needs}
 use Rattle.station_state.proofs.loosen.Statement.{statement}
 use Rattle.station_state.proofs.loosen.Tie as tie
 
-add-x : tie.Need-add-x
-add-x c = search needs
+add-y : tie.Need-add-y
+add-y c = search needs
 
-slice-read-x : tie.Need-slice-read-x
-slice-read-x c = search needs
-
-add-x-2 : tie.Need-add-x-2
-add-x-2 c = search needs
-
-slice-read-x-2 : tie.Need-slice-read-x-2
-slice-read-x-2 c = search needs
+slice-read-y : tie.Need-slice-read-y
+slice-read-y c = search needs
 
 add-put-u8 : tie.Need-add-put-u8
 add-put-u8 c = search needs
@@ -36,10 +30,8 @@ pub loosen-spec : {M : Type 1} → statement M
 loosen-spec =
     tie.close
     (tie.spec
-    add-x
-    slice-read-x
-    add-x-2
-    slice-read-x-2
+    add-y
+    slice-read-y
     add-put-u8
     put-u8-requires
     page-off-requires

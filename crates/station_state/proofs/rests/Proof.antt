@@ -21,8 +21,8 @@ joined-requires c κs = search needs
 joined-requires-2 : tie.Need-joined-requires-2
 joined-requires-2 c κs = search needs
 
-whole-requires : tie.Need-whole-requires
-whole-requires c κs = search needs
+passing-whole-requires : tie.Need-passing-whole-requires
+passing-whole-requires c κs = search needs
 
 long-requires : tie.Need-long-requires
 long-requires c κs = search needs
@@ -37,7 +37,7 @@ shared-slice-read-result : tie.Need-shared-slice-read-result
 shared-slice-read-result c = search needs
 
 returns-3 : tie.Need-returns-3
-returns-3 c = rests-joined (c .before .before .before .before .before .before .before .before .before .before .before .args .s .now) (c .before .before .before .before .before .before .before .before .before .if1 .left) (omega (arith, c .before .before .before .before .before .before .before .if2 .left, c .before .before .before .before .before .before .before .before .get-u32 .ensures)) (c .before .before .before .before .before .before .joined .ensures) (c .before .before .before .before .before .joined2 .ensures) (c .before .before .before .long .ensures ∙ c .before .before .before .before .whole .ensures) (c .before .before .joined3 .ensures) (c .before .joined4 .ensures)
+returns-3 c = rests-joined (c .before .before .before .before .before .before .before .before .before .before .before .args .s .now) (c .before .before .before .before .before .before .before .before .before .if1 .left) (omega (arith, c .before .before .before .before .before .before .before .if2 .left, c .before .before .before .before .before .before .before .before .get-u32 .ensures)) (c .before .before .before .before .before .before .joined .ensures) (c .before .before .before .before .before .joined2 .ensures) (c .before .before .before .long .ensures ∙ c .before .before .before .before .passing-whole .ensures) (c .before .before .joined3 .ensures) (c .before .joined4 .ensures)
 
 pub rests-spec : {M : Type 1} → statement M
 rests-spec =
@@ -48,7 +48,7 @@ rests-spec =
     returns-2
     joined-requires
     joined-requires-2
-    whole-requires
+    passing-whole-requires
     long-requires
     joined-requires-3
     joined-requires-4

@@ -1,0 +1,2 @@
+-- The kinds of stations.
+pub mod Kinds
