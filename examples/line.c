@@ -521,7 +521,7 @@ static void print_owners(const struct owner *owners, const uint8_t *kinds)
     puts("station kind       commits  bottles  aborts: deadlock    stale   locked      own");
     for (size_t i = 0; i < WAX_STATIONS; i++)
         printf("%7zu %-10s %7" PRIu64 " %8" PRIu64 " %17" PRIu64 " %8" PRIu64 " %8" PRIu64 " %8" PRIu64 "\n", i,
-               kinds[i] == WAX_LOCKING ? "locking" : "validating", owners[i].commits, owners[i].bottles,
+               kinds[i] == WAX_VALIDATING ? "validating" : "locking", owners[i].commits, owners[i].bottles,
                owners[i].aborts[WAX_CAUSE_DEADLOCK], owners[i].aborts[WAX_CAUSE_STALE],
                owners[i].aborts[WAX_CAUSE_LOCKED], owners[i].aborts[0]);
 }
@@ -666,7 +666,7 @@ int main(int count, char **texts)
     make_line(&line, kinds);
     for (size_t i = 0; i < WAX_STATIONS; i++) {
         owners[i].left = options.rounds;
-        owners[i].locking = kinds[i] == WAX_LOCKING;
+        owners[i].locking = kinds[i] != WAX_VALIDATING;
         next_batch(&owners[i]);
     }
     moves = run(&line, owners);

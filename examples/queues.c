@@ -113,7 +113,7 @@ static void archive(const uint8_t *record, size_t length)
 
 static size_t down_room(size_t i)
 {
-    return kinds[i] == WAX_LOCKING ? WAX_LOCKING_ADDS : WAX_VALIDATING_ADDS;
+    return kinds[i] == WAX_VALIDATING ? WAX_VALIDATING_ADDS : WAX_LOCKING_ADDS;
 }
 
 #define LENT stations[i].state, WAX_STATION_LENGTH, messages, sizeof messages, commit, sizeof commit, told, WAX_TOLD
@@ -395,7 +395,7 @@ static void print_lines(uint64_t moves)
     uint64_t aborts = 0;
 
     for (size_t i = 0; i < WAX_STATIONS; i++) {
-        size_t *down = kinds[i] == WAX_LOCKING ? &locking : &validating;
+        size_t *down = kinds[i] == WAX_VALIDATING ? &validating : &locking;
 
         if (up < stations[i].up.most)
             up = stations[i].up.most;

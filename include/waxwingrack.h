@@ -16,7 +16,7 @@
  *         4-7    commit number (0 on the way to the server)
  *         8-11   transaction, not 0
  *         12     station, 0 to 7
- *         13     its kind, 0 locking, 1 validating
+ *         13     its kind, 0 locking, 1 validating, 2 keeping
  *         14-15  zero
  *         then   n + m addresses of one byte, reads first,
  *                strictly rising within reads and within writes
@@ -45,9 +45,9 @@ extern "C" {
 #endif
 
 /* Of this header; the library has no number of its own. waxwingrack.pc has the same. */
-#define WAX_VERSION       "1.12.0"
+#define WAX_VERSION       "1.13.0"
 #define WAX_VERSION_MAJOR 1
-#define WAX_VERSION_MINOR 12
+#define WAX_VERSION_MINOR 13
 #define WAX_VERSION_PATCH 0
 
 /* Stack that the deepest call takes, its own frame and those below it, in bytes, and the deepest call of a station or the server;
@@ -94,9 +94,13 @@ extern "C" {
 #define WAX_FIELDS         7    /* numbers that wax_archive_read gives */
 #define WAX_ENTRY_FIELDS   2    /* numbers that wax_archive_entry gives */
 
-/* Kinds of station. */
+/*
+ * Kinds of station. A keeping one is a locking one whose lock on a whole page outlives commit and abort, until another station wants
+ * the page: for a head that is alone on its counters. What is said of locking stations below holds for keeping ones too.
+ */
 #define WAX_LOCKING    UINT32_C(0)
 #define WAX_VALIDATING UINT32_C(1)
+#define WAX_KEEPING    UINT32_C(2)
 
 /* Where wax_archive_read puts what. */
 #define WAX_FIELD_END         0 /* position behind the record */
@@ -119,7 +123,7 @@ extern "C" {
  * Record check: is the first record of these bytes well-formed? What lies behind it is not looked at.
  *
  *   WAX_SHORT   fewer than 16 bytes, or fewer than the two size fields ask for (whatever they say)
- *   WAX_RECORD  more than 256 reads or writes, transaction 0, station above 7, kind above 1,
+ *   WAX_RECORD  more than 256 reads or writes, transaction 0, station above 7, kind above 2,
  *               byte 14 or 15 not 0, or addresses that do not rise strictly
  *   WAX_OK      else; any commit number is accepted
  *
@@ -133,7 +137,7 @@ uint32_t wax_record_check(const uint8_t *bytes, size_t length);
  * addresses: reads + writes bytes, reads first. values: 8 bytes each, little-endian, in the same order.
  *
  *   WAX_BUFFER  out_length is below 16 + 9 * (reads + writes), whatever the counts
- *   WAX_RECORD  more than 256 reads or writes, transaction 0, station above 7, kind above 1,
+ *   WAX_RECORD  more than 256 reads or writes, transaction 0, station above 7, kind above 2,
  *               addresses_length not reads + writes, values_length not 8 * (reads + writes),
  *               or addresses that do not rise strictly within reads and within writes
  *   WAX_OK      else: the record's WAX_RECORD_LENGTH(reads, writes) bytes are written,
@@ -369,7 +373,7 @@ uint32_t wax_counts_entry(const uint8_t *file, size_t length, size_t at, uint32_
  *
  * A station's state is WAX_STATION_LENGTH bytes that the host keeps and lends to every call (docs/STATE.md has their meaning).
  * Bytes that no call can leave and that a rule would trip over are no state: WAX_BUFFER. What is taken stays so. A state of a
- * version before 1.12.0 has another length, and is none. A message of one before 1.11.0, of 112 bytes, is WAX_LENGTH.
+ * version before 1.12.0 has another length, and is none; a server's of one before 1.13.0 too. A message of one before 1.11.0, of 112 bytes, is WAX_LENGTH.
  * Each call takes two more buffers and the place for what it tells:
  *
  *   messages  at least WAX_STATION_MESSAGES bytes: messages of WAX_MESSAGE_LENGTH bytes for the server, one behind the other
@@ -383,7 +387,7 @@ uint32_t wax_counts_entry(const uint8_t *file, size_t length, size_t at, uint32_
  * A call sends either messages or a commit, never both. Bytes of messages and commit behind what is sent stay as they are.
  * Any answer but WAX_OK changes nothing at all.
  *
- * A line has eight stations, and need not use them: one that never calls is never sent anything. Give it either kind.
+ * A line has eight stations, and need not use them: one that never calls is never sent anything. Give it any kind.
  *
  * A message that an end refuses has not been taken. Lent again it is refused again, and dropping it leaves its line waiting for
  * ever: between ends that keep the rules none is refused, so one was lost, doubled, changed or carried out of order, or an end was
@@ -462,7 +466,7 @@ uint32_t wax_counts_entry(const uint8_t *file, size_t length, size_t at, uint32_
  * A fresh state.
  *
  *   WAX_BUFFER  length is not WAX_STATION_LENGTH
- *   WAX_RANGE   station is above 7, or kind is neither WAX_LOCKING nor WAX_VALIDATING
+ *   WAX_RANGE   station is above 7, or kind is none of WAX_LOCKING, WAX_VALIDATING and WAX_KEEPING
  */
 uint32_t wax_station_fresh(uint32_t station, uint32_t kind, uint8_t *state, size_t length);
 
@@ -603,7 +607,7 @@ uint32_t wax_window_step(const uint8_t *message, size_t message_length, uint8_t 
  * What the bytes of a message say, before any state is looked at.
  *
  *   wax_down_check  for station `station`: WAX_LENGTH, WAX_KIND, WAX_RANGE (also a station above 7), else WAX_OK
- *   wax_up_check    for a server whose stations have these 8 kinds: WAX_BUFFER (kinds are not 8 bytes of 0 or 1),
+ *   wax_up_check    for a server whose stations have these 8 kinds: WAX_BUFFER (kinds are not 8 bytes of 0 to 2),
  *                   WAX_LENGTH, WAX_KIND, WAX_RANGE, WAX_RECORD, else WAX_OK
  */
 uint32_t wax_down_check(uint32_t station, const uint8_t *message, size_t length);
@@ -626,7 +630,7 @@ uint32_t wax_up_check(const uint8_t *kinds, size_t kinds_length, const uint8_t *
  *
  * Bytes of messages and records behind what is given stay as they are. Any answer but WAX_OK changes nothing at all.
  */
-#define WAX_SERVER_LENGTH   53336
+#define WAX_SERVER_LENGTH   53464
 #define WAX_SERVER_MESSAGES 18432 /* 128 messages */
 #define WAX_SERVER_RECORDS  7040  /* 8 records of WAX_LONGEST_SENT */
 
@@ -635,10 +639,10 @@ uint32_t wax_up_check(const uint8_t *kinds, size_t kinds_length, const uint8_t *
 #define WAX_SERVED_RECORDS  1
 
 /*
- * A fresh state of a server whose stations have these 8 kinds, WAX_LOCKING or WAX_VALIDATING, a byte each.
+ * A fresh state of a server whose stations have these 8 kinds, WAX_LOCKING, WAX_VALIDATING or WAX_KEEPING, a byte each.
  *
  *   WAX_BUFFER  length is not WAX_SERVER_LENGTH
- *   WAX_RANGE   kinds_length is not 8, or a kind is neither
+ *   WAX_RANGE   kinds_length is not 8, or a kind is none of these
  *
  *   static const uint8_t kinds[WAX_STATIONS] = { WAX_LOCKING, WAX_VALIDATING };
  *   wax_server_fresh(kinds, sizeof kinds, state, sizeof state);

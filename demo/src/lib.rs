@@ -1,5 +1,6 @@
 //! What the demo line and the plant's figures are made of: the host of a line, owners, and the archive played back.
 
+pub mod alone;
 pub mod archive;
 pub mod belt;
 pub mod counters;

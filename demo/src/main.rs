@@ -1,10 +1,12 @@
 //! The demo line: six camera heads, a panel, the shift office and the server, through the C interface.
 
+use demo::alone::Alone;
 use demo::archive;
 use demo::progress::Progress;
 use demo::report::{Played, Report};
 use demo::settings::Settings;
 use demo::shift::Shift;
+use demo::staff::KINDS;
 use demo::stretch::Stretch;
 use demo::turns::Turns;
 use std::fs::File;
@@ -32,16 +34,22 @@ fn run(settings: &Settings) -> Result<bool, String> {
     let begun = if settings.window {
         Shift::with_window
     } else {
-        Shift::new
+        Shift::of
     };
-    let mut shift = begun(settings.seed, settings.frames, archive);
+    let kinds = settings.kinds.unwrap_or(KINDS);
+    let mut shift = begun(kinds, settings.seed, settings.frames, archive);
     shift.pace = settings.pace;
     shift.turns = settings.shares.map(Turns::new);
-    shift.staff.sets = settings.sets;
+    if settings.sets {
+        shift.write_sets();
+    }
     shift.stretch = chart.map(|chart| Stretch::new(shift.kinds, chart.from, chart.calls));
     work(&mut shift, settings)?;
     let played = played(&settings.archive, &settings.playback)?;
-    let report = Report::of(&shift, &played);
+    let mut report = Report::of(&shift, &played);
+    if settings.kinds.is_some() {
+        report.kinds(&shift, &Alone::of_each_kind(settings.seed)?);
+    }
     say(&report.text)?;
     if let (Some(chart), Some(file), Some(stretch)) = (chart, chart_file, &shift.stretch) {
         draw(stretch, settings.seed, &chart.path, file)?;

@@ -91,7 +91,7 @@ impl Owner {
         }
     }
 
-    /// A purge may be refused where the page has gone already; nothing else may.
+    /// A purge may be refused where the page has gone already, or is kept; nothing else may.
     pub fn may_be_refused(&self, number: u32) -> bool {
         const KEPT: u32 = 10;
         matches!(self.steps[self.at], Step::Purge(_)) && number == KEPT

@@ -1,5 +1,6 @@
 //! What a shift came to, and whether owners, server, archive and playback program say the same.
 
+use crate::alone::Alone;
 use crate::archive::Printed;
 use crate::counters::{of_head, COUNTERS, HEADS};
 use crate::progress::causes;
@@ -7,7 +8,6 @@ use crate::shift::Shift;
 use crate::staff::{self, PANEL};
 use second::archive::Playback;
 use second::line::sets::STATIONS;
-use second::line::Kind;
 use second::numbers::OK;
 use std::io::Write;
 
@@ -90,10 +90,7 @@ impl Report {
 
     /// What its owner was told, against the commits that were played back.
     fn station<W: Write>(&mut self, station: usize, shift: &Shift<W>, played: u64) {
-        let kind = match shift.kinds[station] {
-            Kind::Locking => "locking",
-            Kind::Validating => "validating",
-        };
+        let kind = staff::kind_name(shift.kinds[station]);
         let frames = match station {
             head if head < HEADS => shift.staff.counted(of_head(head)).to_string(),
             _ => String::from("-"),
@@ -104,6 +101,26 @@ impl Report {
         self.line(&format!(
             "{station:<7}  {owner:<12}  {kind:<10}  {frames:>10} {aborts:>10} {commits:>10} {played:>10}  {verdict}"
         ));
+    }
+
+    /// Messages for each commit of a head, by kind: in the shift, where heads share their counters, and where each is alone;
+    /// beside them what document 000 found.
+    pub fn kinds<W: Write>(&mut self, shift: &Shift<W>, alone: &[Alone]) {
+        self.line("");
+        self.line("heads         messages for each commit      sharing        alone");
+        for alone in alone {
+            let of_kind = (0..HEADS).filter(|head| shift.kinds[*head] == alone.kind);
+            let [messages, commits] = of_kind.fold([0, 0], |[messages, commits], head| {
+                [
+                    messages + shift.messages[head],
+                    commits + shift.told[head].commits,
+                ]
+            });
+            let name = staff::kind_name(alone.kind);
+            let (sharing, alone) = (each(messages, commits), each(alone.messages, alone.commits));
+            self.line(&format!("{name:<40}  {sharing:>9}    {alone:>9}"));
+        }
+        self.line(DOCUMENT_000);
     }
 
     /// Whose messages the server took, where turns are shared.
@@ -172,6 +189,18 @@ impl Report {
         let last = &played.printed.last_line;
         let verdict = self.verdict(*last == format!("end {commits}"));
         self.line(&format!("the playback program: {last}: {verdict}"));
+    }
+}
+
+/// Callback-all and callback-read are its keeping and locking clients; section 5.3.
+const DOCUMENT_000: &str = "document 000: alone (PRIVATE) a callback-all client needs 12 messages a transaction of 16 pages, always fewer than
+callback-read; sharing, it needs more than callback-read from 15 clients on (HOTCOLD), or always (UNIFORM)";
+
+/// So many for each; none where there is nothing to divide by.
+fn each(number: u64, of: u64) -> String {
+    match of {
+        0 => String::from("-"),
+        of => format!("{:.2}", number as f64 / of as f64),
     }
 }
 

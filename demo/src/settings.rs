@@ -1,8 +1,11 @@
 //! The command line.
 
 use crate::shift::PACE;
+use crate::staff::{kinds_of, PANEL};
 use crate::stretch::CALLS;
 use crate::turns::{shares_of, Shares};
+use second::line::sets::STATIONS;
+use second::line::Kind;
 use second::options::Options;
 use std::process;
 
@@ -13,10 +16,11 @@ const USAGE: &str = include_str!("../usage.txt").trim_ascii_end();
 const FRAMES: u64 = 200_000;
 
 /// Options with a value.
-const VALUES: [&str; 9] = [
+const VALUES: [&str; 10] = [
     "--frames",
     "--seed",
     "--pace",
+    "--kinds",
     "--shares",
     "--archive",
     "--playback",
@@ -29,6 +33,8 @@ pub struct Settings {
     pub frames: u64,
     pub seed: u64,
     pub pace: usize,
+    /// Of the stations, where they are said.
+    pub kinds: Option<[Kind; STATIONS]>,
     pub shares: Option<Shares>,
     /// The panel is driven by registers.
     pub window: bool,
@@ -59,6 +65,7 @@ impl Settings {
             frames: at_least_one(&options, "--frames", FRAMES),
             seed: options.seed("--seed", 1),
             pace: at_least_one(&options, "--pace", PACE as u64) as usize,
+            kinds: kinds(&options),
             shares: shares(&options),
             window: options.has("--window"),
             sets: options.has("--sets"),
@@ -67,6 +74,14 @@ impl Settings {
             chart: chart(&options),
         }
     }
+}
+
+/// A panel behind a window is validating.
+fn kinds(options: &Options) -> Option<[Kind; STATIONS]> {
+    let text = options.text("--kinds")?;
+    let wants = "wants eight digits of 0 to 2, station 6 with --window a 1";
+    let kinds = kinds_of(text).filter(|kinds| !options.has("--window") || !kinds[PANEL].locks());
+    Some(kinds.unwrap_or_else(|| options.unclear("--kinds", wants)))
 }
 
 fn shares(options: &Options) -> Option<Shares> {

@@ -8,6 +8,8 @@ use crate::staff::{self, Staff, KINDS, PANEL};
 use crate::stretch::Stretch;
 use crate::turns::Turns;
 use second::line::call::Call;
+use second::line::message::Field;
+use second::line::places::Place;
 use second::line::sets::STATIONS;
 use second::line::{Answer, Cause, Kind};
 use second::random::Random;
@@ -29,6 +31,8 @@ pub struct Shift<W> {
     pub turns: Option<Turns>,
     pub calls: u64,
     pub told: [Told; STATIONS],
+    /// Messages on each station's two lines.
+    pub messages: [u64; STATIONS],
     /// Copies given back.
     pub purged: u64,
     owners: [Owner; STATIONS],
@@ -59,16 +63,26 @@ impl<W: Write> Shift<W> {
         Shift::of(KINDS, seed, frames, archive)
     }
 
-    /// The panel is a validating station, and works through the registers of a window.
-    pub fn with_window(seed: u64, frames: u64, archive: W) -> Shift<W> {
-        let mut kinds = KINDS;
+    /// The panel, a validating station now, works through the registers of a window.
+    pub fn with_window(
+        mut kinds: [Kind; STATIONS],
+        seed: u64,
+        frames: u64,
+        archive: W,
+    ) -> Shift<W> {
         kinds[PANEL] = Kind::Validating;
         let mut shift = Shift::of(kinds, seed, frames, archive);
         shift.line.put_behind_window(PANEL);
         shift
     }
 
-    fn of(kinds: [Kind; STATIONS], seed: u64, frames: u64, archive: W) -> Shift<W> {
+    /// Heads that lock write what they count on a page at once.
+    pub fn write_sets(&mut self) {
+        self.staff.sets = std::array::from_fn(|head| self.kinds[head].locks());
+    }
+
+    /// With stations of these kinds.
+    pub fn of(kinds: [Kind; STATIONS], seed: u64, frames: u64, archive: W) -> Shift<W> {
         let mut random = Random::new(seed);
         Shift {
             line: Line::fresh(kinds, archive),
@@ -79,6 +93,7 @@ impl<W: Write> Shift<W> {
             turns: None,
             calls: 0,
             told: [Told::default(); STATIONS],
+            messages: [0; STATIONS],
             purged: 0,
             owners: std::array::from_fn(|station| Owner::new(station as u8)),
             random,
@@ -146,6 +161,9 @@ impl<W: Write> Shift<W> {
         let made = self.line.call(call);
         if let Some(stretch) = &mut self.stretch {
             stretch.made(call, &made)?;
+        }
+        for message in made.iter().flat_map(|done| &done.sent) {
+            self.messages[usize::from(Field::Station.byte(message))] += 1;
         }
         match (made, call.station()) {
             (Ok(done), Some(station)) => self.tell(station.into(), &done),
@@ -235,6 +253,7 @@ mod tests {
     use super::*;
     use crate::archive;
     use crate::counters::COUNTERS;
+    use crate::staff::kinds_of;
     use second::numbers::OK;
 
     #[test]
@@ -267,12 +286,31 @@ mod tests {
     fn a_panel_behind_a_window() {
         for seed in 1..=3 {
             let mut bytes = Vec::new();
-            let mut shift = Shift::with_window(seed, 400, &mut bytes);
+            let mut shift = Shift::with_window(KINDS, seed, 400, &mut bytes);
             while shift.turn().unwrap() {}
             assert_eq!(shift.counted(), 400);
             let window = shift.line.window(PANEL).unwrap();
             assert!(window.accesses > 0 && window.interrupts > 0);
             assert!(shift.staff.panel.looks > 0 && shift.told[PANEL].aborts[2] > 0);
+            let commits = shift.all_told().commits;
+            let (playback, number) = archive::play(&bytes[..]).unwrap();
+            assert_eq!((u64::from(playback.last), number), (commits, OK));
+        }
+    }
+
+    /// .. and of stations of all three kinds, with single writes and with sets.
+    #[test]
+    fn stations_of_three_kinds() {
+        for (seed, kinds) in (1..).zip(["22211101", "20212100", "22222222", "02102112"]) {
+            let kinds = kinds_of(kinds).unwrap();
+            let mut bytes = Vec::new();
+            let mut shift = Shift::of(kinds, seed, 400, &mut bytes);
+            if seed % 2 == 0 {
+                shift.write_sets();
+            }
+            while shift.turn().unwrap() {}
+            assert_eq!(shift.counted(), 400);
+            assert!(shift.messages.iter().all(|messages| *messages > 0));
             let commits = shift.all_told().commits;
             let (playback, number) = archive::play(&bytes[..]).unwrap();
             assert_eq!((u64::from(playback.last), number), (commits, OK));

@@ -20,6 +20,22 @@ pub const KINDS: [Kind; STATIONS] = {
     [L, L, L, V, V, V, L, V]
 };
 
+/// Eight digits, by station.
+pub fn kinds_of(text: &str) -> Option<[Kind; STATIONS]> {
+    let kind = |digit: char| Kind::of(digit.to_digit(10)?);
+    let kinds: Option<Vec<Kind>> = text.chars().map(kind).collect();
+    kinds?.try_into().ok()
+}
+
+/// A kind's name.
+pub fn kind_name(kind: Kind) -> &'static str {
+    match kind {
+        Kind::Locking => "locking",
+        Kind::Validating => "validating",
+        Kind::Keeping => "keeping",
+    }
+}
+
 /// Hours of a shift.
 const HOURS_OF_SHIFT: u64 = 8;
 /// Frames between two looks of the panel, and of the office, at most.
@@ -27,8 +43,8 @@ const LOOK: usize = 60;
 
 #[derive(Default)]
 pub struct Staff {
-    /// Locking heads write what they count on a page at once.
-    pub sets: bool,
+    /// These heads write what they count on a page at once.
+    pub sets: [bool; HEADS],
     heads: [Head; HEADS],
     pub panel: Panel,
     office: Office,
@@ -81,7 +97,7 @@ impl Staff {
         match station {
             PANEL => self.panel.work(belt, random),
             OFFICE => self.office.work(belt, random),
-            head => self.heads[head].work(self.sets && KINDS[head] == Kind::Locking),
+            head => self.heads[head].work(self.sets[head]),
         }
     }
 
@@ -216,4 +232,18 @@ fn later(belt: &Belt, random: &mut Random) -> u64 {
 fn looking() -> Vec<Step> {
     let reads = counters::of_heads().map(Step::Read);
     std::iter::once(Step::Begin).chain(reads).collect()
+}
+
+#[cfg(test)]
+mod tests {
+    use super::*;
+
+    #[test]
+    fn kinds_by_digits() {
+        assert_eq!(kinds_of("00011101"), Some(KINDS));
+        assert_eq!(kinds_of("22222222"), Some([Kind::Keeping; STATIONS]));
+        for wrong in ["", "0001110", "000111011", "00011103", "0001110x"] {
+            assert_eq!(kinds_of(wrong), None, "{wrong}");
+        }
+    }
 }

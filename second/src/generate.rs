@@ -2,7 +2,7 @@
 
 use crate::archive::{Playback, ADDRESSES};
 use crate::random::Random;
-use crate::record::Record;
+use crate::record::{Record, KINDS};
 
 /// How many reads and writes the records have.
 #[derive(Clone, Copy, Debug)]
@@ -96,7 +96,7 @@ pub fn record(random: &mut Random, size: Size) -> Record {
         commit: if random.one_in(4) { 0 } else { number(random) },
         transaction: number(random),
         station: random.below(8) as u8,
-        kind: random.below(2) as u8,
+        kind: random.below(KINDS as usize) as u8,
     }
 }
 
@@ -137,7 +137,7 @@ impl Line {
             transaction: self.transactions[station],
             station: station as u8,
             // a station's kind is fixed for life
-            kind: (station % 2) as u8,
+            kind: (station % KINDS as usize) as u8,
         }
     }
 

@@ -11,6 +11,8 @@ pub const VALUE: usize = LONG;
 pub const ENTRY: usize = 1 + VALUE;
 /// Reads, and writes, of one record at most.
 pub const MOST: u32 = 256;
+/// Kinds of station, from 0: "number 5 starts at kind 3".
+pub const KINDS: u32 = 3;
 /// Length of the longest record.
 pub const LONGEST: usize = HEADER + ENTRY * 2 * MOST as usize;
 
@@ -65,7 +67,7 @@ impl Header {
             & (self.writes <= MOST)
             & (self.transaction != 0)
             & (self.station <= 7)
-            & (self.kind <= 1)
+            & (self.kind < KINDS)
     }
 
     /// Whether these fields, their bytes and the record's addresses keep the rules of a record.

@@ -107,7 +107,13 @@ fn later() -> Record {
     }
 }
 
+/// Of a line with two kinds of station, as it was written first.
 fn longer() -> Vec<Record> {
     let random = &mut Random::new(SEED);
-    generate::commits(random, &Playback::FRESH, Size::Tiny, LONGER)
+    let commits = generate::commits(random, &Playback::FRESH, Size::Tiny, LONGER);
+    let of_two_kinds = |record: Record| Record {
+        kind: record.station % 2,
+        ..record
+    };
+    commits.into_iter().map(of_two_kinds).collect()
 }

@@ -103,8 +103,15 @@ fn number_5_header() {
     assert_eq!(changed(8, 0), Err(Refusal::Record), "transaction 0");
     assert_eq!(changed(12, 7), Ok(()));
     assert_eq!(changed(12, 8), Err(Refusal::Record), "station above 7");
-    assert_eq!(changed(13, 1), Ok(()));
-    assert_eq!(changed(13, 2), Err(Refusal::Record), "kind above 1");
+    for kind in 0..=255 {
+        // document 02, wish 10: "number 5 starts at kind 3"
+        let expected = if kind < 3 {
+            Ok(())
+        } else {
+            Err(Refusal::Record)
+        };
+        assert_eq!(changed(13, kind), expected, "kind {kind}");
+    }
     assert_eq!(changed(14, 1), Err(Refusal::Record), "first zero byte");
     assert_eq!(changed(15, 1), Err(Refusal::Record), "second zero byte");
 }
@@ -293,10 +300,15 @@ fn faults_in_the_text() {
     };
     assert_eq!(ending(&[c12(), wrong_read]), "refused 14 after 1");
     let broken = Record {
-        kind: 2,
+        kind: 3,
         ..read_of_8()
     };
     assert_eq!(ending(&[c12(), broken]), "refused 5 after 1");
+    let keeping = Record {
+        kind: 2,
+        ..read_of_8()
+    };
+    assert_eq!(ending(&[c12(), keeping]), "end 2");
 }
 
 #[test]

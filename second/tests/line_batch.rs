@@ -2,9 +2,11 @@
 
 use second::line::counts::Counts;
 use second::line::hot::{self, Hot};
+use second::line::keeps::{Place, Tally};
 use second::line::neighbours;
 use second::line::runs;
 use second::line::shorten::shorten;
+use second::line::Kind;
 
 #[test]
 fn reaches_everything() {
@@ -53,4 +55,24 @@ fn neighbours_abort_nobody() {
         assert_eq!(by_object.aborts, 0);
         assert!(by_object.commits > by_page.commits);
     }
+}
+
+/// Document 02, wish 10: alone on its counters a keeping head needs two messages for each commit, its 3 and its 21, but for
+/// the first; where heads meet often it needs more than a locking one.
+#[test]
+fn keeping_heads() {
+    let each = |kind: Kind, place: Place| {
+        let mut tally = Tally::of(kind, place, 4);
+        (1..=5).for_each(|seed| tally.run(seed, 20_000));
+        tally
+    };
+    let [locking, keeping] = [Kind::Locking, Kind::Keeping].map(|kind| each(kind, Place::Alone));
+    assert_eq!([locking.aborts, keeping.aborts], [0, 0]);
+    // one request in each of the five runs for each of the four heads
+    assert_eq!(keeping.requests, 20);
+    assert!(locking.requests >= locking.commits);
+    assert!(keeping.each() < 2.1 && locking.each() > 3.9);
+    let [locking, keeping] =
+        [Kind::Locking, Kind::Keeping].map(|kind| each(kind, Place::Anywhere).each());
+    assert!(keeping > locking, "{keeping} {locking}");
 }

@@ -623,7 +623,7 @@ fn malformed() {
         "write 0 8 18446744073709551616",
         "write 0 8 +1",
         "fresh 0000000",
-        "fresh 00000002",
+        "fresh 00000003",
         "server x",
         "serverraw",
         "serverraw 0",

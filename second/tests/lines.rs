@@ -119,9 +119,9 @@ fn number_1() {
 #[test]
 fn fresh() {
     let mut state = vec![7; LENGTH];
-    assert_eq!(proved::fresh(&[0, 1, 2, 0, 0, 0, 0, 0], &mut state), 4);
+    assert_eq!(proved::fresh(&[0, 1, 2, 3, 0, 0, 0, 0], &mut state), 4);
     assert_eq!(proved::fresh(&[0; 7], &mut state), 4);
-    assert_eq!(proved::fresh(&[2; 9], &mut state[1..]), 1);
+    assert_eq!(proved::fresh(&[3; 9], &mut state[1..]), 1);
     assert_eq!(state, [7; LENGTH]);
 }
 
@@ -166,6 +166,7 @@ fn a_request_outside_its_set() {
         (Field::Request, 0, 8),
         (Field::WrittenSet, 2, 1),
         (Field::Whole, 1, 2),
+        (Field::WholeFor, 4, 1),
     ];
     for (field, at, byte) in fields {
         server.state[field.start() + at] = byte;

@@ -226,8 +226,8 @@ fn number_5_header() {
         (12, 8, 46, "station 8, but stations are 0 to 7"),
         (12, 9, 46, "station 9, but stations are 0 to 7"),
         (12, 255, 46, "station 255, but stations are 0 to 7"),
-        (13, 2, 47, "kind 2, but kinds are 0 and 1"),
-        (13, 255, 47, "kind 255, but kinds are 0 and 1"),
+        (13, 3, 47, "kind 3, but kinds are 0 to 2"),
+        (13, 255, 47, "kind 255, but kinds are 0 to 2"),
         (14, 7, 48, "this byte is 7, but it must be 0"),
         (15, 255, 49, "this byte is 255, but it must be 0"),
     ] {
@@ -318,7 +318,7 @@ fn the_first_of_several_faults_of_a_header_is_named() {
     for (at, to, byte, words) in [
         (15, 7, 49, "this byte is 7, but it must be 0"),
         (14, 6, 48, "this byte is 6, but it must be 0"),
-        (13, 5, 47, "kind 5, but kinds are 0 and 1"),
+        (13, 5, 47, "kind 5, but kinds are 0 to 2"),
         (12, 8, 46, "station 8, but stations are 0 to 7"),
         (8, 0, 42, "transaction 0, but the first is 1"),
     ] {

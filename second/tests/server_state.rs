@@ -41,6 +41,7 @@ fn the_fields_are_the_tables() {
     assert_eq!(Field::AgeKept.range().end, LENGTH);
     assert_eq!(Field::of(0), Some(Field::Value));
     assert_eq!(Field::of(52_471), Some(Field::Asked));
+    assert_eq!(Field::of(52_472), Some(Field::WholeFor));
     assert_eq!(Field::of(LENGTH), None);
 }
 
@@ -48,7 +49,7 @@ fn the_fields_are_the_tables() {
 #[test]
 fn fresh() {
     let bytes = encode(&Server::fresh([Kind::Validating; 8], 0, [0; 8]));
-    let kinds = (53_272..53_280).map(|at| (at, 1));
+    let kinds = (53_400..53_408).map(|at| (at, 1));
     let expected: Vec<(usize, u8)> = [(34_944, 1), (34_952, 1)]
         .into_iter()
         .chain(kinds)
@@ -69,6 +70,7 @@ fn a_state_place_by_place() {
     assert_eq!(Field::NextArrival.long(&bytes, 0), 6);
     assert_eq!(Field::Whole.byte_of(&bytes, 1), 1);
     assert_eq!(Field::Asked.word(&bytes, 0), 0b10);
+    assert_eq!(Field::WholeFor.word(&bytes, 1), 1);
     assert_eq!(Field::Lock.byte_of(&bytes, 16), 4);
     assert_eq!(Field::Listed.word(&bytes, 0), 0b10);
     assert_eq!(Field::Listed.word(&bytes, 1), 0b1100);
@@ -102,8 +104,8 @@ fn called_back() {
 fn number_1_lengths_and_ranges() {
     let good = busy();
     assert!(valid(&good));
-    // 37,080 up to version 1.10.0
-    for length in [0, 1, 37_080, LENGTH - 1] {
+    // 37,080 up to version 1.10.0, 53,336 up to 1.12.0
+    for length in [0, 1, 37_080, 53_336, LENGTH - 1] {
         assert!(!valid(&good[..length]));
     }
     assert!(!valid(&[&good[..], &[0]].concat()));
@@ -173,19 +175,59 @@ fn number_1_locks_and_transactions() {
     assert!(!word(Field::Work, 1) && word(Field::Work, 2));
 }
 
-/// "a locking station whose transaction is unfinished": of objects and of pages; a 19 is for a page that is locked whole.
+/// "a locking or keeping station whose transaction is unfinished": of objects and of pages; a 19 is for a page that is locked
+/// whole.
 #[test]
 fn number_1_holders() {
-    let good = busy();
-    for (field, at) in [(Field::Lock, 250), (Field::Whole, 31)] {
-        let held = |station: u8| valid(&with(&good, field.start() + at, station + 1));
+    let mut good = busy();
+    // all are in their first transaction
+    let whole = |station: u8| {
+        let mut bytes = with(&good, Field::Whole.start() + 31, station + 1);
+        Field::WholeFor.put_word(&mut bytes, 31, 1);
+        valid(&bytes)
+    };
+    let object = |station: u8| valid(&with(&good, Field::Lock.start() + 250, station + 1));
+    for (what, held) in [
+        ("whole", &whole as &dyn Fn(u8) -> bool),
+        ("object", &object),
+    ] {
         // 1 is validating, 5 to 7 have no transaction
-        assert!([0, 2, 3, 4].into_iter().all(held), "{field:?}");
-        assert!(![1, 5, 6, 7].into_iter().any(held), "{field:?}");
+        assert!([0, 2, 3, 4].into_iter().all(held), "{what}");
+        assert!(![1, 5, 6, 7].into_iter().any(held), "{what}");
     }
     // page 1 is 0's
     assert!(!valid(&with(&good, Field::Asked.start(), 0b11)));
-    assert!(valid(&with(&good, Field::Asked.start(), 0)));
+    good = with(&good, Field::Asked.start(), 0);
+    assert!(valid(&good));
+}
+
+/// "the holder's latest; of a keeping holder any from 1 to its latest; 0 where the page is not locked whole"
+#[test]
+fn number_1_whole_for() {
+    let kept = "fresh 20000000; begin 0; write 0 8 5; server 0; station 0; commit 0; server 0; station 0; \
+        begin 0; read 0 16; server 0; station 0; ";
+    let keeping = encode(&behind(kept).server);
+    assert_eq!(Field::Whole.byte_of(&keeping, 1), 1);
+    assert_eq!(Field::WholeFor.word(&keeping, 1), 1);
+    assert_eq!(Field::Latest.word(&keeping, 0), 2);
+    let put = |bytes: &[u8], page: usize, transaction: u32| {
+        let mut bytes = bytes.to_vec();
+        Field::WholeFor.put_word(&mut bytes, page, transaction);
+        valid(&bytes)
+    };
+    assert!(put(&keeping, 1, 1) && put(&keeping, 1, 2));
+    assert!(!put(&keeping, 1, 0) && !put(&keeping, 1, 3) && !put(&keeping, 1, u32::MAX));
+    assert!(put(&keeping, 0, 0) && !put(&keeping, 0, 1));
+    // it keeps the page whether its transaction is finished or not; an object lock wants an unfinished one
+    let finished = with(&keeping, Field::Unfinished.start(), 0);
+    assert!(valid(&finished));
+    let object = Field::Lock.start() + 8;
+    assert!(valid(&with(&keeping, object, 1)) && !valid(&with(&finished, object, 1)));
+    // as a locking one it would have the lock in its latest transaction
+    let locking = with(&keeping, Field::Kind.start(), 0);
+    assert!(!valid(&locking) && !put(&locking, 1, 1) && put(&locking, 1, 2));
+    assert!(!put(&with(&finished, Field::Kind.start(), 0), 1, 2));
+    assert!(!put(&with(&keeping, Field::Kind.start(), 1), 1, 2));
 }
 
 /// "a station that waits for nothing has an empty entry, one that waits has the entry that its message made"

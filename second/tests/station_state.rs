@@ -141,7 +141,7 @@ fn number_1() {
         assert!(!valid(&good[..length]));
     }
     assert!(!valid(&[&good[..], &[0]].concat()));
-    for (field, most) in [(Field::Kind, 1), (Field::Open, 1), (Field::Wait, 3)] {
+    for (field, most) in [(Field::Kind, 2), (Field::Open, 1), (Field::Wait, 3)] {
         for byte in most + 1..=255 {
             assert!(
                 !valid(&with(&good, field.start(), byte)),
@@ -198,6 +198,28 @@ fn number_1_of_a_transaction() {
         let at = field.range().end - 1;
         assert!(valid(&with(&open, at, 1)), "{field:?}");
         assert!(!valid(&with(&validating, at, 1)), "{field:?}");
+    }
+}
+
+/// "0 while no transaction is open, but at a keeping station": the pages that are locked whole alone.
+#[test]
+fn number_1_of_kept_locks() {
+    let (_, closed) = behind("begin 0; read 0 8; server 0; station 0; abort 0");
+    let keeping = with(&closed, Field::Kind.start(), 2);
+    for field in Field::OF_LOCKS {
+        let at = field.range().end - 1;
+        let kept = matches!(field, Field::Whole);
+        assert_eq!(valid(&with(&keeping, at, 1)), kept, "{field:?}");
+    }
+    let script =
+        "fresh 20000000; begin 0; write 0 8 5; server 0; station 0; commit 0; server 0; station 0";
+    let (station, bytes) = behind(script);
+    assert_eq!(Field::Whole.word(&bytes, 0), 0b10);
+    assert_eq!(Field::Open.byte(&bytes), 0);
+    assert!(valid(&bytes) && station.keeps_rules());
+    assert_eq!(decode(&bytes), Some(station));
+    for kind in [0, 1] {
+        assert!(!valid(&with(&bytes, Field::Kind.start(), kind)));
     }
 }
 

@@ -2,16 +2,18 @@
 
 use second::line::counts::Counts;
 use second::line::hot::{self, Hot};
+use second::line::keeps::{self, Place};
 use second::line::neighbours::{self, Tally};
 use second::line::rejects::{self, Habit};
 use second::line::runs::{self, Failed};
+use second::line::Kind;
 use second::options::Options;
 use std::panic;
 use std::process;
 use std::sync::atomic::{AtomicU64, Ordering};
 use std::time::{Duration, Instant};
 
-const USAGE: &str = "line_runs [--seed N|random] [--runs N] [--seconds N] [--calls N] [--hot | --neighbours | --rejects]
+const USAGE: &str = "line_runs [--seed N|random] [--runs N] [--seconds N] [--calls N] [--hot | --neighbours | --rejects | --kinds]
   --seed     of the first run; each next run's is one more
   --runs     how many, 10000 if nothing is said; with --seconds no end but the time's
   --seconds  stop after so long
@@ -21,7 +23,8 @@ const USAGE: &str = "line_runs [--seed N|random] [--runs N] [--seconds N] [--cal
   --neighbours  instead, validating heads on neighbouring objects: aborts, messages and bytes for each commit, with versions
              of pages and of objects; as many runs and calls
   --rejects  instead, locking heads that touch three counters of one page: how often they lose, with a request for each counter
-             and with one for the set; as many runs and calls";
+             and with one for the set; as many runs and calls
+  --kinds    instead, heads of each kind on pages of their own and on shared ones: messages for each commit; as many runs and calls";
 
 /// Of the run being made.
 static SEED: AtomicU64 = AtomicU64::new(0);
@@ -62,14 +65,15 @@ fn settings() -> Settings {
     let options = Options::read(
         USAGE,
         &["--seed", "--runs", "--seconds", "--calls"],
-        &["--hot", "--neighbours", "--rejects"],
+        &["--hot", "--neighbours", "--rejects", "--kinds"],
     );
     let options = options.without_words();
     let timed = options.has("--seconds");
-    let all: [(&str, fn(&Settings)); 3] = [
+    let all: [(&str, fn(&Settings)); 4] = [
         ("--hot", hot_counters),
         ("--neighbours", neighbours),
         ("--rejects", rejected_bottles),
+        ("--kinds", heads_of_kinds),
     ];
     let asked = all.into_iter().find(|(name, _)| options.has(name));
     let figures = asked.map(|(_, figures)| figures);
@@ -141,6 +145,26 @@ fn rejected_bottles(settings: &Settings) {
             println!("{heads} heads, {runs} runs of {calls} calls, counters {first}");
             println!("a request for each: {single}");
             println!("one for the set:    {sets}");
+        }
+    }
+}
+
+/// Heads of each kind, two and eight, alone and sharing.
+fn heads_of_kinds(settings: &Settings) {
+    let places = [
+        ("alone", Place::Alone),
+        ("one transaction in 16 anywhere", Place::Sharing(16)),
+        ("one transaction in 4 anywhere", Place::Sharing(4)),
+        ("anywhere", Place::Anywhere),
+    ];
+    for heads in [2, 8] {
+        for (name, place) in places {
+            println!("{heads} heads, {name}");
+            for kind in Kind::ALL {
+                let mut tally = keeps::Tally::of(kind, place, heads);
+                each_run(settings, |seed| tally.run(seed, settings.calls));
+                println!("{kind:?}: {tally}");
+            }
         }
     }
 }

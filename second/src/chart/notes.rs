@@ -4,7 +4,7 @@ use super::words;
 use crate::line::message::{Down, Field, Up};
 use crate::line::places::Place;
 use crate::line::server::{HeldBy, Server, Victim};
-use crate::line::sets::{rising, Addresses, ObjectSet, PageSet, PAGES, STATIONS};
+use crate::line::sets::{page_bit, rising, Addresses, ObjectSet, PageSet, PAGES, STATIONS};
 use crate::line::station::Station;
 use crate::line::world::Outcome;
 use crate::line::Cause;
@@ -42,6 +42,7 @@ pub fn server(
             notes.push(format!("frees the locks of {station}"));
         }
     }
+    notes.extend(ended(taken, outcome).filter_map(|station| keeps(after, station)));
     for station in 0..STATIONS as u8 {
         listing(before, after, station, &mut notes);
     }
@@ -51,6 +52,21 @@ pub fn server(
         notes.push(String::from("changes nothing"));
     }
     notes
+}
+
+/// Stations whose transactions a step ends: its own message's, if that is a 4, and those of the 21s and 22s.
+fn ended<'a>(taken: Option<&'a (u8, Up)>, outcome: &'a Outcome) -> impl Iterator<Item = u8> + 'a {
+    let aborted = taken.filter(|(_, message)| matches!(message, Up::Abort { .. }));
+    let told = |sent: &&Vec<u8>| matches!(Field::Kind.byte(sent), 21 | 22);
+    let told = outcome.sent.iter().filter(told);
+    let told = told.map(|sent| Field::Station.byte(sent));
+    aborted.map(|(station, _)| *station).into_iter().chain(told)
+}
+
+/// What a keeping station has whole behind the end of its transaction.
+fn keeps(after: &Server, station: u8) -> Option<String> {
+    let (_, whole) = after.locks(station);
+    (whole != 0).then(|| format!("{station} keeps {}", words::pages(whole)))
 }
 
 /// Why a commit gets 22.
@@ -187,7 +203,10 @@ fn de_escalated(page: u8, transaction: u32, after: &Station) -> String {
     let mut left = Addresses::default();
     left.join(page, locked.on(page));
     if left == Addresses::default() {
-        return format!("t{transaction} is over");
+        return match after.kind().keeps() {
+            true => format!("gives up {}", words::pages(page_bit(page))),
+            false => format!("t{transaction} is over"),
+        };
     }
     format!("lock on {} left", words::list(&left))
 }

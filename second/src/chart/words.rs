@@ -86,9 +86,9 @@ fn page_message(message: &PageMessage, kind: Kind) -> String {
         Grant::Object => String::from(", object locks"),
         Grant::Whole => String::from(", whole lock"),
     };
-    let version = match kind {
-        Kind::Validating => format!(", versions {}", versions(message)),
-        Kind::Locking => String::new(),
+    let version = match kind.locks() {
+        true => String::new(),
+        false => format!(", versions {}", versions(message)),
     };
     let mut set = Addresses::default();
     set.join(page, message.unavailable);
@@ -122,7 +122,7 @@ fn committing(commit: &Commit, kind: Kind) -> String {
     if !commit.record.writes.is_empty() {
         parts.push(format!("wrote {}", addresses(&commit.record.writes)));
     }
-    if kind == Kind::Validating {
+    if !kind.locks() {
         let mut told = Vec::new();
         for (address, version) in commit.versioned() {
             let part = format!("{address} v{version}");

@@ -5,7 +5,7 @@ use super::counts::Counts;
 use super::message::{Down, Field, Up};
 use super::places::Place;
 use super::server::{state, Server, Step, Victim, WaitsFor};
-use super::sets::{rising, StationSet, STATIONS};
+use super::sets::{page_bit, rising, StationSet, STATIONS};
 use super::station::Station;
 use super::truth::{self, Ended};
 use super::waits;
@@ -71,12 +71,18 @@ struct FirstMessages {
 }
 
 impl FirstMessages {
-    fn note(&mut self, message: &[u8]) {
-        if (1..=4).contains(&Field::Kind.byte(message)) {
-            let station = Field::Station.byte(message) as usize;
-            let transaction = Field::Transaction.word(message, 0);
-            let (latest, order) = &mut self.by_station[station];
-            if *latest != transaction && !self.beaten[station] {
+    /// A message that the server took in this state.
+    fn note(&mut self, message: &[u8], state: &[u8]) {
+        let station = Field::Station.byte(message) as usize;
+        let transaction = Field::Transaction.word(message, 0);
+        let (latest, order) = &mut self.by_station[station];
+        let meets = match Field::Kind.byte(message) {
+            1..=4 => *latest != transaction,
+            8 => *latest < transaction && gives_up_kept(message, state),
+            _ => false,
+        };
+        if meets {
+            if !self.beaten[station] {
                 self.seen += 1;
                 *order = self.seen;
             }
@@ -136,16 +142,17 @@ impl<'a> Watched<'a> {
     pub fn make(&mut self, call: &Call) -> Result<Reply, Failure> {
         let before = self.before(call);
         let taken = self.world.message_of(call).map(<[u8]>::to_vec);
+        let latest = self.world.server.latest();
         let reply = self.world.call(call);
         self.counts
-            .note(call, taken.as_deref(), &reply, &self.world);
+            .note(call, taken.as_deref(), &reply, &self.world, latest);
         match &reply {
             Reply::Refused(number) => self.refused(call, *number, before)?,
             Reply::Accepted(outcome) => {
                 self.sent_fits(call, outcome)?;
                 if let Call::Server(_) | Call::ServerRaw(_) = call {
                     let taken = taken.unwrap_or_default();
-                    self.first_messages.note(&taken);
+                    self.first_messages.note(&taken, &self.state);
                     self.server_stepped(outcome)?;
                     self.first_messages.note_ends(&taken, &outcome.sent);
                 }
@@ -269,8 +276,7 @@ impl<'a> Watched<'a> {
 
     /// "repeated until nothing changes": a message that says nothing then does nothing.
     fn pass_rests(&self) -> Result<(), Failure> {
-        let locking = |kind: &Kind| *kind == Kind::Locking;
-        let Some(station) = self.world.kinds.iter().position(locking) else {
+        let Some(station) = self.world.kinds.iter().position(|kind| kind.locks()) else {
             return Ok(());
         };
         // reading 3: a 6 that names its own sender answers no open 20
@@ -319,9 +325,9 @@ impl<'a> Watched<'a> {
         let server = &self.world.server;
         let listed = server.listed(number);
         let cached = station.cached();
-        let pages_agree = match station.kind() {
-            Kind::Locking => cached == listed,
-            Kind::Validating => cached & !listed == 0,
+        let pages_agree = match station.kind().locks() {
+            true => cached == listed,
+            false => cached & !listed == 0,
         };
         station.locks() == server.locks(number) && pages_agree
     }
@@ -360,7 +366,7 @@ impl<'a> Watched<'a> {
     fn copies_are_current(&self) -> Result<(), Failure> {
         let server = &self.world.server;
         for (number, station) in self.world.stations.iter().enumerate() {
-            let validating = station.kind() == Kind::Validating;
+            let validating = !station.kind().locks();
             for (address, version, value) in station.copies() {
                 let current = server.versions()[address as usize];
                 let stale = validating && version != current;
@@ -372,6 +378,16 @@ impl<'a> Watched<'a> {
         }
         Ok(())
     }
+}
+
+/// An 8 that answers the open 19 of a keeping station.
+fn gives_up_kept(message: &[u8], state: &[u8]) -> bool {
+    use state::Field as State;
+    let station = Field::Station.byte(message);
+    let page = Field::PageOrRequester.byte(message);
+    state::kind_of(state, station.into()).is_some_and(Kind::keeps)
+        && State::Whole.byte_of(state, page.into()) == station + 1
+        && State::Asked.word(state, 0) & page_bit(page) != 0
 }
 
 /// The numbers that document 01's list gives each call.

@@ -4,8 +4,10 @@ use super::call::Call;
 use super::draining::Drained;
 use super::message::Field;
 use super::places::Place;
+use super::sets::{PageSet, STATIONS};
+use super::station::Station;
 use super::world::{Outcome, Reply, World};
-use super::{Answer, Number};
+use super::{Answer, Cause, Number};
 use std::fmt::{self, Display, Formatter};
 
 /// A place for each number that a call of a line is refused with.
@@ -47,6 +49,7 @@ pub struct Counts {
     /// 7s that drop no page.
     pub dropping_nothing: u64,
     pub sets: Sets,
+    pub keeps: Keeps,
     pub longest_line: usize,
     pub longest_list: usize,
     pub most_sent_by_server: usize,
@@ -110,22 +113,122 @@ impl Sets {
     }
 }
 
+/// Document 02, wish 10: what became of kept locks.
+#[derive(Clone, Debug, Default, PartialEq, Eq)]
+pub struct Keeps {
+    /// Ends of transactions behind which a page was still locked whole: committed, aborted by the owner, by the server.
+    pub outlived: [u64; 3],
+    /// 19s that found the station idle, with an open transaction, and with its commit out.
+    pub asked: [u64; 3],
+    /// 8s through which the server met a transaction.
+    pub met: u64,
+    /// Behind a 19 to a keeping station, in the same step, cause 3.
+    pub before_cause_3: u64,
+    /// Purges refused for a kept lock.
+    pub purges: u64,
+}
+
+impl Keeps {
+    fn note(&mut self, call: &Call, taken: Option<&[u8]>, reply: &Reply, station: &Station) {
+        let (_, whole) = station.locks();
+        if !station.kind().keeps() {
+            return;
+        }
+        match (call, reply) {
+            (Call::Purge(_, page), Reply::Refused(Number::Kept)) => {
+                self.purges += u64::from(whole.checked_shr(*page).unwrap_or(0) & 1);
+            }
+            (_, Reply::Accepted(outcome)) => {
+                self.ended(outcome.answer, whole);
+                if taken.is_some_and(|taken| Field::Kind.byte(taken) == 19) {
+                    self.asked[standing(station)] += 1;
+                }
+            }
+            _ => (),
+        }
+    }
+
+    fn ended(&mut self, answer: Answer, whole: PageSet) {
+        let end = match answer {
+            Answer::Committed(_) => 0,
+            Answer::Dropped => 1,
+            Answer::Aborted(_) => 2,
+            _ => return,
+        };
+        self.outlived[end] += u64::from(whole != 0);
+    }
+
+    /// What one step of the server sends.
+    fn sent(&mut self, sent: &[Vec<u8>], world: &World) {
+        let to_keeping = |message: &Vec<u8>| {
+            let station = Field::Station.byte(message) as usize;
+            Field::Kind.byte(message) == 19 && world.kinds[station].keeps()
+        };
+        let cause_3 = |message: &Vec<u8>| {
+            Field::Kind.byte(message) == 22
+                && Field::ObjectOrCause.byte(message) == Cause::Locked as u8
+        };
+        let behind = |pair: &[Vec<u8>]| to_keeping(&pair[0]) && cause_3(&pair[1]);
+        self.before_cause_3 += u64::from(sent.windows(2).any(behind));
+    }
+
+    fn missing(&self) -> Option<&'static str> {
+        let [committed, dropped, aborted] = self.outlived;
+        let [idle, open, committing] = self.asked;
+        let reached = [
+            (committed, "a lock kept behind a commit"),
+            (dropped, "a lock kept behind an owner's abort"),
+            (aborted, "a lock kept behind a 22"),
+            (idle, "a 19 for a keeping station that is idle"),
+            (open, "a 19 for an open one"),
+            (committing, "a 19 for one whose commit is out"),
+            (self.met, "a transaction met through an 8"),
+            (self.before_cause_3, "a 19 before cause 3"),
+            (self.purges, "a purge under a kept lock"),
+        ];
+        let missed = reached.into_iter().find(|(count, _)| *count == 0);
+        missed.map(|(_, what)| what)
+    }
+}
+
+/// An 8 through which the server has met a transaction; before it these were the latest.
+fn meets_by_8(taken: Option<&[u8]>, before: [u32; STATIONS], world: &World) -> bool {
+    taken.is_some_and(|taken| Field::Kind.byte(taken) == 8) && world.server.latest() != before
+}
+
+/// Idle, open, or with its commit out.
+fn standing(station: &Station) -> usize {
+    usize::from(station.is_open()) + usize::from(station.commits())
+}
+
 impl Counts {
     pub fn note_drained(&mut self, drained: &Drained) {
         self.drained[drained.rounds] += 1;
         self.most_deliveries = self.most_deliveries.max(drained.deliveries);
     }
 
-    /// A call, the message that it took or was given, and what it came to.
-    pub fn note(&mut self, call: &Call, taken: Option<&[u8]>, reply: &Reply, world: &World) {
+    /// A call, the message that it took or was given, what it came to, and which transactions the server had met before.
+    pub fn note(
+        &mut self,
+        call: &Call,
+        taken: Option<&[u8]>,
+        reply: &Reply,
+        world: &World,
+        before: [u32; STATIONS],
+    ) {
         self.calls += 1;
         if let Call::WriteSet(_, _, set, _) = call {
             self.sets.note(*set, reply);
+        }
+        if let Some(station) = call.station() {
+            let station = &world.stations[usize::from(station)];
+            self.keeps.note(call, taken, reply, station);
         }
         match reply {
             Reply::Refused(number) => self.numbers_of(call)[*number as usize] += 1,
             Reply::Accepted(outcome) => {
                 self.accepted(call, outcome, world);
+                self.keeps.met += u64::from(meets_by_8(taken, before, world));
                 self.taken(taken.and_then(<[u8]>::first).copied(), outcome.answer);
             }
             Reply::Ready | Reply::Misplaced | Reply::Empty => (),
@@ -164,6 +267,7 @@ impl Counts {
         if at_server {
             let waiting = world.server.waiters().count_ones() as usize;
             self.longest_list = self.longest_list.max(waiting);
+            self.keeps.sent(&outcome.sent, world);
         }
         for message in &outcome.sent {
             self.sent(message, world);
@@ -206,6 +310,7 @@ impl Counts {
             .map(|(_, what, n)| format!("{what} {n}"))
             .next()
             .or_else(|| self.sets.missing().map(String::from))
+            .or_else(|| self.keeps.missing().map(String::from))
     }
 }
 
@@ -248,6 +353,17 @@ impl Display for Counts {
         writeln!(
             f,
             "sets of several: {at_once} written at once, {whole} asked for, {in_part} in part, {called_back} 20s, {objects} 17s, {pages} 18s, {long} too long, {range} of validating owners"
+        )?;
+        let Keeps {
+            outlived: [committed, dropped, aborted],
+            asked: [idle, open, committing],
+            met,
+            before_cause_3,
+            purges,
+        } = self.keeps;
+        writeln!(
+            f,
+            "locks kept behind {committed} commits, {dropped} aborts of owners, {aborted} of the server; 19s for {idle} idle, {open} open, {committing} committing; {met} transactions met through an 8, {before_cause_3} 19s before cause 3, {purges} purges refused"
         )?;
         writeln!(f, "nothing under way: {} times", self.quiet)?;
         row(

@@ -280,7 +280,7 @@ impl Crossing {
 
     /// Objects of this one's page, this one among them.
     fn write_set(&mut self, number: u8, address: u8, world: &World) -> Call {
-        let several = world.kinds[number as usize] == Kind::Locking || self.random.one_in(8);
+        let several = world.kinds[number as usize].locks() || self.random.one_in(8);
         let more = match several {
             true => 1 + self.random.below(3),
             false => 0,
@@ -369,9 +369,15 @@ fn change_mood<T: PartialEq>(random: &mut Random, in_mood: &mut Vec<T>, one: T) 
 /// Mostly mixed, now and then all of one kind.
 fn kinds(random: &mut Random) -> [Kind; STATIONS] {
     let validating = random.pick(&[0, 1, 2, 3, 3, 4, 4, 5, 6, 8]);
-    std::array::from_fn(|_| match random.below(8) < validating {
-        true => Kind::Validating,
-        false => Kind::Locking,
+    let keeping = random.pick(&[0, 2, 4, 4, 6, 8]);
+    std::array::from_fn(|_| {
+        if random.below(8) < validating {
+            Kind::Validating
+        } else if random.below(8) < keeping {
+            Kind::Keeping
+        } else {
+            Kind::Locking
+        }
     })
 }
 

@@ -220,7 +220,7 @@ fn commit(random: &mut Random, field: &Field, station: u8, kind: Kind, transacti
         station,
         kind: kind as u8,
     });
-    if kind == Kind::Validating && random.one_in(3) {
+    if !kind.locks() && random.one_in(3) {
         if let Some(version) = commit.versions.last_mut() {
             *version = random.below(4) as u32;
         }

@@ -540,7 +540,7 @@ impl Commit {
 
     /// "from a locking station all are 0"
     fn versions_fit(&self, kind: Kind) -> bool {
-        kind == Kind::Validating || self.versions.iter().all(|version| *version == 0)
+        !kind.locks() || self.versions.iter().all(|version| *version == 0)
     }
 
     /// The addresses of its entries with their versions: an object that is read and written has two.

@@ -9,6 +9,7 @@ pub mod crossing;
 pub mod damage;
 pub mod draining;
 pub mod hot;
+pub mod keeps;
 pub mod lent;
 pub mod little;
 pub mod message;
@@ -76,21 +77,31 @@ pub const LIMIT: usize = 48;
 /// "Records are then at most 880 bytes"
 pub const LONGEST: usize = HEADER + ENTRY * 2 * LIMIT;
 
-/// "Stations 0 to 7, fixed for life as locking (0) or validating (1)".
+/// "Stations 0 to 7, fixed for life as locking (0) or validating (1)"; document 02, wish 10: "Add station kind 2, keeping".
 #[derive(Clone, Copy, Debug, PartialEq, Eq)]
 #[repr(u8)]
 pub enum Kind {
     Locking = 0,
     Validating = 1,
+    Keeping = 2,
 }
 
+/// Whose rules a kind has; nothing else says it.
 impl Kind {
+    pub const ALL: [Kind; 3] = [Kind::Locking, Kind::Validating, Kind::Keeping];
+
     pub fn of(number: u32) -> Option<Kind> {
-        match number {
-            0 => Some(Kind::Locking),
-            1 => Some(Kind::Validating),
-            _ => None,
-        }
+        Kind::ALL.into_iter().find(|kind| *kind as u32 == number)
+    }
+
+    /// A locking station's: document 02, reading 28: "Keeping is a locking station everywhere else".
+    pub fn locks(self) -> bool {
+        self != Kind::Validating
+    }
+
+    /// "whose whole-page lock outlives commit and abort"
+    pub fn keeps(self) -> bool {
+        self == Kind::Keeping
     }
 }
 

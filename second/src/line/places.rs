@@ -105,7 +105,7 @@ pub mod station {
     }
 }
 
-/// "The server's state, 53,336 bytes"
+/// "The server's state, 53,464 bytes"
 pub mod server {
     use super::{ADDRESSES, LONG, PAGES, STATIONS, WORD};
 
@@ -125,6 +125,7 @@ pub mod server {
         Listed: STATIONS * WORD,
         Last: WORD,
         Asked: WORD,
+        WholeFor: PAGES * WORD,
         Lock: ADDRESSES,
         Whole: PAGES,
         ReadSet: STATIONS * PAGES,

@@ -85,7 +85,7 @@ impl Lent<'_> {
     }
 }
 
-/// A fresh state: number 1 for its length, then 4 for kinds that are not eight of 0 and 1.
+/// A fresh state: number 1 for its length, then 4 for kinds that are not eight of 0 to 2.
 pub fn fresh(kinds: &[u8], bytes: &mut [u8]) -> u32 {
     if bytes.len() != state::LENGTH {
         return BUFFER;
@@ -97,7 +97,7 @@ pub fn fresh(kinds: &[u8], bytes: &mut [u8]) -> u32 {
     OK
 }
 
-/// "8 bytes of 0 or 1"
+/// "8 bytes of 0, 1 or 2"
 pub fn kinds_of(bytes: &[u8]) -> Option<[Kind; STATIONS]> {
     let kinds: Option<Vec<Kind>> = bytes.iter().map(|kind| Kind::of((*kind).into())).collect();
     kinds?.try_into().ok()

@@ -62,6 +62,8 @@ struct WholeLock {
     holder: u8,
     /// "send 19, once for each 18"
     asked: bool,
+    /// The 18's: 19 names it.
+    transaction: u32,
 }
 
 #[derive(Clone, Debug, PartialEq, Eq)]
@@ -114,6 +116,15 @@ enum Visit {
     Stays,
     StaysChanged,
     Leaves,
+}
+
+impl Visit {
+    fn stays(changed: bool) -> Visit {
+        match changed {
+            true => Visit::StaysChanged,
+            false => Visit::Stays,
+        }
+    }
 }
 
 impl Waiter {
@@ -214,16 +225,15 @@ impl Server {
         let number_fits = message
             .own_transaction()
             .is_none_or(|transaction| self.number_fits(from, transaction));
-        let locking = self.kinds[from as usize] == Kind::Locking;
+        let locking = self.kinds[from as usize].locks();
         number_fits
             && match message {
                 Up::Read { .. } => true,
                 Up::Commit(commit) => !locking || self.covers(from, commit),
                 Up::Purge { page } => !self.holds_lock_on(from, *page),
                 // "2, 4, 6, 7, 8 from a validating station"
-                Up::Write { .. } | Up::Abort { .. } | Up::Busy { .. } | Up::WrittenSet { .. } => {
-                    locking
-                }
+                Up::Write { .. } | Up::Abort { .. } | Up::Busy { .. } => locking,
+                Up::WrittenSet { transaction, .. } => locking && !self.is_above(from, *transaction),
                 Up::Done { dropped, .. } => {
                     locking && !rising(*dropped).any(|page| self.holds_lock_on(from, page))
                 }
@@ -234,13 +244,19 @@ impl Server {
     /// while it waits" are unexpected; readings 7 and 8.
     fn number_fits(&self, from: u8, transaction: u32) -> bool {
         let seen = self.seen[from as usize];
-        let open_locking = seen.unfinished && self.kinds[from as usize] == Kind::Locking;
+        let open_locking = seen.unfinished && self.kinds[from as usize].locks();
         !self.waits(from)
             && match transaction.cmp(&seen.latest) {
                 std::cmp::Ordering::Less => false,
                 std::cmp::Ordering::Equal => seen.unfinished,
                 std::cmp::Ordering::Greater => !open_locking,
             }
+    }
+
+    /// Of an 8 of a keeping station: "One naming a transaction above an unfinished one is number 6."
+    fn is_above(&self, from: u8, transaction: u32) -> bool {
+        let seen = self.seen[from as usize];
+        self.kinds[from as usize].keeps() && seen.unfinished && transaction > seen.latest
     }
 
     /// Reading 12: "each object it writes must be locked by it, or its page whole".
@@ -301,42 +317,31 @@ impl Server {
     }
 
     fn take(&mut self, from: u8, message: Up, step: &mut Step) {
-        let kind = self.kinds[from as usize];
-        match (message, kind) {
+        let locks = self.kinds[from as usize].locks();
+        match message {
+            Up::Read { address, .. } if locks => self.join(Waiter::read(from, address)),
             // "Validating read: send 16 at the same step, unavailable set empty."
-            (Up::Read { address, .. }, Kind::Validating) => {
-                self.send_page(from, address, Grant::Page, 0, step)
-            }
-            (Up::Read { address, .. }, _) => self.join(Waiter::read(from, address)),
-            (Up::Write { page, objects, .. }, _) => self.join(Waiter::write(from, page, objects)),
-            (Up::Commit(commit), Kind::Validating) => self.join(Waiter::commit(from, commit)),
-            (Up::Commit(commit), _) => self.locking_commit(from, &commit, step),
+            Up::Read { address, .. } => self.send_page(from, address, Grant::Page, 0, step),
+            Up::Write { page, objects, .. } => self.join(Waiter::write(from, page, objects)),
+            Up::Commit(commit) if locks => self.locking_commit(from, &commit, step),
+            Up::Commit(commit) => self.join(Waiter::commit(from, commit)),
             // "every transaction's end frees its locks"
-            (Up::Abort { .. }, _) => self.end(from, End::Given),
-            (Up::Purge { page }, _) => self.unlist(from, page_bit(page)),
-            (
-                Up::Busy {
-                    requester,
-                    transaction,
-                },
-                _,
-            ) => self.busy(from, requester, transaction),
-            (
-                Up::Done {
-                    requester,
-                    transaction,
-                    dropped,
-                },
-                _,
-            ) => self.done(from, requester, transaction, dropped),
-            (
-                Up::WrittenSet {
-                    page,
-                    transaction,
-                    written,
-                },
-                _,
-            ) => self.written_set(from, page, transaction, written),
+            Up::Abort { .. } => self.end(from, End::Given),
+            Up::Purge { page } => self.unlist(from, page_bit(page)),
+            Up::Busy {
+                requester,
+                transaction,
+            } => self.busy(from, requester, transaction),
+            Up::Done {
+                requester,
+                transaction,
+                dropped,
+            } => self.done(from, requester, transaction, dropped),
+            Up::WrittenSet {
+                page,
+                transaction,
+                written,
+            } => self.written_set(from, page, transaction, written),
         }
     }
 
@@ -392,32 +397,46 @@ impl Server {
             .filter(|callbacks| callbacks.owed & station_bit(from) != 0)
     }
 
-    /// "when 8 makes it locks on its set"; reading 11.
+    /// "when 8 makes it locks on its set"; reading 11. A keeping station's "is heeded either way; its set is locked only if
+    /// that transaction is unfinished", and one "that the server first meets through such an 8 gets its age then".
     fn written_set(&mut self, from: u8, page: u8, transaction: u32, written: ObjectSet) {
-        let seen = self.seen[from as usize];
-        let unfinished = seen.latest == transaction && seen.unfinished;
-        let asked = WholeLock {
-            holder: from,
-            asked: true,
-        };
-        if unfinished && self.whole[page as usize] == Some(asked) {
-            self.whole[page as usize] = None;
+        let keeps = self.kinds[from as usize].keeps();
+        if !self.is_asked_of(from, page) || !(keeps || self.is_unfinished(from, transaction)) {
+            return;
+        }
+        self.whole[page as usize] = None;
+        if transaction > self.seen[from as usize].latest {
+            self.note_transaction(from, transaction);
+        }
+        if self.is_unfinished(from, transaction) {
             self.locks[from as usize].join(page, written);
         }
+    }
+
+    /// The station has the page locked whole and was sent a 19 for it.
+    fn is_asked_of(&self, station: u8, page: u8) -> bool {
+        self.whole[page as usize].is_some_and(|lock| lock.asked && lock.holder == station)
+    }
+
+    fn is_unfinished(&self, station: u8, transaction: u32) -> bool {
+        let seen = self.seen[station as usize];
+        seen.unfinished && seen.latest == transaction
     }
 
     fn waits(&self, station: u8) -> bool {
         self.waiting.iter().any(|waiter| waiter.station == station)
     }
 
-    /// The transaction is finished; its locks and its request go, and its age if it is not kept.
+    /// The transaction is finished; its locks and its request go, and its age if it is not kept. Of a keeping station "the
+    /// whole lock outlives commit and every abort".
     fn end(&mut self, station: u8, end: End) {
         let seen = &mut self.seen[station as usize];
         seen.unfinished = false;
         seen.kept = end.keeps_age();
         self.locks[station as usize] = Addresses::default();
+        let keeps = self.kinds[station as usize].keeps();
         for lock in &mut self.whole {
-            if lock.is_some_and(|lock| lock.holder == station) {
+            if lock.is_some_and(|lock| lock.holder == station && !keeps) {
                 *lock = None;
             }
         }
@@ -456,7 +475,7 @@ impl Server {
     fn invalidate(&mut self, writer: u8, objects: Addresses, step: &mut Step) {
         for station in 0..STATIONS as u8 {
             let listed = self.listed[station as usize] & objects.pages() != 0;
-            let validating = self.kinds[station as usize] == Kind::Validating;
+            let validating = !self.kinds[station as usize].locks();
             if station != writer && validating && listed {
                 step.send(station, Down::Invalidate { objects });
             }
@@ -520,18 +539,25 @@ impl Server {
         changed
     }
 
-    /// Reading 29: "The bullets are gates, looked at anew at every visit".
+    /// Reading 29: "The bullets are gates, looked at anew at every visit". Document 02, reading 24: "causes 4 and 2; then 19
+    /// to keeping holders of wanted pages, pages rising; cause 3; blocked; then 19 to locking holders".
     fn visit(&mut self, at: usize, step: &mut Step) -> Visit {
-        if let Some(cause) = self.cause(at) {
+        if let Some(cause) = self.outdated(at) {
             self.abort(self.waiting[at].station, cause, step);
             return Visit::Leaves;
         }
-        if self.blockers(at) != 0 {
-            return Visit::Stays;
-        }
         let whole = self.whole_by_another(at);
+        let kept = self.kept_whole(whole);
+        let asks = self.ask_holders(kept, step);
+        if self.writes_locked(at) {
+            self.abort(self.waiting[at].station, Cause::Locked, step);
+            return Visit::Leaves;
+        }
+        if self.blockers(at) != 0 {
+            return Visit::stays(asks);
+        }
         if whole != 0 {
-            return self.ask_holders(whole, step);
+            return Visit::stays(self.ask_holders(whole, step) || asks);
         }
         match self.waiting[at].request {
             Request::Read(address) => {
@@ -542,11 +568,9 @@ impl Server {
         }
     }
 
-    /// The first bullet: causes 4, 2 and 3 of a validating commit; 3 "exactly when a written object itself is locked by
-    /// another" (wish 11): a page locked whole is asked for by the third bullet, as one that is only read.
-    fn cause(&self, at: usize) -> Option<Cause> {
-        let waiter = &self.waiting[at];
-        let Request::Commit(commit) = &waiter.request else {
+    /// The first bullet: causes 4 and 2 of a validating commit.
+    fn outdated(&self, at: usize) -> Option<Cause> {
+        let Request::Commit(commit) = &self.waiting[at].request else {
             return None;
         };
         // "Cause 2 is given for a used object with another version."
@@ -555,11 +579,17 @@ impl Server {
             Some(Cause::Spent)
         } else if commit.versioned().any(stale) {
             Some(Cause::Version)
-        } else if self.holders(waiter.station, &waiter.writes) != 0 {
-            Some(Cause::Locked)
         } else {
             None
         }
+    }
+
+    /// Cause 3: "exactly when a written object itself is locked by another" (wish 11): a page locked whole is asked for by
+    /// the third bullet, as one that is only read.
+    fn writes_locked(&self, at: usize) -> bool {
+        let waiter = &self.waiting[at];
+        matches!(waiter.request, Request::Commit(_))
+            && self.holders(waiter.station, &waiter.writes) != 0
     }
 
     fn whole_holder_other_than(&self, station: u8, page: u8) -> Option<u8> {
@@ -597,21 +627,29 @@ impl Server {
             .fold(0, |pages, page| pages | page_bit(page))
     }
 
-    /// "send 19, once for each 18, pages rising"
-    fn ask_holders(&mut self, pages: PageSet, step: &mut Step) -> Visit {
-        let mut visit = Visit::Stays;
+    /// Of these pages those that a keeping station has.
+    fn kept_whole(&self, pages: PageSet) -> PageSet {
+        let keeps = |lock: WholeLock| self.kinds[lock.holder as usize].keeps();
+        rising(pages)
+            .filter(|page| self.whole[*page as usize].is_some_and(keeps))
+            .fold(0, |pages, page| pages | page_bit(page))
+    }
+
+    /// "send 19, once for each 18, pages rising"; tells whether any was.
+    fn ask_holders(&mut self, pages: PageSet, step: &mut Step) -> bool {
+        let mut asks = false;
         for page in rising(pages) {
             let Some(lock) = &mut self.whole[page as usize] else {
                 continue;
             };
             if !lock.asked {
                 lock.asked = true;
-                let transaction = self.seen[lock.holder as usize].latest;
+                let transaction = lock.transaction;
                 step.send(lock.holder, Down::DeEscalate { page, transaction });
-                visit = Visit::StaysChanged;
+                asks = true;
             }
         }
-        visit
+        asks
     }
 
     /// "Read: send 16."
@@ -633,10 +671,7 @@ impl Server {
             self.lock_or_install(at, step);
             return Visit::Leaves;
         }
-        match before {
-            Some(_) => Visit::Stays,
-            None => Visit::StaysChanged,
-        }
+        Visit::stays(before.is_none())
     }
 
     /// "send 20 naming the objects to be written to each other locking station listed for a page of theirs, stations
@@ -665,7 +700,7 @@ impl Server {
     fn other_locking_listed(&self, but: u8, pages: PageSet) -> StationSet {
         (0..STATIONS as u8)
             .filter(|station| *station != but)
-            .filter(|station| self.kinds[*station as usize] == Kind::Locking)
+            .filter(|station| self.kinds[*station as usize].locks())
             .filter(|station| self.listed[*station as usize] & pages != 0)
             .fold(0, |set, station| set | station_bit(station))
     }
@@ -694,6 +729,7 @@ impl Server {
             self.whole[page as usize] = Some(WholeLock {
                 holder: station,
                 asked: false,
+                transaction: self.seen[station as usize].latest,
             });
             self.send_page(station, first, Grant::Whole, unavailable, step);
         } else {
@@ -781,6 +817,11 @@ impl Server {
             .filter(|page| self.holds_whole(station, *page))
             .fold(0, |pages, page| pages | page_bit(page));
         (self.locks[station as usize], whole)
+    }
+
+    /// The latest transactions that the server has met, by station.
+    pub fn latest(&self) -> [u32; STATIONS] {
+        self.seen.each_ref().map(|seen| seen.latest)
     }
 
     /// Pages that a station is listed for.

@@ -79,7 +79,7 @@ pub fn commit(random: &mut Random, kinds: &[Kind; STATIONS]) -> Vec<u8> {
         kind: kind as u8,
         ..record
     });
-    if kind == Kind::Validating {
+    if !kind.locks() {
         for version in &mut commit.versions {
             *version = random.below(3) as u32;
         }

@@ -16,6 +16,8 @@ pub struct Station {
     /// "A station numbers its transactions from 1": the last one begun, open or over.
     latest: u32,
     open: Option<Transaction>,
+    /// Pages locked whole: by the open transaction, and at a keeping station by those before it.
+    whole: PageSet,
     cached: [Option<Page>; PAGES],
     /// Callbacks answered 6, by requester.
     kept: BTreeMap<u8, Callback>,
@@ -39,7 +41,6 @@ struct Transaction {
     /// Of each object read or written, the version that its copy had when it first was.
     seen: BTreeMap<u8, u32>,
     locked: Addresses,
-    locked_whole: PageSet,
     out: Option<Out>,
 }
 
@@ -99,11 +100,6 @@ impl Transaction {
         self.writes.len() + writing.entries().filter(new).count()
     }
 
-    /// "under its lock on object or page"
-    fn may_write(&self, address: u8) -> bool {
-        self.locked.has(address) || self.locked_whole & page_bit(page_of(address)) != 0
-    }
-
     fn requested_page(&self) -> Option<u8> {
         match self.out {
             Some(Out::Read(address)) => Some(page_of(address)),
@@ -144,6 +140,7 @@ impl Station {
             kind,
             latest,
             open: None,
+            whole: 0,
             cached: [const { None }; PAGES],
             kept: BTreeMap::new(),
         }
@@ -185,7 +182,7 @@ impl Station {
     /// "the empty set, or several objects from a validating owner, is number 4": before 7 (document 02, reading 20).
     pub fn write_set(&mut self, page: u32, set: u32, values: &[u64; OBJECTS]) -> Answered {
         let writing = Writing::of(page, set, values).ok_or(Number::Range)?;
-        if self.kind == Kind::Validating && writing.objects().count_ones() > 1 {
+        if !self.kind.locks() && writing.objects().count_ones() > 1 {
             return Err(Number::Range);
         }
         self.write_all(writing)
@@ -207,18 +204,30 @@ impl Station {
 
     /// Of these the objects that cannot be written locally.
     fn to_be_asked(&self, writing: &Writing) -> ObjectSet {
-        let local = |address: u8| match self.kind {
-            Kind::Locking => self
-                .open
-                .as_ref()
-                .is_some_and(|open| open.may_write(address)),
+        let local = |address: u8| match self.kind.locks() {
+            true => self.holds(address),
             // document 02: "It writes locally only on available objects."
-            Kind::Validating => self.available(address).is_some(),
+            false => self.available(address).is_some(),
         };
         let addresses = writing.entries().map(|(address, _)| address);
         addresses
             .filter(|address| !local(*address))
             .fold(0, |set, address| set | object_bit(address))
+    }
+
+    /// "writes locally under its lock on object or page": a page that is locked whole may be written though it is marked.
+    fn holds(&self, address: u8) -> bool {
+        let open = self.open.as_ref();
+        self.has_whole(page_of(address)) || open.is_some_and(|open| open.locked.has(address))
+    }
+
+    fn has_whole(&self, page: u8) -> bool {
+        self.whole & page_bit(page) != 0
+    }
+
+    /// Document 02, wish 10: a page that neither purge nor callback takes away.
+    fn keeps(&self, page: u8) -> bool {
+        self.kind.keeps() && self.has_whole(page)
     }
 
     fn write_here(&mut self, writing: &Writing) {
@@ -258,7 +267,7 @@ impl Station {
     pub fn abort(&mut self) -> Answered {
         self.acting()?;
         let mut sent = Vec::new();
-        if self.kind == Kind::Locking {
+        if self.kind.locks() {
             let transaction = self.latest;
             sent.push(Up::Abort { transaction }.encode(self.number));
         }
@@ -268,7 +277,7 @@ impl Station {
         Ok(Done { answer, sent })
     }
 
-    /// Reading 6: the page's range is number 4, before 7; reading 25.
+    /// Reading 6: the page's range is number 4, before 7; reading 25. "Purging a page under a kept lock is number 10".
     pub fn purge(&mut self, page: u32) -> Answered {
         if page >= PAGES as u32 {
             return Err(Number::Range);
@@ -279,7 +288,8 @@ impl Station {
             return Err(Number::Waiting);
         }
         let used = open.map_or(0, Transaction::used);
-        if used & page_bit(page) != 0 || self.cached[page as usize].is_none() {
+        let used = used & page_bit(page) != 0;
+        if used || self.keeps(page) || self.cached[page as usize].is_none() {
             return Err(Number::Kept);
         }
         self.cached[page as usize] = None;
@@ -313,19 +323,19 @@ impl Station {
             address,
             transaction,
         };
-        let message = match (self.kind, &out) {
-            (_, Out::Read(address)) => read(*address),
-            (Kind::Locking, Out::Write(writing)) => Up::Write {
+        let message = match &out {
+            Out::Read(address) => read(*address),
+            Out::Write(writing) if self.kind.locks() => Up::Write {
                 page: writing.page(),
                 objects: self.to_be_asked(writing),
                 transaction,
             },
             // one object, so the lowest
-            (Kind::Validating, Out::Write(writing)) => {
+            Out::Write(writing) => {
                 let object = self.to_be_asked(writing).trailing_zeros() as u8;
                 read(address(writing.page(), object))
             }
-            (_, Out::Commit) => unreachable!("a commit is no request"),
+            Out::Commit => unreachable!("a commit is no request"),
         };
         self.acting()?.out = Some(out);
         self.send(Answer::Waits, message)
@@ -333,8 +343,8 @@ impl Station {
 
     /// "one version for each entry of its record, in record order ...; from a locking station all are 0"
     fn versions(&self, entries: impl Iterator<Item = u8>) -> Vec<u32> {
-        let version = |address: u8| match (&self.open, self.kind) {
-            (Some(open), Kind::Validating) => open.seen.get(&address).copied().unwrap_or(0),
+        let version = |address: u8| match &self.open {
+            Some(open) if !self.kind.locks() => open.seen.get(&address).copied().unwrap_or(0),
             _ => 0,
         };
         entries.map(version).collect()
@@ -396,16 +406,16 @@ impl Station {
 
     fn takes(&self, message: &Down) -> bool {
         match message {
-            Down::Page(page) => page.grant == Grant::Page || self.kind == Kind::Locking,
-            Down::DeEscalate { .. } | Down::Callback { .. } => self.kind == Kind::Locking,
-            Down::Invalidate { .. } => self.kind == Kind::Validating,
+            Down::Page(page) => page.grant == Grant::Page || self.kind.locks(),
+            Down::DeEscalate { .. } | Down::Callback { .. } => self.kind.locks(),
+            Down::Invalidate { .. } => !self.kind.locks(),
             Down::Committed { .. } | Down::Aborted { .. } => true,
         }
     }
 
     /// "the delivery that brings the page gives the owner's answer"
     fn page_arrives(&mut self, message: &PageMessage) -> Answered {
-        let wants_lock = self.kind == Kind::Locking;
+        let wants_lock = self.kind.locks();
         let locks = message.grant != Grant::Page;
         let Some(open) = self.open_as(message.transaction) else {
             return self.page_for_another(message);
@@ -426,7 +436,7 @@ impl Station {
 
     /// Reading 14: "A 16 for any begun validating transaction other than the open one is taken and ignored".
     fn page_for_another(&self, message: &PageMessage) -> Answered {
-        if self.kind == Kind::Validating && message.transaction <= self.latest {
+        if !self.kind.locks() && message.transaction <= self.latest {
             answered(Answer::Nothing)
         } else {
             Err(Number::Unexpected)
@@ -458,7 +468,7 @@ impl Station {
             match grant {
                 Grant::Page => (),
                 Grant::Object => transaction.locked.join(page, writing.objects()),
-                Grant::Whole => transaction.locked_whole |= page_bit(page),
+                Grant::Whole => self.whole |= page_bit(page),
             }
         }
         self.write_here(writing);
@@ -466,22 +476,34 @@ impl Station {
     }
 
     /// "send 8 with the objects written on that page, empty if that transaction is over; if it is open, the whole
-    /// lock becomes locks on those objects": without one nothing becomes a lock; reading 15.
-    fn de_escalate(&mut self, page: u8, transaction: u32) -> Answered {
-        let mut written = 0;
-        if let Some(open) = self.open_as(transaction) {
-            written = open.written_on(page);
-            if open.locked_whole & page_bit(page) != 0 {
-                open.locked_whole &= !page_bit(page);
-                open.locked.join(page, written);
-            }
+    /// lock becomes locks on those objects": without one nothing becomes a lock; reading 15. Document 02, wish 10: a keeping
+    /// station "answers 8 with its open transaction's written set and gives up the whole lock. Such an 8 names the open
+    /// transaction, else the 18's transaction".
+    fn de_escalate(&mut self, page: u8, named: u32) -> Answered {
+        let transaction = match &self.open {
+            Some(_) if self.kind.keeps() => self.latest,
+            _ => named,
+        };
+        let open = self.open_as(transaction);
+        let written = open.map(|open| open.written_on(page));
+        if self.kind.keeps() || written.is_some() {
+            self.give_up_whole(page, written.unwrap_or(0));
         }
         let message = Up::WrittenSet {
             page,
             transaction,
-            written,
+            written: written.unwrap_or(0),
         };
         self.send(Answer::Nothing, message)
+    }
+
+    fn give_up_whole(&mut self, page: u8, written: ObjectSet) {
+        if self.has_whole(page) {
+            self.whole &= !page_bit(page);
+            if let Some(open) = &mut self.open {
+                open.locked.join(page, written);
+            }
+        }
     }
 
     fn call_back(&mut self, requester: u8, callback: Callback) -> Answered {
@@ -501,18 +523,19 @@ impl Station {
     }
 
     /// "mark the named objects unavailable, drop each cached page named on which the transaction has read or written
-    /// nothing and for which no request is out, and send 7"
+    /// nothing and for which no request is out, and send 7"; of a page under a kept lock "no callback drops one".
     fn call_back_done(&mut self, requester: u8, callback: &Callback) -> Up {
         let open = self.open.as_ref();
         let used = open.map_or(0, Transaction::used);
         let requested = open.and_then(Transaction::requested_page);
         let mut dropped = 0;
         for page in rising(callback.objects.pages()) {
+            let keeps = self.keeps(page);
             let Some(copy) = &mut self.cached[page as usize] else {
                 continue;
             };
             copy.unavailable |= callback.objects.on(page);
-            if used & page_bit(page) == 0 && requested != Some(page) {
+            if used & page_bit(page) == 0 && requested != Some(page) && !keeps {
                 self.cached[page as usize] = None;
                 dropped |= page_bit(page);
             }
@@ -599,15 +622,13 @@ impl Station {
     /// "However aborted, a locking station marks written objects unavailable; a validating one drops written pages."
     fn undo(&mut self) {
         let written = self.written_pages();
-        match self.kind {
-            Kind::Validating => self.drop_pages(written),
-            Kind::Locking => {
-                for page in rising(written) {
-                    let objects = self.open.as_ref().map_or(0, |open| open.written_on(page));
-                    if let Some(copy) = &mut self.cached[page as usize] {
-                        copy.unavailable |= objects;
-                    }
-                }
+        if !self.kind.locks() {
+            return self.drop_pages(written);
+        }
+        for page in rising(written) {
+            let objects = self.open.as_ref().map_or(0, |open| open.written_on(page));
+            if let Some(copy) = &mut self.cached[page as usize] {
+                copy.unavailable |= objects;
             }
         }
     }
@@ -627,6 +648,9 @@ impl Station {
     /// "Kept callbacks are done so, by rising requester, when the transaction ends, behind its 4."
     fn end(&mut self, sent: &mut Vec<Vec<u8>>) {
         self.open = None;
+        if !self.kind.keeps() {
+            self.whole = 0;
+        }
         for (requester, callback) in std::mem::take(&mut self.kept) {
             let done = self.call_back_done(requester, &callback);
             sent.push(done.encode(self.number));
@@ -650,6 +674,12 @@ impl Station {
 
     pub fn waits(&self) -> bool {
         self.nothing_out().is_err()
+    }
+
+    /// Its commit is out.
+    pub fn commits(&self) -> bool {
+        let out = self.open.as_ref().and_then(|open| open.out.as_ref());
+        out == Some(&Out::Commit)
     }
 
     /// How many objects the write that is out will write.
@@ -676,22 +706,22 @@ impl Station {
     /// Objects locked, and pages locked whole.
     pub fn locks(&self) -> (Addresses, PageSet) {
         let open = self.open.as_ref();
-        open.map_or_else(Default::default, |open| (open.locked, open.locked_whole))
+        let objects = open.map_or_else(Default::default, |open| open.locked);
+        (objects, self.whole)
     }
 
     /// What the rules leave behind every call, beside what `state::decode` asks; else no run reaches the state.
     pub fn keeps_rules(&self) -> bool {
+        let (locked, whole) = self.locks();
         let Some(open) = &self.open else {
-            return self.kept.is_empty();
+            return self.kept.is_empty() && (self.kind.keeps() || whole == 0);
         };
         let used_are_cached = open.used() & !self.cached() == 0;
-        match self.kind {
-            Kind::Locking => used_are_cached && open.writes.keys().all(|a| open.may_write(*a)),
-            Kind::Validating => {
-                let locks = open.locked != Addresses::default() || open.locked_whole != 0;
-                used_are_cached && !locks && self.kept.is_empty()
-            }
-        }
+        let locks = match self.kind.locks() {
+            true => open.writes.keys().all(|address| self.holds(*address)),
+            false => locked == Addresses::default() && whole == 0 && self.kept.is_empty(),
+        };
+        used_are_cached && locks
     }
 
     /// Pages that the open transaction has read or written on.

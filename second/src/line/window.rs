@@ -208,7 +208,8 @@ impl Window {
 /// The window of lent registers and a lent state; none is number 1, "which a locking station's state gets too".
 pub fn decode(registers: &[u8], state: &[u8]) -> Option<Window> {
     let window = Window::decode(registers)?;
-    let fits = state::valid(state) && Field::Kind.byte(state) == Kind::Validating as u8;
+    let validating = |kind: Kind| !kind.locks();
+    let fits = state::valid(state) && state::kind_of(state).is_some_and(validating);
     fits.then_some(window)
 }
 

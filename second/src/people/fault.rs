@@ -2,7 +2,7 @@
 
 use crate::archive::Playback;
 use crate::line::places::{header::Field as At, Place};
-use crate::record::{claimed_length, Header, View, HEADER, MOST, VALUE};
+use crate::record::{claimed_length, Header, View, HEADER, KINDS, MOST, VALUE};
 use crate::Refusal;
 use std::fmt::{self, Display, Formatter};
 
@@ -94,7 +94,11 @@ fn header(bytes: &[u8]) -> Found {
             At::Station.start(),
             Cause::Station(header.station),
         ),
-        (header.kind > 1, At::Kind.start(), Cause::Kind(header.kind)),
+        (
+            header.kind >= KINDS,
+            At::Kind.start(),
+            Cause::Kind(header.kind),
+        ),
         (bytes[spare] != 0, spare, Cause::NotZero(bytes[spare])),
         (
             bytes[spare + 1] != 0,
@@ -162,7 +166,7 @@ impl Display for Cause {
             Cause::Many(count, what) => write!(f, "{count} {what}, but a record has at most 256"),
             Cause::Transaction => f.write_str("transaction 0, but the first is 1"),
             Cause::Station(station) => write!(f, "station {station}, but stations are 0 to 7"),
-            Cause::Kind(kind) => write!(f, "kind {kind}, but kinds are 0 and 1"),
+            Cause::Kind(kind) => write!(f, "kind {kind}, but kinds are 0 to 2"),
             Cause::NotZero(byte) => write!(f, "this byte is {byte}, but it must be 0"),
             Cause::Order(this, before) => {
                 write!(f, "address {this} behind {before}, but addresses rise")

@@ -65,9 +65,9 @@ mod tests {
         for number in 0..40_000 {
             let bottle = Bottle::by_chance(0, number % STATIONS, &mut random);
             assert!(bottle.counters.is_sorted_by(|a, b| a < b));
-            bottle
-                .counters
-                .map(|address| met[usize::from(address)] = true);
+            for address in bottle.counters {
+                met[usize::from(address)] = true;
+            }
         }
         assert_eq!(met, [true; ADDRESSES]);
     }

@@ -23,7 +23,7 @@ const COUNTS: [u32; 12] = [
     477_218_587,
 ];
 const STATIONS: [u32; 10] = [0, 1, 6, 7, 8, 9, 255, 256, 263, u32::MAX];
-const KINDS: [u32; 7] = [0, 1, 2, 255, 256, 257, u32::MAX];
+const KINDS: [u32; 9] = [0, 1, 2, 3, 255, 256, 257, 258, u32::MAX];
 const NUMBERS: [u32; 8] = [0, 1, 255, 256, 65_536, 1 << 24, 1 << 31, u32::MAX];
 
 /// Size fields at their limits, in bytes that are just long enough, too short or longer.

@@ -82,7 +82,7 @@ pub fn records(random: &mut Random, count: usize, above: bool) -> Vec<Record> {
             commit,
             transaction: commit / 8 + 1,
             station,
-            kind: station % 2,
+            kind: station % 3,
         }
     };
     (1..=count as u32).map(&mut record).collect()

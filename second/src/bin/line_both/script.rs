@@ -31,7 +31,7 @@ const MALFORMED: [&str; 20] = [
     "writes 0 4294967296 1 5",
     "purge 0 4294967296",
     "fresh 0101010",
-    "fresh 01010102",
+    "fresh 01010103",
     "numbers 0 0 0 0 0 0 0 0",
     "serverraw 010",
     "stationraw 0 xy",
@@ -76,6 +76,7 @@ impl Script {
     fn command(&mut self, command: String, reached: &mut Reached) -> Reply {
         let call = Call::parse(&command);
         let taken = self.taken(call.as_ref());
+        let latest = self.driver.world().map(|world| world.server.latest());
         let reply = self.driver.answer(call.as_ref());
         reached.commands += 1;
         match &reply {
@@ -84,7 +85,10 @@ impl Script {
             _ => (),
         }
         if let (Some(call), Some(world)) = (&call, self.driver.world()) {
-            reached.counts.note(call, taken.as_deref(), &reply, world);
+            // without a line before there was nothing to meet
+            let latest = latest.unwrap_or_else(|| world.server.latest());
+            let counts = &mut reached.counts;
+            counts.note(call, taken.as_deref(), &reply, world, latest);
         }
         self.commands.push(command);
         self.replies.push(reply.to_string());

@@ -10,6 +10,7 @@ use second::line::served;
 use second::line::server::state::{Field, LENGTH};
 use second::line::sets::STATIONS;
 use second::line::spoil;
+use second::line::Kind;
 use second::random::Random;
 
 /// What the cases of one line are drawn from.
@@ -52,9 +53,10 @@ impl Cases {
     fn fresh(&mut self, judge: &mut Judge) -> Agreed<()> {
         let random = &mut self.random;
         let many = random.pick(&[STATIONS, STATIONS, STATIONS, 0, STATIONS - 1, STATIONS + 1]);
-        let mut kinds: Vec<u8> = (0..many).map(|_| random.below(2) as u8).collect();
+        let mut kind = |_| random.pick(&Kind::ALL) as u8;
+        let mut kinds: Vec<u8> = (0..many).map(&mut kind).collect();
         if let (true, Some(kind)) = (random.one_in(3), kinds.last_mut()) {
-            *kind = random.pick(&[2, 3, 128, 255]);
+            *kind = random.pick(&[3, 4, 128, 255]);
         }
         let length = random.pick(&[LENGTH, LENGTH, LENGTH, LENGTH - 1, LENGTH + 1, 0]);
         // what lies behind the state is not lent

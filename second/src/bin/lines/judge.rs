@@ -6,8 +6,9 @@ use second::ffi::server as proved;
 use second::line::lent::BUFFER;
 use second::line::message::{self, Down, LENGTH as MESSAGE};
 use second::line::places::Place;
-use second::line::server::state::{self, Field, COUNTERS_END};
+use second::line::server::state::{self, kind_of, Field, COUNTERS_END};
 use second::line::sets::STATIONS;
+use second::line::Kind;
 use second::numbers::OK;
 use second::random::Random;
 use second::record::Record;
@@ -103,13 +104,17 @@ fn counters_spent(state: &[u8]) -> bool {
 /// The station that a message names takes it, but for number 6 of its wait: 17 to 20 a locking one, 23 a validating one.
 fn taken_below(message: &[u8], state: &[u8]) -> bool {
     let named = message::Field::Station.byte(message);
-    let locking = Field::Kind.byte_of(state, named.into()) == 0;
+    let locking = locks(state, named.into());
     let kind_fits = match message::Field::Kind.byte(message) {
         17..=20 => locking,
         23 => !locking,
         _ => true,
     };
     kind_fits && Down::decode(message, named).is_ok_and(|(station, _)| station == named)
+}
+
+fn locks(state: &[u8], station: usize) -> bool {
+    kind_of(state, station).is_some_and(Kind::locks)
 }
 
 /// How many of these messages go to each station.
@@ -124,9 +129,9 @@ pub fn to_each(messages: &[u8]) -> [usize; STATIONS] {
 /// A step sends a locking station 40 messages at most: an answer, a 20 for each other station's request, a 19 for each page; and a
 /// validating one 8: an answer, a 23 for each other station's commit.
 fn few_to_each(messages: &[u8], state: &[u8]) -> bool {
-    let most = |station| match Field::Kind.byte_of(state, station) {
-        0 => 40,
-        _ => 8,
+    let most = |station| match locks(state, station) {
+        true => 40,
+        false => 8,
     };
     let counts = to_each(messages);
     (0..STATIONS).all(|station| counts[station] <= most(station))

@@ -82,10 +82,10 @@ impl Line {
     /// One call, on all four.
     pub fn make(&mut self, call: &Call, tallies: &mut Tallies) -> Agreed<Reply> {
         let message = self.world.message_of(call).map(<[u8]>::to_vec);
+        let latest = self.world.server.latest();
         let reply = self.world.call(call);
-        tallies
-            .counts
-            .note(call, message.as_deref(), &reply, &self.world);
+        let counts = &mut tallies.counts;
+        counts.note(call, message.as_deref(), &reply, &self.world, latest);
         self.lay(call, message.as_deref(), &reply);
         let given = [
             ("server and stations", self.proved.call(call)),

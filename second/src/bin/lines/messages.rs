@@ -6,11 +6,11 @@ use second::line::crossing::Crossing;
 use second::line::damage;
 use second::line::message::{Commit, Up};
 use second::line::places::Place;
-use second::line::server::state::Field;
+use second::line::server::state::{kind_of, Field};
 use second::line::sets::{object_bit, page_of, PAGES, STATIONS};
 use second::line::spoil;
 use second::line::world::World;
-use second::line::LIMIT;
+use second::line::{Kind, LIMIT};
 use second::random::Random;
 use second::record::Record;
 
@@ -70,7 +70,10 @@ fn fitting(random: &mut Random, state: &[u8]) -> Vec<u8> {
         },
         _ => Up::WrittenSet {
             page: some_whole_page(random, state, from).unwrap_or(page),
-            transaction: latest_mostly(random, state, from),
+            transaction: match random.one_in(3) {
+                true => transaction,
+                false => latest_mostly(random, state, from),
+            },
             written: random.byte(),
         },
     };
@@ -132,7 +135,8 @@ fn some_whole_page(random: &mut Random, state: &[u8], station: usize) -> Option<
 
 /// A commit with the versions that the state has, mostly; a locking station's writes what it has locked.
 fn commit(random: &mut Random, state: &[u8], from: usize, transaction: u32) -> Commit {
-    let kind = Field::Kind.byte_of(state, from);
+    let kind = kind_of(state, from);
+    let locks = kind.is_some_and(Kind::locks);
     let own = |address: &u8| {
         let holders = [
             Field::Lock.byte_of(state, (*address).into()),
@@ -153,7 +157,7 @@ fn commit(random: &mut Random, state: &[u8], from: usize, transaction: u32) -> C
     };
     let reads = addresses();
     let mut writes = addresses();
-    if kind == 0 && !random.one_in(8) {
+    if locks && !random.one_in(8) {
         writes = (0..=u8::MAX).filter(own).collect();
         // mostly no more than a transaction may have
         if !random.one_in(8) {
@@ -170,9 +174,9 @@ fn commit(random: &mut Random, state: &[u8], from: usize, transaction: u32) -> C
         commit: 0,
         transaction,
         station: from as u8,
-        kind: kind & 1,
+        kind: kind.map_or(0, |kind| kind as u8),
     });
-    if kind == 1 {
+    if !locks {
         let current = |(address, _)| Field::Version.word(state, usize::from(address));
         commit.versions = commit.versioned().map(current).collect();
     }

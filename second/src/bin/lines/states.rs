@@ -4,11 +4,11 @@ use crate::judge::Judge;
 use second::buffers::{Agreed, Room};
 use second::line::message::Up;
 use second::line::places::Place;
-use second::line::server::state::{Field, COUNTERS_END, LENGTH};
+use second::line::server::state::{kind_of, Field, COUNTERS_END, LENGTH};
 use second::line::sets::{address as first_of, page_bit, page_of, Addresses};
 use second::line::sets::{ADDRESSES, OBJECTS, PAGES, STATIONS};
 use second::line::spoil;
-use second::line::LIMIT;
+use second::line::{Kind, LIMIT};
 use second::random::Random;
 use std::array;
 
@@ -72,9 +72,9 @@ impl Density {
 /// What number 1 takes, and little that a run could not reach.
 fn taken(random: &mut Random) -> Vec<u8> {
     let mut state = random.bytes(LENGTH);
-    for field in [Field::Kind, Field::Unfinished, Field::AgeKept] {
+    for (field, most) in Field::RANGES {
         for byte in &mut state[field.range()] {
-            *byte &= 1;
+            *byte %= most + 1;
         }
     }
     for station in 0..STATIONS {
@@ -117,32 +117,55 @@ fn number(random: &mut Random, field: Field, next: Field, state: &mut [u8]) {
     next.put_long(state, 0, first + STATIONS as u64);
 }
 
-/// Locks of locking stations whose transactions are unfinished.
+/// Locks of stations whose transactions are unfinished, and whole ones of keeping stations.
 fn lock(random: &mut Random, state: &mut [u8]) {
     let (objects, pages) = (Density::any(random), Density::any(random));
-    let may = |station: &usize| {
-        Field::Kind.byte_of(state, *station) == 0 && Field::Unfinished.byte_of(state, *station) == 1
-    };
-    let holders: Vec<u8> = (0..STATIONS).filter(may).map(|i| i as u8 + 1).collect();
+    let working = holders(state, |_, works| works);
+    let keeping = holders(state, |kind, works| works || kind.keeps());
     let mut asked = 0;
     for page in 0..PAGES {
-        let mut holder = |density: Density| match density.here(random) {
-            true if !holders.is_empty() => random.pick(&holders),
+        let mut holder = |density: Density, of: &[u8]| match density.here(random) {
+            true if !of.is_empty() => random.pick(of),
             _ => 0,
         };
-        let whole = holder(pages);
+        let whole = holder(pages, &keeping);
         Field::Whole.put_byte_of(state, page, whole);
         for object in 0..OBJECTS {
-            let lock = holder(objects);
+            let lock = holder(objects, &working);
             // beside a whole lock only its holder's
-            let lock = if whole != 0 && lock != 0 { whole } else { lock };
+            let beside = whole != 0 && lock != 0;
+            let own = if working.contains(&whole) { whole } else { 0 };
+            let lock = if beside { own } else { lock };
             Field::Lock.put_byte_of(state, page * OBJECTS + object, lock);
         }
+        give(random, page, state);
         if whole != 0 && random.one_in(2) {
             asked |= page_bit(page as u8);
         }
     }
     Field::Asked.put_word(state, 0, asked);
+}
+
+/// The locking and keeping stations of which this holds, as a lock says them.
+fn holders(state: &[u8], may: impl Fn(Kind, bool) -> bool) -> Vec<u8> {
+    let holds = |station: &usize| {
+        let works = Field::Unfinished.byte_of(state, *station) == 1;
+        kind_of(state, *station).is_some_and(|kind| kind.locks() && may(kind, works))
+    };
+    (0..STATIONS).filter(holds).map(|i| i as u8 + 1).collect()
+}
+
+/// Which transaction a page's whole lock is for.
+fn give(random: &mut Random, page: usize, state: &mut [u8]) {
+    let holder = usize::from(Field::Whole.byte_of(state, page)).checked_sub(1);
+    let given = holder.map_or(0, |station| {
+        let latest = Field::Latest.word(state, station);
+        match kind_of(state, station) {
+            Some(Kind::Keeping) => random.pick(&[1, 1 + latest / 2, latest]),
+            _ => latest,
+        }
+    });
+    Field::WholeFor.put_word(state, page, given);
 }
 
 fn list(random: &mut Random, state: &mut [u8]) {
@@ -156,9 +179,9 @@ fn list(random: &mut Random, state: &mut [u8]) {
 /// A station's entry in the waiting list, or that it has none.
 fn enter(random: &mut Random, station: usize, state: &mut [u8]) {
     let unfinished = Field::Unfinished.byte_of(state, station) != 0;
-    let want = match Field::Kind.byte_of(state, station) {
+    let want = match kind_of(state, station) {
         _ if !unfinished => 0,
-        0 => random.below(3) as u8,
+        Some(kind) if kind.locks() => random.below(3) as u8,
         _ => random.pick(&[0, 3]),
     };
     Field::Want.put_byte_of(state, station, want);
@@ -206,7 +229,8 @@ fn enter(random: &mut Random, station: usize, state: &mut [u8]) {
 /// What other, locking stations owe a waiter.
 fn call_back(random: &mut Random, station: usize, state: &mut [u8]) {
     let called = Field::Want.byte_of(state, station) > 1 && random.one_in(2);
-    let locking = |other: &usize| *other != station && Field::Kind.byte_of(state, *other) == 0;
+    let locking =
+        |other: &usize| *other != station && kind_of(state, *other).is_some_and(Kind::locks);
     let others = (0..STATIONS)
         .filter(locking)
         .fold(0, |set, other| set | 1 << other);
@@ -224,8 +248,10 @@ fn beside(random: &mut Random) -> Vec<u8> {
     for _ in 0..1 + random.below(4) {
         let station = random.below(STATIONS);
         let byte = random.byte();
-        match random.below(9) {
+        match random.below(11) {
             8 => Field::AgeKept.put_byte_of(&mut state, station, byte & 1),
+            9 => Field::Kind.put_byte_of(&mut state, station, byte % 4),
+            10 => Field::WholeFor.put_word(&mut state, random.below(PAGES), (byte & 3).into()),
             0 => Field::Called.put_byte_of(&mut state, station, byte & 1),
             1 => Field::Unfinished.put_byte_of(&mut state, station, byte & 1),
             2 => Field::Request.put_byte_of(&mut state, station, byte),
@@ -242,13 +268,17 @@ fn beside(random: &mut Random) -> Vec<u8> {
     state
 }
 
-/// Steps that do the most: eight installs of 48 reads and writes, 74 messages, and 39 to one station.
+/// Steps that do the most: eight installs of 48 reads and writes, 74 messages, and 39 to one station; the last two with pages
+/// that are locked whole by locking and by keeping stations.
 pub fn limits(judge: &mut Judge) -> Agreed<()> {
     let mut random = Random::new(1);
+    let [many, to_one] = [many_messages(&mut random), many_to_one(&mut random)];
     let states = [
         (eight_installs(&mut random), 0),
-        (many_messages(&mut random), 0),
-        (many_to_one(&mut random), 1),
+        (kept(&many), 0),
+        (kept(&to_one), 1),
+        (many, 0),
+        (to_one, 1),
     ];
     for (state, station) in states {
         let room = Room::enough::<Field>(&mut random);
@@ -301,6 +331,24 @@ fn eight_installs(random: &mut Random) -> Vec<u8> {
     state
 }
 
+/// The same of keeping stations, in a later transaction than their locks are of.
+fn kept(state: &[u8]) -> Vec<u8> {
+    let mut state = state.to_vec();
+    for station in 0..STATIONS {
+        if kind_of(&state, station) == Some(Kind::Locking) {
+            Field::Kind.put_byte_of(&mut state, station, Kind::Keeping as u8);
+            Field::Latest.put_word(&mut state, station, 2);
+        }
+    }
+    state
+}
+
+/// A page's whole lock, of a station in its first transaction.
+fn lock_whole(state: &mut [u8], page: usize, holder: usize) {
+    Field::Whole.put_byte_of(state, page, holder as u8 + 1);
+    Field::WholeFor.put_word(state, page, 1);
+}
+
 /// Station 0 has read on every page, and each is locked whole by one of the others: 32 of kind 19. Each of those wants to
 /// write on a page of its own, which all have: six of kind 20 for each.
 fn many_messages(random: &mut Random) -> Vec<u8> {
@@ -308,7 +356,7 @@ fn many_messages(random: &mut Random) -> Vec<u8> {
     Field::ReadSet.put_sets(&mut state, 0, &Addresses([0x80; PAGES]));
     for page in 0..PAGES {
         let holder = if page < STATIONS { page } else { 1 + page % 7 };
-        Field::Whole.put_byte_of(&mut state, page, holder.max(1) as u8 + 1);
+        lock_whole(&mut state, page, holder.max(1));
     }
     for station in 1..STATIONS {
         let address = (OBJECTS * station) as u8;
@@ -333,7 +381,7 @@ fn many_to_one(random: &mut Random) -> Vec<u8> {
     Field::Age.put_long(&mut state, 0, STATIONS as u64);
     Field::NextAge.put_long(&mut state, 0, STATIONS as u64 + 1);
     for page in 0..last {
-        Field::Whole.put_byte_of(&mut state, page, 1);
+        lock_whole(&mut state, page, 0);
     }
     for station in 0..STATIONS {
         let address = (OBJECTS * last + station.max(1) - 1) as u8;
@@ -361,6 +409,9 @@ mod tests {
         let mut random = Random::new(1);
         for _ in 0..1_000 {
             assert!(valid(&taken(&mut random)));
+        }
+        for state in [many_messages(&mut random), many_to_one(&mut random)] {
+            assert!(valid(&state) && valid(&kept(&state)));
         }
         let states: Vec<Vec<u8>> = (0..1_000).map(|_| beside(&mut random)).collect();
         assert!(states.iter().any(|state| valid(state)));

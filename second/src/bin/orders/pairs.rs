@@ -3,7 +3,7 @@
 use second::archive::Playback;
 use second::generate::{self, Size};
 use second::random::Random;
-use second::record::Record;
+use second::record::{Record, KINDS};
 
 pub struct Pair {
     pub first: Vec<u8>,
@@ -91,7 +91,7 @@ fn changed(
         "a write less" => drop(other.writes.pop()?),
         "transaction" => other.transaction = generate::number(random),
         "station" => other.station = random.below(8) as u8,
-        "kind" => other.kind ^= 1,
+        "kind" => other.kind = random.below(KINDS as usize) as u8,
         "an address" => {
             let reads = random.one_in(2);
             let list = if reads {

@@ -6,7 +6,7 @@ use second::counts;
 use second::ffi::counts as proved;
 use second::generate;
 use second::random::Random;
-use second::record::Record;
+use second::record::{Record, KINDS};
 
 /// The same commits and writes, with stations, kinds, transaction numbers and reads drawn anew.
 fn hide(random: &mut Random, records: &[Record]) -> Vec<Record> {
@@ -24,7 +24,7 @@ fn hide(random: &mut Random, records: &[Record]) -> Vec<Record> {
             commit: record.commit,
             transaction: generate::number(random),
             station: random.below(8) as u8,
-            kind: random.below(2) as u8,
+            kind: random.below(KINDS as usize) as u8,
         });
         for &(address, value) in &record.writes {
             values[usize::from(address)] = value;

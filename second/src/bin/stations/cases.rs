@@ -22,7 +22,7 @@ const ADDRESSES_OUT: [u32; 7] = [256, 257, 263, 512, 65_536, 1 << 31, u32::MAX];
 const PAGES_OUT: [u32; 8] = [32, 33, 63, 64, 255, 256, 1 << 31, u32::MAX];
 const SETS_OUT: [u32; 5] = [256, 257, 511, 1 << 31, u32::MAX];
 const STATIONS_OUT: [u32; 6] = [8, 9, 255, 256, 263, u32::MAX];
-const KINDS_OUT: [u32; 5] = [2, 255, 256, 257, u32::MAX];
+const KINDS_OUT: [u32; 6] = [3, 255, 256, 257, 258, u32::MAX];
 
 /// What the cases of one line are drawn from.
 pub struct Cases {
@@ -136,7 +136,7 @@ impl Cases {
         };
         let kind = match random.one_in(3) {
             true => random.pick(&KINDS_OUT),
-            false => random.below(2) as u32,
+            false => random.below(Kind::ALL.len()) as u32,
         };
         let length = random.pick(&[LENGTH, LENGTH, LENGTH, LENGTH - 1, LENGTH + 1, 0]);
         // what lies behind the state is not lent
@@ -186,7 +186,7 @@ impl Cases {
         match random.below(16) {
             0 => kinds.truncate(random.below(STATIONS)),
             1 => kinds.push(0),
-            2 => kinds[random.below(STATIONS)] = random.pick(&[0, 1, 2, 255]),
+            2 => kinds[random.below(STATIONS)] = random.pick(&[0, 1, 2, 3, 255]),
             _ => (),
         }
         up_check(&kinds, &message, judge)

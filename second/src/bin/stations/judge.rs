@@ -153,7 +153,7 @@ fn passes(message: &[u8], state: &[u8]) -> bool {
     let Some(kind) = Kind::of(Field::Kind.byte(state).into()) else {
         return false;
     };
-    if kind == Kind::Validating && ![1, 3, 5].contains(&message::Field::Kind.byte(message)) {
+    if !kind.locks() && ![1, 3, 5].contains(&message::Field::Kind.byte(message)) {
         return false;
     }
     let decoded = Up::decode(message, &[kind; STATIONS]);

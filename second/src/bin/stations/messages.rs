@@ -4,8 +4,8 @@ use second::generate;
 use second::line::message::{Down, Grant, PageMessage};
 use second::line::places::Place;
 use second::line::sets::{address, page_of, rising, Addresses};
-use second::line::station::state::Field;
-use second::line::Cause;
+use second::line::station::state::{kind_of, Field};
+use second::line::{Cause, Kind};
 use second::random::Random;
 use std::array;
 
@@ -25,8 +25,11 @@ pub fn fitting(random: &mut Random, state: &[u8]) -> Vec<u8> {
             cause: random.pick(&[Cause::Cycle, Cause::Version, Cause::Locked, Cause::Spent]),
         },
         0 | 5 => Down::DeEscalate {
-            page: page_of(some_object(random, state)),
-            transaction,
+            page: some_page(random, state),
+            transaction: match random.one_in(3) {
+                true => generate::number(random).max(1),
+                false => transaction,
+            },
         },
         1 | 2 | 6 => Down::Callback {
             requester: (station % 8 + 1 + random.below(7) as u8) % 8,
@@ -42,7 +45,8 @@ pub fn fitting(random: &mut Random, state: &[u8]) -> Vec<u8> {
 }
 
 fn page(random: &mut Random, state: &[u8], transaction: u32) -> PageMessage {
-    let locks = Field::Wait.byte(state) == 2 && Field::Kind.byte(state) == 0;
+    let kind = kind_of(state);
+    let locks = Field::Wait.byte(state) == 2 && kind.is_some_and(Kind::locks);
     // now and then the other grant
     let locks = locks != random.one_in(8);
     PageMessage {
@@ -69,6 +73,15 @@ fn named(random: &mut Random, state: &[u8], locks: bool) -> u8 {
             address(page_of(requested), random.pick(&objects))
         }
         _ => requested,
+    }
+}
+
+/// One that is locked whole, if there is such, or of some object.
+fn some_page(random: &mut Random, state: &[u8]) -> u8 {
+    let whole: Vec<u8> = rising(Field::Whole.word(state, 0)).collect();
+    match whole.is_empty() || random.one_in(2) {
+        true => page_of(some_object(random, state)),
+        false => random.pick(&whole),
     }
 }
 

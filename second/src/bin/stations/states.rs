@@ -5,8 +5,8 @@ use second::line::places::Place;
 use second::line::sets::{address, object_bit, page_bit, page_of, rising, Addresses};
 use second::line::sets::{OBJECTS, PAGES, STATIONS};
 use second::line::spoil;
-use second::line::station::state::{Field, LENGTH};
-use second::line::LIMIT;
+use second::line::station::state::{kind_of, Field, LENGTH};
+use second::line::{Kind, LIMIT};
 use second::random::Random;
 use std::array;
 
@@ -31,7 +31,7 @@ fn in_range(random: &mut Random) -> Vec<u8> {
     let mut state = random.bytes(LENGTH);
     for (field, bound) in [
         (Field::Station, STATIONS as u8),
-        (Field::Kind, 2),
+        (Field::Kind, Kind::ALL.len() as u8),
         (Field::Open, 2),
         (Field::Wait, 4),
     ] {
@@ -69,13 +69,19 @@ fn decoded(random: &mut Random) -> Vec<u8> {
     if Field::Open.byte(&state) == 0 {
         clear(&Field::OF_TRANSACTION, &mut state);
     }
-    if Field::Open.byte(&state) == 0 || Field::Kind.byte(&state) == 1 {
+    let whole = Field::Whole.word(&state, 0);
+    if Field::Open.byte(&state) == 0 || !locks(&state) {
         clear(&Field::OF_LOCKS, &mut state);
+    }
+    if kind_of(&state).is_some_and(Kind::keeps) {
+        // often few, as at the end of a transaction
+        let few = whole & random.pick(&[0, 7, u32::MAX]);
+        Field::Whole.put_word(&mut state, 0, few);
     }
     ask_once(&mut state);
     ask_a_set(random, &mut state);
     let mut cached = random.number() as u32 | random.pick(&[0, 0x5555_5555, u32::MAX]);
-    if Field::Kind.byte(&state) == 0 {
+    if locks(&state) {
         cached |= locked(&state);
     }
     cache_only(cached, &mut state);
@@ -107,6 +113,10 @@ fn clear(fields: &[Field], state: &mut [u8]) {
     for field in fields {
         state[field.range()].fill(0);
     }
+}
+
+fn locks(state: &[u8]) -> bool {
+    kind_of(state).is_some_and(Kind::locks)
 }
 
 /// Pages with a lock.
@@ -143,7 +153,7 @@ fn cache_only(pages: u32, state: &mut [u8]) {
 fn by_the_rules(random: &mut Random) -> Vec<u8> {
     let mut state = decoded(random);
     if Field::Open.byte(&state) == 1 {
-        if Field::Kind.byte(&state) == 0 {
+        if locks(&state) {
             lock_written(&mut state);
         }
         cache_held(&mut state);

@@ -21,9 +21,7 @@ impl Line {
     pub fn fresh(kinds: [Kind; STATIONS], seed: u64) -> Line {
         Line {
             world: World::fresh(kinds),
-            windows: array::from_fn(|i| {
-                (kinds[i] == Kind::Validating).then(|| Behind::fresh(i as u8))
-            }),
+            windows: array::from_fn(|i| (!kinds[i].locks()).then(|| Behind::fresh(i as u8))),
             random: Random::new(seed),
         }
     }

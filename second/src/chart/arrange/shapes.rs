@@ -72,6 +72,7 @@ impl Chart<'_> {
                 let kind = match self.trace.kinds[station as usize] {
                     Kind::Locking => "locking",
                     Kind::Validating => "validating",
+                    Kind::Keeping => "keeping",
                 };
                 (
                     format!("station {station}"),

@@ -14,7 +14,7 @@ pub use crate::line::places::server::{Field, LENGTH};
 impl Field {
     /// Bytes that have a range of their own, one for each station: the highest that is in it.
     pub const RANGES: [(Field, u8); 5] = [
-        (Field::Kind, 1),
+        (Field::Kind, Kind::Keeping as u8),
         (Field::Want, 3),
         (Field::Called, 1),
         (Field::Unfinished, 1),
@@ -25,7 +25,7 @@ impl Field {
 /// "below 2^63"
 pub const COUNTERS_END: u64 = 1 << 63;
 
-/// Not number 1: "the length is not 53,336; a field is out of the range above; beside a whole lock an object of the page
+/// Not number 1: "the length is not 53,464; a field is out of the range above; beside a whole lock an object of the page
 /// is locked by another; two stations whose transactions are unfinished or that keep their age have one age; or two
 /// waiting stations have one arrival".
 #[inline]
@@ -60,8 +60,16 @@ fn works(bytes: &[u8], station: usize) -> bool {
     Field::Unfinished.byte_of(bytes, station) != 0
 }
 
+pub fn kind_of(bytes: &[u8], station: usize) -> Option<Kind> {
+    Kind::of(Field::Kind.byte_of(bytes, station).into())
+}
+
 fn locks(bytes: &[u8], station: usize) -> bool {
-    Field::Kind.byte_of(bytes, station) == Kind::Locking as u8
+    kind_of(bytes, station).is_some_and(Kind::locks)
+}
+
+fn keeps(bytes: &[u8], station: usize) -> bool {
+    kind_of(bytes, station).is_some_and(Kind::keeps)
 }
 
 fn station_fits(bytes: &[u8], station: usize) -> bool {
@@ -120,14 +128,31 @@ fn callbacks_fit(bytes: &[u8], station: usize) -> bool {
             .all(|other| other != station && locks(bytes, other))
 }
 
-/// "a locking station whose transaction is unfinished; 0 or the page's holder where the page is locked whole"
+/// "a locking or keeping station whose transaction is unfinished; 0 or the page's holder where the page is locked whole"
 fn locks_fit(bytes: &[u8], page: usize) -> bool {
     let first = Field::Lock.start() + OBJECTS * page;
     let objects = &bytes[first..first + OBJECTS];
-    match Field::Whole.byte_of(bytes, page) {
-        // most pages have none
-        0 => objects == [0; OBJECTS] || objects.iter().all(|lock| holds(bytes, *lock)),
-        whole => holds(bytes, whole) && objects.iter().all(|lock| *lock == 0 || *lock == whole),
+    // most pages have none
+    let held = objects == [0; OBJECTS] || objects.iter().all(|lock| holds(bytes, *lock));
+    let whole = Field::Whole.byte_of(bytes, page);
+    held && given(bytes, page)
+        && (whole == 0 || objects.iter().all(|lock| *lock == 0 || *lock == whole))
+}
+
+/// The whole lock: "a locking station whose transaction is unfinished, or a keeping one"; its 18's transaction: "the holder's
+/// latest; of a keeping holder any from 1 to its latest; 0 where the page is not locked whole".
+fn given(bytes: &[u8], page: usize) -> bool {
+    let given = Field::WholeFor.word(bytes, page);
+    let Some(station) = station_of(Field::Whole.byte_of(bytes, page)).map(usize::from) else {
+        return given == 0;
+    };
+    if station >= STATIONS || !locks(bytes, station) {
+        return false;
+    }
+    let latest = Field::Latest.word(bytes, station);
+    match keeps(bytes, station) {
+        true => (1..=latest).contains(&given),
+        false => works(bytes, station) && given == latest,
     }
 }
 
@@ -162,10 +187,8 @@ pub fn decode(bytes: &[u8]) -> Option<Server> {
     if !valid(bytes) {
         return None;
     }
-    let kinds = array::from_fn(|station| match Field::Kind.byte_of(bytes, station) {
-        0 => Kind::Locking,
-        _ => Kind::Validating,
-    });
+    let kinds: Vec<Kind> = (0..STATIONS).filter_map(|i| kind_of(bytes, i)).collect();
+    let kinds: [Kind; STATIONS] = kinds.try_into().ok()?;
     Some(Server {
         kinds,
         last: Field::Last.word(bytes, 0),
@@ -198,8 +221,11 @@ fn locked(bytes: &[u8], station: u8) -> Addresses {
 
 fn whole(bytes: &[u8], page: usize) -> Option<WholeLock> {
     let holder = station_of(Field::Whole.byte_of(bytes, page))?;
-    let asked = Field::Asked.word(bytes, 0) & page_bit(page as u8) != 0;
-    Some(WholeLock { holder, asked })
+    Some(WholeLock {
+        holder,
+        asked: Field::Asked.word(bytes, 0) & page_bit(page as u8) != 0,
+        transaction: Field::WholeFor.word(bytes, page),
+    })
 }
 
 /// "of pages that are locked whole"
@@ -356,6 +382,8 @@ fn lay_locks(server: &Server, bytes: &mut [u8]) {
     for (page, lock) in (0..PAGES as u8).zip(&server.whole) {
         let holder = lock.map_or(0, |lock| lock.holder + 1);
         Field::Whole.put_byte_of(bytes, page.into(), holder);
+        let given = lock.map_or(0, |lock| lock.transaction);
+        Field::WholeFor.put_word(bytes, page.into(), given);
         if lock.is_some_and(|lock| lock.asked) {
             asked |= page_bit(page);
         }
@@ -421,7 +449,7 @@ pub fn lay_step(message: &[u8], server: &Server, bytes: &mut [u8]) {
     if let Ok((from, Up::Commit(commit))) = Up::decode(message, &server.kinds) {
         // without a number left a locking commit is turned away before
         let spent = Field::Last.word(bytes, 0) == u32::MAX;
-        if !spent || server.kinds[usize::from(from)] == Kind::Validating {
+        if !spent || !server.kinds[usize::from(from)].locks() {
             lay_commit(&commit, bytes);
         }
     }

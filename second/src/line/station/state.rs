@@ -15,7 +15,7 @@ impl Field {
     /// 0 throughout while no transaction is open.
     pub const OF_TRANSACTION: [Field; 3] = [Field::ReadSet, Field::WrittenSet, Field::Wait];
 
-    /// 0 throughout but while a locking station's is.
+    /// 0 throughout but while a locking or keeping station's is; `Field::Whole` outlives it at a keeping one.
     pub const OF_LOCKS: [Field; 3] = [Field::Whole, Field::Locks, Field::Kept];
 
     /// What is known of a page beside that it is cached.
@@ -30,13 +30,13 @@ pub fn valid(bytes: &[u8]) -> bool {
         && in_range(bytes)
         && !keeps_its_own(bytes)
         && transaction_fits(bytes)
-        && (may_hold(bytes) || holds_nothing(bytes))
+        && locks_fit(bytes)
 }
 
 fn in_range(bytes: &[u8]) -> bool {
     let open = Field::Open.byte(bytes);
     usize::from(Field::Station.byte(bytes)) < STATIONS
-        && Field::Kind.byte(bytes) <= 1
+        && kind_of(bytes).is_some()
         && open <= 1
         && Field::Wait.byte(bytes) <= COMMIT
         // "not 0 while one is open"
@@ -65,11 +65,19 @@ fn is_closed(bytes: &[u8]) -> bool {
         && Field::Wait.byte(bytes) == 0
 }
 
-/// `Field::OF_LOCKS`
-fn holds_nothing(bytes: &[u8]) -> bool {
-    Field::Whole.word(bytes, 0) == 0
+/// `Field::OF_LOCKS`: "0 while no transaction is open, and at a validating station"; of whole pages "but a keeping one's".
+fn locks_fit(bytes: &[u8]) -> bool {
+    let kind = kind_of(bytes);
+    if Field::Open.byte(bytes) == 1 && kind.is_some_and(Kind::locks) {
+        return true;
+    }
+    (Field::Whole.word(bytes, 0) == 0 || kind.is_some_and(Kind::keeps))
         && is_0::<PAGES>(bytes, Field::Locks)
         && is_0::<{ STATIONS * WORD }>(bytes, Field::Kept)
+}
+
+pub fn kind_of(bytes: &[u8]) -> Option<Kind> {
+    Kind::of(Field::Kind.byte(bytes).into())
 }
 
 /// "0 while no transaction is open"; "A read that is out is of an object that is in neither set"; at most 48 in each set, with
@@ -110,17 +118,12 @@ fn requested(bytes: &[u8], wait: u8) -> Addresses {
     requested
 }
 
-/// "0 while no transaction is open, and at a validating station"
-fn may_hold(bytes: &[u8]) -> bool {
-    Field::Open.byte(bytes) == 1 && Field::Kind.byte(bytes) == Kind::Locking as u8
-}
-
 /// What the bytes say; None where they are not valid, or say what a `Station` cannot hold. Leftovers are not looked at.
 pub fn decode(bytes: &[u8]) -> Option<Station> {
     let station = near(bytes)?;
     let holds = pages_leave_nothing(bytes)
         && own_values_stand(&station)
-        && (station.kind == Kind::Validating || locked_pages_are_cached(&station));
+        && (!station.kind.locks() || locked_pages_are_cached(&station));
     holds.then_some(station)
 }
 
@@ -132,9 +135,10 @@ pub fn near(bytes: &[u8]) -> Option<Station> {
     }
     let station = Station {
         number: Field::Station.byte(bytes),
-        kind: Kind::of(Field::Kind.byte(bytes).into())?,
+        kind: kind_of(bytes)?,
         latest: Field::Number.word(bytes, 0),
         open: (Field::Open.byte(bytes) == 1).then(|| transaction(bytes)),
+        whole: Field::Whole.word(bytes, 0),
         cached: cached(bytes),
         kept: kept(bytes),
     };
@@ -181,7 +185,6 @@ fn transaction(bytes: &[u8]) -> Transaction {
         writes: values(bytes, Field::WrittenSet, Field::WrittenValue),
         seen: seen(bytes),
         locked: Field::Locks.sets(bytes, 0),
-        locked_whole: Field::Whole.word(bytes, 0),
         out: out(bytes),
     }
 }
@@ -267,6 +270,7 @@ pub fn lay(station: &Station, bytes: &mut [u8]) {
     Field::Kind.put_byte(bytes, station.kind as u8);
     Field::Open.put_byte(bytes, station.open.is_some().into());
     Field::Number.put_word(bytes, 0, station.latest);
+    Field::Whole.put_word(bytes, 0, station.whole);
     match &station.open {
         Some(transaction) => lay_transaction(transaction, bytes),
         None => lay_transaction(&Transaction::default(), bytes),
@@ -288,7 +292,6 @@ fn lay_transaction(transaction: &Transaction, bytes: &mut [u8]) {
         Field::Seen.put_word(bytes, (*address).into(), *version);
     }
     Field::Locks.put_sets(bytes, 0, &transaction.locked);
-    Field::Whole.put_word(bytes, 0, transaction.locked_whole);
     lay_out(transaction.out.as_ref(), bytes);
 }
 
