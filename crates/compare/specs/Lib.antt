@@ -1,4 +1,5 @@
 -- What two archives are to each other.
 pub mod Compare
+pub mod Words
 pub mod Told
 pub mod Steps

@@ -1,11 +1,22 @@
 // Which of two archives is the longer truth (document 02, wish 14): both are played, and compared record by record. What they have
 // in common is played once.
 ghost use mathlib.Core.Path.{_≡_};
+ghost use mathlib.Core.Bool.{true};
+ghost use Prim.Native.Nat.{_+_, _≤_, _<_};
+ghost use lib.ListN.{length};
+ghost use Rattle.lists.specs.Tests.{allTo};
 ghost use Rattle.replay.specs.Replay.{replayed};
 ghost use Rattle.replay.specs.Played.{archivePlayed};
-ghost use Rattle.compare.specs.Compare.{sameTo, commitAt, sharedOf, endingOf, decidedOf, compareOf, Together};
+ghost use Rattle.compare.specs.Compare.{sameByte, sameTo, commitAt, sharedOf, endingOf, decidedOf, compareOf, Together};
+ghost use Rattle.compare.specs.Words.{wordLength, fewWords, isWords, wordFrom, sameWord};
 ghost use Rattle.compare.specs.Told.{told, toldOf};
 use archive::Answer;
+
+// A record of few entries is compared in so many words, whatever its length: how a loop to its length ends is often mispredicted,
+// which costs more than the turns past its last whole word.
+const WORD: usize = record::VALUE;
+
+const FEW_WORDS: usize = (record::HEADER + record::ENTRY * (2 * record::FEW)) / WORD;
 
 // What two archives are to each other, or the number that refuses one of them. They part at the first commit that differs.
 pub enum Order {
@@ -23,6 +34,39 @@ struct Reach {
     number: u32,
 }
 
+// Whether n bytes are a word at least, and few words.
+fn few_words(n: usize) -> bool
+    ensures { λ r. ⌜ r ≡ isWords n ⌝ }
+{
+    (WORD <= n) & (n <= FEW_WORDS * WORD)
+}
+
+// Where word i of n bytes starts: the word that ends with the last byte, past the last whole one.
+fn word_from(i: usize, n: usize) -> usize
+    requires { ⌜ (wordLength ≤ n) × (i < fewWords) ⌝ }
+    ensures { λ r. ⌜ (r ≡ wordFrom i n) × (r + wordLength ≤ n) ⌝ }
+{
+    if i * WORD <= n - WORD {
+        return i * WORD;
+    }
+    n - WORD
+}
+
+// Whether the first n bytes of both, which are few words, are the same.
+fn same_words(a: &[u8], b: &[u8], n: usize) -> bool
+    requires { ⌜ (n ≤ length (now a)) × (n ≤ length (now b)) × (isWords n ≡ true) ⌝ }
+    ensures { λ r. ⌜ r ≡ allTo (sameByte (now (a .entry)) (now (b .entry))) n ⌝ }
+{
+    let mut same = true;
+    let mut i = 0;
+    while i < FEW_WORDS {
+        let at = word_from(i, n);
+        same &= le::get_u64(a, at) == le::get_u64(b, at);
+        i += 1;
+    }
+    same
+}
+
 // Whether the first n bytes of both are there and are the same. No test leaves the loop early, so that it compiles to vector code.
 pub fn same_bytes(a: &[u8], b: &[u8], n: usize) -> bool
     ensures { λ r. ⌜ r ≡ sameTo (now (a .entry)) (now (b .entry)) n ⌝ }
@@ -32,6 +76,9 @@ pub fn same_bytes(a: &[u8], b: &[u8], n: usize) -> bool
     }
     if b.len() < n {
         return false;
+    }
+    if few_words(n) {
+        return same_words(a, b, n);
     }
     let mut same = true;
     let mut i = 0;

@@ -1,10 +1,12 @@
 // Record check and record writer of document 01, for the heads' C firmware, which calls them directly.
 ghost use mathlib.Core.Path.{_≡_};
 ghost use mathlib.Core.List.{_++_};
+ghost use mathlib.Core.Bool.{true};
 ghost use Prim.Native.Nat.{_+_, _*_, _-_, _≤_, _<_};
 ghost use lib.ListN.{length, take, drop};
 ghost use Rattle.record.specs.Check.{lengthOf, claimedLength, headOk, headAt, riseAt, rises as Check·rises, addressesRise, checkOf};
 ghost use Rattle.record.specs.Write.{fits as Write·fits, recordBytes, written, writeOf};
+ghost use Rattle.record.specs.Few.{mostFew, fewEntries, isFew, upTo, riseIn};
 ghost use Rattle.layout.specs.Record.{headerLength, valueLength, header, recordLength};
 ghost use lib.Seq.{sets};
 
@@ -36,6 +38,13 @@ pub const ENTRY: usize = 1 + VALUE;
 // The most reads, and the most writes, that a record has; the length of a record with both.
 pub const MOST: u32 = 256;
 
+// So many reads, or writes, and fewer are few: they are passed in as many turns whatever their number, the last one again in the
+// turns past it. A loop to their number ends in a branch that is often mispredicted, which costs more than the turns.
+pub const FEW: usize = 4;
+
+// .. and so many of both.
+const FEW_ENTRIES: usize = 2 * FEW;
+
 const MOST_KIND: u32 = kinds::MOST as u32;
 
 pub const LONGEST: usize = HEADER + ENTRY * (2 * MOST as usize);
@@ -61,11 +70,56 @@ fn pairs(n: usize) -> usize
     if n == 0 { 0 } else { n - 1 }
 }
 
+// Whether there are some, and at most so many.
+pub fn few(n: usize, most: usize) -> bool
+    ensures { λ r. ⌜ r ≡ isFew n most ⌝ }
+{
+    (n != 0) & (n <= most)
+}
+
+// i, or the last of n where there are no more.
+pub fn up_to(i: usize, n: usize) -> usize
+    requires { ⌜ 0 < n ⌝ }
+    ensures { λ r. ⌜ (r ≡ upTo i n) × (r < n) ⌝ }
+{
+    if i < n {
+        return i;
+    }
+    n - 1
+}
+
+// Turn i of n addresses from a: the two rise, or there is no second one.
+fn rise_in(s: &[u8], a: usize, n: usize, i: usize) -> bool
+    requires { ⌜ (a + n ≤ length (now s)) × (0 < n) × (i < mostFew) ⌝ }
+    ensures { λ r. ⌜ r ≡ riseIn (now (s .entry)) a n i ⌝ }
+{
+    let first = up_to(i, n);
+    let second = up_to(i + 1, n);
+    (n <= i + 1) | (s[a + first] < s[a + second])
+}
+
+// Whether the n addresses from a, which are few, rise strictly.
+fn few_rise(s: &[u8], a: usize, n: usize) -> bool
+    requires { ⌜ (a + n ≤ length (now s)) × (isFew n mostFew ≡ true) ⌝ }
+    ensures { λ r. ⌜ r ≡ Check·rises (now (s .entry)) a n ⌝ }
+{
+    let mut ok = true;
+    let mut i = 0;
+    while i < FEW - 1 {
+        ok &= rise_in(s, a, n, i);
+        i += 1;
+    }
+    ok
+}
+
 // Whether the n addresses from a rise strictly. No test leaves the loop early, so that it compiles to vector code.
 pub fn rises(s: &[u8], a: usize, n: usize) -> bool
     requires { ⌜ a + n ≤ length (now s) ⌝ }
     ensures { λ r. ⌜ r ≡ Check·rises (now (s .entry)) a n ⌝ }
 {
+    if few(n, FEW) {
+        return few_rise(s, a, n);
+    }
     let e = pairs(n);
     let mut ok = true;
     let mut i = 0;
@@ -146,6 +200,57 @@ fn fill(to: &mut [u8], from: &[u8])
     bytes::copy(from, to);
 }
 
+// .. where it is few bytes.
+fn fill_few(to: &mut [u8], from: &[u8])
+    requires { ⌜ (length (now to) ≡ length (now from)) × (isFew (length (now from)) fewEntries ≡ true) ⌝ }
+    ensures { λ _. ⌜ now (to .exit) ≡ now (from .entry) ⌝ }
+{
+    let n = from.len();
+    let mut i = 0;
+    while i < FEW_ENTRIES {
+        let at = up_to(i, n);
+        le::put_u8(to, at, from[at]);
+        i += 1;
+    }
+}
+
+// .. where it is n values, which are few.
+fn fill_few_values(to: &mut [u8], from: &[u8], n: usize)
+    requires { ⌜ (length (now to) ≡ length (now from)) × (length (now from) ≡ valueLength * n) × (isFew n fewEntries ≡ true) ⌝ }
+    ensures { λ _. ⌜ now (to .exit) ≡ now (from .entry) ⌝ }
+{
+    let mut i = 0;
+    while i < FEW_ENTRIES {
+        let at = VALUE * up_to(i, n);
+        le::put_u64(to, at, le::get_u64(from, at));
+        i += 1;
+    }
+}
+
+// .. where it is a byte for each entry: its addresses.
+fn fill_addresses(to: &mut [u8], from: &[u8])
+    requires { ⌜ length (now to) ≡ length (now from) ⌝ }
+    ensures { λ _. ⌜ now (to .exit) ≡ now (from .entry) ⌝ }
+{
+    if few(from.len(), FEW_ENTRIES) {
+        fill_few(to, from);
+        return;
+    }
+    fill(to, from);
+}
+
+// .. where it is the values of n entries.
+fn fill_values(to: &mut [u8], from: &[u8], n: usize)
+    requires { ⌜ (length (now to) ≡ length (now from)) × (length (now from) ≡ valueLength * n) ⌝ }
+    ensures { λ _. ⌜ now (to .exit) ≡ now (from .entry) ⌝ }
+{
+    if few(n, FEW_ENTRIES) {
+        fill_few_values(to, from, n);
+        return;
+    }
+    fill(to, from);
+}
+
 pub fn put_header(
     out: &mut [u8],
     reads: u32,
@@ -207,10 +312,11 @@ fn put_record(
     ensures { λ _. ⌜ now (out .exit) ≡ recordBytes reads writes commit transaction station kind (now (addresses .entry)) (now (values .entry)) ++ drop (recordLength reads writes) (now (out .entry)) ⌝ }
 {
     put_header(out, reads, writes, commit, transaction, station, kind);
-    let a = HEADER + addresses.len();
+    let n = addresses.len();
+    let a = HEADER + n;
     let e = a + values.len();
-    fill(&mut out[HEADER..a], addresses);
-    fill(&mut out[a..e], values);
+    fill_addresses(&mut out[HEADER..a], addresses);
+    fill_values(&mut out[a..e], values, n);
 }
 
 // Writes a record to the start of `out`: 1 where `out` is under the record's length, then 5 where the arguments make no

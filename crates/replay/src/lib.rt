@@ -1,9 +1,12 @@
 // Replay of document 01: each record of an archive, read and played on 256 values.
 ghost use mathlib.Core.Path.{_≡_};
+ghost use mathlib.Core.Bool.{true};
 ghost use Prim.Native.Nat.{_+_, _*_, _≤_, _<_};
 ghost use lib.ListN.{length, set};
 ghost use Rattle.layout.specs.Record.{headerLength, entryLength};
+ghost use Rattle.lists.specs.Tests.{allTo};
 ghost use Rattle.record.specs.Check.{lengthOf, readCount, writeCount};
+ghost use Rattle.record.specs.Few.{mostFew, isFew};
 ghost use Rattle.replay.specs.Played.{played, recordPlayed, archivePlayed};
 ghost use Rattle.replay.specs.Replay.{addressAt, valueAt, readAgrees, readsAgree, storedTo, stored, replayed, onAnswer, replayOf};
 use archive::Answer;
@@ -23,6 +26,20 @@ fn read_agrees(t: &[u8], values: &[u64; 256], k: usize, i: usize) -> bool
     values[place(t[record::HEADER + i])] == le::get_u64(t, record::HEADER + k + record::VALUE * i)
 }
 
+// Whether each of a few reads of a record of k entries is the value there.
+fn few_agree(t: &[u8], values: &[u64; 256], n: usize, k: usize) -> bool
+    requires { ⌜ (n ≤ k) × (headerLength + entryLength * k ≤ length (now t)) × (isFew n mostFew ≡ true) ⌝ }
+    ensures { λ r. ⌜ r ≡ allTo (readAgrees (now (t .entry)) (now (values .entry)) k) n ⌝ }
+{
+    let mut ok = true;
+    let mut i = 0;
+    while i < record::FEW {
+        ok &= read_agrees(t, values, k, record::up_to(i, n));
+        i += 1;
+    }
+    ok
+}
+
 // Whether every read of the record at the start of `t` is the value there. No test leaves the loop early.
 fn reads_agree(t: &[u8], values: &[u64; 256]) -> bool
     requires { ⌜ (headerLength ≤ length (now t)) × (lengthOf (now t) ≤ length (now t)) ⌝ }
@@ -30,6 +47,9 @@ fn reads_agree(t: &[u8], values: &[u64; 256]) -> bool
 {
     let n = le::index(le::get_u16(t, record::READS));
     let k = n + le::index(le::get_u16(t, record::WRITES));
+    if record::few(n, record::FEW) {
+        return few_agree(t, values, n, k);
+    }
     let mut ok = true;
     let mut i = 0;
     while i < n {
@@ -48,6 +68,18 @@ fn store_entry(t: &[u8], values: &mut [u64; 256], k: usize, i: usize)
     values[a] = le::get_u64(t, record::HEADER + k + record::VALUE * i);
 }
 
+// Stores m entries, which are few, from the n-th of a record of k on.
+fn few_stored(t: &[u8], values: &mut [u64; 256], k: usize, n: usize, m: usize)
+    requires { ⌜ (n + m ≤ k) × (headerLength + entryLength * k ≤ length (now t)) × (isFew m mostFew ≡ true) ⌝ }
+    ensures { λ _. ⌜ now (values .exit) ≡ storedTo (now (t .entry)) (now (values .entry)) k n m ⌝ }
+{
+    let mut c = 0;
+    while c < record::FEW {
+        store_entry(t, values, k, n + record::up_to(c, m));
+        c += 1;
+    }
+}
+
 // Stores the writes of the record at the start of `t`.
 fn store_writes(t: &[u8], values: &mut [u64; 256])
     requires { ⌜ (headerLength ≤ length (now t)) × (lengthOf (now t) ≤ length (now t)) ⌝ }
@@ -56,6 +88,10 @@ fn store_writes(t: &[u8], values: &mut [u64; 256])
     let n = le::index(le::get_u16(t, record::READS));
     let m = le::index(le::get_u16(t, record::WRITES));
     let k = n + m;
+    if record::few(m, record::FEW) {
+        few_stored(t, values, k, n, m);
+        return;
+    }
     let mut c = 0;
     while c < m {
         store_entry(t, values, k, n + c);

@@ -1,9 +1,9 @@
 -- `replay::reads_agree` meets its contract. The loop's invariant: the result so far is the test of all reads passed.
-use borrow.Author.Needs.{needs}
+use Prim.Native.Nat.{_≤_, _-_}
 use mathlib.Core.Path.{_≡_, sym, ap, _∙_}
-use native.Mathlib.Omega.{arith}
-use Prim.Native.Nat.{_-_, _≤_}
 use native.Mathlib.Numerals.{add-one}
+use native.Mathlib.Omega.{arith}
+use borrow.Author.Needs.{needs}
 use Rattle.replay.specs.Replay.{readAgrees, readsAgree}
 use Rattle.lists.specs.Tests.{allTo}
 use Rattle.replay.proofs.reads_agree.Statement.{statement}
@@ -30,6 +30,16 @@ index-requires-2 c κs = search needs
 add-k : tie.Need-add-k Inv-loop μ-loop
 add-k c = search needs
 
+few-requires : tie.Need-few-requires Inv-loop μ-loop
+few-requires c κs = search needs
+
+few-agree-requires : tie.Need-few-agree-requires Inv-loop μ-loop
+few-agree-requires c κs = (search needs, search needs, sym (c .before .few .ensures) ∙ c .if1 .taken)
+
+returns : tie.Need-returns Inv-loop μ-loop
+unfolding readsAgree
+returns c = rw (sym (c .before .before .before .before .before .before .get-u16 .ensures .0), sym (c .before .before .before .before .get-u162 .ensures .0), sym (c .before .before .before .before .before .index .ensures), sym (c .before .before .before .index2 .ensures)) (c .few-agree .ensures)
+
 loop-holds : tie.Need-loop-holds Inv-loop μ-loop
 unfolding allTo
 loop-holds c = search needs
@@ -47,9 +57,9 @@ loop-again : tie.Need-loop-again Inv-loop μ-loop
 unfolding allTo
 loop-again c = (search needs, rw add-one (cc))
 
-returns : tie.Need-returns Inv-loop μ-loop
+returns-2 : tie.Need-returns-2 Inv-loop μ-loop
 unfolding readsAgree
-returns c = rw (sym (c .before .before .before .before .before .get-u16 .ensures .0), sym (c .before .before .before .get-u162 .ensures .0), sym (c .before .before .before .before .index .ensures), sym (c .before .before .index2 .ensures)) (c .before .loop .inv .1 ∙ ap (allTo _) (omega arith))
+returns-2 c = rw (sym (c .before .before .before .before .before .before .before .get-u16 .ensures .0), sym (c .before .before .before .before .before .get-u162 .ensures .0), sym (c .before .before .before .before .before .before .index .ensures), sym (c .before .before .before .before .index2 .ensures)) (c .before .loop .inv .1 ∙ ap (allTo _) (omega arith))
 
 pub reads-agree-spec : {M : Type 1} → statement M
 reads-agree-spec =
@@ -62,9 +72,12 @@ reads-agree-spec =
     get-u16-requires-2
     index-requires-2
     add-k
+    few-requires
+    few-agree-requires
+    returns
     loop-holds
     read-agrees-requires
     add-i
     loop-less
     loop-again
-    returns)
+    returns-2)

@@ -1,9 +1,9 @@
 -- `replay::store_writes` meets its contract. The loop's invariant: the values are those after the writes passed.
-use borrow.Author.Needs.{needs}
+use Prim.Native.Nat.{_≤_, _-_}
 use mathlib.Core.Path.{_≡_, sym, ap, _∙_}
-use native.Mathlib.Omega.{arith}
-use Prim.Native.Nat.{_-_, _≤_}
 use native.Mathlib.Numerals.{add-one}
+use native.Mathlib.Omega.{arith}
+use borrow.Author.Needs.{needs}
 use Rattle.replay.specs.Replay.{storedTo, stored}
 use Rattle.replay.proofs.store_writes.Statement.{statement}
 use Rattle.replay.proofs.store_writes.Tie as tie
@@ -29,6 +29,16 @@ index-requires-2 c κs = search needs
 add-k : tie.Need-add-k Inv-loop μ-loop
 add-k c = search needs
 
+few-requires : tie.Need-few-requires Inv-loop μ-loop
+few-requires c κs = search needs
+
+few-stored-requires : tie.Need-few-stored-requires Inv-loop μ-loop
+few-stored-requires c κs = (search needs, search needs, sym (c .before .before .few .ensures) ∙ c .before .if1 .taken)
+
+returns : tie.Need-returns Inv-loop μ-loop
+unfolding stored
+returns c = rw (sym (c .before .before .before .before .before .before .before .get-u16 .ensures .0), sym (c .before .before .before .before .before .get-u162 .ensures .0), sym (c .before .before .before .before .before .before .index .ensures), sym (c .before .before .before .before .index2 .ensures)) (c .few-stored .ensures)
+
 loop-holds : tie.Need-loop-holds Inv-loop μ-loop
 unfolding storedTo
 loop-holds c = search needs
@@ -49,9 +59,9 @@ loop-again : tie.Need-loop-again Inv-loop μ-loop
 unfolding storedTo
 loop-again c = (search needs, rw add-one (cc))
 
-returns : tie.Need-returns Inv-loop μ-loop
+returns-2 : tie.Need-returns-2 Inv-loop μ-loop
 unfolding stored
-returns c = rw (sym (c .before .before .before .before .before .get-u16 .ensures .0), sym (c .before .before .before .get-u162 .ensures .0), sym (c .before .before .before .before .index .ensures), sym (c .before .before .index2 .ensures)) (c .before .loop .inv .1 ∙ ap (storedTo _ _ _ _) (omega arith))
+returns-2 c = rw (sym (c .before .before .before .before .before .before .before .get-u16 .ensures .0), sym (c .before .before .before .before .before .get-u162 .ensures .0), sym (c .before .before .before .before .before .before .index .ensures), sym (c .before .before .before .before .index2 .ensures)) (c .before .loop .inv .1 ∙ ap (storedTo _ _ _ _) (omega arith))
 
 pub store-writes-spec : {M : Type 1} → statement M
 store-writes-spec =
@@ -64,10 +74,13 @@ store-writes-spec =
     get-u16-requires-2
     index-requires-2
     add-k
+    few-requires
+    few-stored-requires
+    returns
     loop-holds
     add-store-entry
     store-entry-requires
     add-c
     loop-less
     loop-again
-    returns)
+    returns-2)
