@@ -1,42 +1,90 @@
--- Locks are freed page by page; where eight lock bytes are 0 there is nothing to free.
-use Prim.Native.Nat.{ℕ, zero, suc, _+_, _*_, _<_}
-use mathlib.Core.Path.{_≡_, refl, sym, ap, _∙_}
+-- Locks are freed and values written page by page and eight pages at a time; a page or a group that has none is passed over.
+use Prim.Native.Nat.{ℕ, zero, suc, _+_, _*_, _/_, _%_, _<_}
+use mathlib.Core.Path.{_≡_, refl, ap, _∙_}
+use mathlib.Core.Bool.{false}
 use mathlib.Core.List.{List}
 use native.Mathlib.Omega.{arith}
+use lib.ListN.{getD}
 use borrow.Author.Tests.{ne-eqb}
 use Rattle.le.specs.Le.{u64At}
-use Rattle.server_state.specs.Layout.{lockFrom, lockOf}
+use Rattle.cells.specs.Bits.{tb-test, tb-zero}
+use Rattle.station_state.specs.Layout.{hasBit, member}
+use Rattle.station_state.specs.Runs.{run, run-idle}
+use Rattle.station_state.specs.Sets.{over, over-each}
+use Rattle.server_state.specs.Layout.{lockFrom, lockOf, wholeFrom, wholeOf, writtenSetFrom}
 use Rattle.server_state.specs.Facts.{zero-eight}
-use Rattle.server_changes.specs.Changes.{freeOneB, freeTo}
+use Rattle.server_changes.specs.Changes.{freePageB, freePagesTo, freeOneB, freeTo, valueOneB, valuesTo}
 
--- the locks of i on n addresses from a
-unfoldable pub freeFrom : ℕ → List ℕ → ℕ → ℕ → List ℕ
-freeFrom i s a zero = s
-freeFrom i s a (suc n) = freeOneB i (freeFrom i s a n) (a + n)
+-- from the first on they are those of the definitions
+pub pages-run : (i : ℕ) (s : List ℕ) (n : ℕ) → run (freePageB i) s 0 n ≡ freePagesTo i s n
+unfolding run freePagesTo
+pages-run i s zero = refl
+pages-run i s (suc n) =
+    let place : 0 + n ≡ n = omega arith in
+    ap (λ (t : List ℕ). freePageB i t (0 + n)) (pages-run i s n) ∙ ap (freePageB i (freePagesTo i s n)) place
 
-pub free-more : (i : ℕ) (s : List ℕ) (a n : ℕ) → freeFrom i (freeTo i s a) a n ≡ freeTo i s (a + n)
-unfolding freeFrom freeTo
-free-more i s a zero = let same : a ≡ a + 0 = omega arith in ap (freeTo i s) same
-free-more i s a (suc n) =
-    let next : suc (a + n) ≡ a + suc n = omega arith in
-    ap (λ (t : List ℕ). freeOneB i t (a + n)) (free-more i s a n) ∙ ap (freeTo i s) next
+pub locks-run : (i : ℕ) (s : List ℕ) (n : ℕ) → run (freeOneB i) s 0 n ≡ freeTo i s n
+unfolding run freeTo
+locks-run i s zero = refl
+locks-run i s (suc n) =
+    let place : 0 + n ≡ n = omega arith in
+    ap (λ (t : List ℕ). freeOneB i t (0 + n)) (locks-run i s n) ∙ ap (freeOneB i (freeTo i s n)) place
 
--- a page more
-pub free-page : (i : ℕ) (s : List ℕ) (p : ℕ) {t u : List ℕ} → t ≡ freeTo i s (p * 8) → u ≡ freeFrom i t (p * 8) 8 → u ≡ freeTo i s ((p + 1) * 8)
-free-page i s p e f =
-    let next : p * 8 + 8 ≡ (p + 1) * 8 = omega arith in
-    f ∙ ap (λ (t : List ℕ). freeFrom i t (p * 8) 8) e ∙ free-more i s (p * 8) 8 ∙ ap (freeTo i s) next
+pub values-run : (i v : ℕ) (s : List ℕ) (n : ℕ) → run (valueOneB i v) s 0 n ≡ valuesTo i v s n
+unfolding run valuesTo
+values-run i v s zero = refl
+values-run i v s (suc n) =
+    let place : 0 + n ≡ n = omega arith in
+    ap (λ (t : List ℕ). valueOneB i v t (0 + n)) (values-run i v s n) ∙ ap (valueOneB i v (valuesTo i v s n)) place
 
-none-freed : (i : ℕ) (s : List ℕ) (a n : ℕ) → ((k : ℕ) → k < n → lockOf s (a + k) ≡ 0) → freeFrom i s a n ≡ s
-unfolding freeFrom freeOneB
-none-freed i s a zero h = refl
-none-freed i s a (suc n) h =
-    rw (none-freed i s a n (λ k l. h k (omega arith)), h n (omega arith), ne-eqb 0 (i + 1) (λ e. omega arith))
+-- WHAT IS PASSED OVER
 
-pub nothing-locked : (i p : ℕ) (s : List ℕ) → u64At s (lockFrom + p * 8) ≡ 0 → s ≡ freeFrom i s (p * 8) 8
-nothing-locked i p s e =
-    sym
-    (none-freed i s (p * 8) 8
+-- eight pages that nobody has whole
+pub none-whole : (i g : ℕ) (s : List ℕ) → u64At s (wholeFrom + g * 8) ≡ 0 → s ≡ run (freePageB i) s (g * 8) 8
+unfolding freePageB
+none-whole i g s e =
+    run-idle (freePageB i) s (g * 8) 8
     (λ k l.
-    let at : lockFrom + (p * 8 + k) ≡ lockFrom + p * 8 + k = omega arith in
-    rw at (zero-eight s (lockFrom + p * 8) k l e)))
+    let at : wholeFrom + (g * 8 + k) ≡ wholeFrom + g * 8 + k = omega arith in
+    let free : wholeOf s (g * 8 + k) ≡ 0 = rw at (zero-eight s (wholeFrom + g * 8) k l e) in
+    rw (free, ne-eqb 0 (i + 1) (λ z. omega arith)) refl)
+
+-- addresses that nobody has locked
+none-locked : (i a n : ℕ) (s : List ℕ) → ((k : ℕ) → k < n → getD s (lockFrom + a + k) 0 ≡ 0) → s ≡ run (freeOneB i) s a n
+unfolding freeOneB
+none-locked i a n s h =
+    run-idle (freeOneB i) s a n
+    (λ k l.
+    let at : lockFrom + (a + k) ≡ lockFrom + a + k = omega arith in
+    let free : lockOf s (a + k) ≡ 0 = rw at (h k l) in
+    rw (free, ne-eqb 0 (i + 1) (λ z. omega arith)) refl)
+
+pub page-unlocked : (i p : ℕ) (s : List ℕ) → u64At s (lockFrom + p * 8) ≡ 0 → s ≡ run (freeOneB i) s (p * 8) 8
+page-unlocked i p s e = none-locked i (p * 8) 8 s (λ k l. zero-eight s (lockFrom + p * 8) k l e)
+
+pub group-unlocked : (i g : ℕ) (s : List ℕ) → over s (lockFrom + g * 64) 64 ≡ 0 → s ≡ run (freeOneB i) s (g * 64) 64
+group-unlocked i g s e = none-locked i (g * 64) 64 s (over-each s (lockFrom + g * 64) 64 e)
+
+-- pages that are not written
+no-bit : (k : ℕ) → hasBit 0 k ≡ false
+unfolding hasBit
+no-bit k = tb-test k 0 ∙ tb-zero k
+
+none-written : (i v p n : ℕ) (s : List ℕ) → ((q : ℕ) → q < n → getD s (writtenSetFrom i + (p + q)) 0 ≡ 0) → s ≡ run (valueOneB i v) s (p * 8) (n * 8)
+unfolding valueOneB member
+none-written i v p n s h =
+    run-idle (valueOneB i v) s (p * 8) (n * 8)
+    (λ k l.
+    let page : (p * 8 + k) / 8 ≡ p + k / 8 = omega arith in
+    rw (page, h (k / 8) (omega arith), no-bit ((p * 8 + k) % 8)) refl)
+
+pub page-unwritten : (i v p : ℕ) (s : List ℕ) → getD s (writtenSetFrom i + p) 0 ≡ 0 → s ≡ run (valueOneB i v) s (p * 8) 8
+page-unwritten i v p s e =
+    none-written i v p 1 s (λ q l. let at : writtenSetFrom i + (p + q) ≡ writtenSetFrom i + p = omega arith in rw at e)
+
+pub group-unwritten : (i v g : ℕ) (s : List ℕ) → u64At s (writtenSetFrom i + g * 8) ≡ 0 → s ≡ run (valueOneB i v) s (g * 64) 64
+group-unwritten i v g s e =
+    let from : g * 8 * 8 ≡ g * 64 = omega arith in
+    rw from at
+    (none-written i v (g * 8) 8 s
+    (λ q l. let at : writtenSetFrom i + (g * 8 + q) ≡ writtenSetFrom i + g * 8 + q = omega arith in rw at (zero-eight s (writtenSetFrom i + g * 8) q l e)))

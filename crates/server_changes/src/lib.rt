@@ -8,7 +8,7 @@ ghost use Rattle.message.specs.Commit.{versionsAt, shortestCommit, addressesAt,
 ghost use Rattle.layout.specs.Record.{entryLength};
 ghost use Rattle.server_state.specs.Layout.{ageWidth, serverLength, valueRow, versionRow, setRow, counterLimit, ageFrom, nextAgeFrom, agesOf, arrivalsOf, lastOf};
 ghost use Rattle.server_changes.specs.Changes.{newAgeB, ageB, noticeB, keepsAgeB, holdB, freePageB, freePagesTo, freePagesB, freeOneB, freeTo, finishB, leaveB, joinB, joinReadB, joinWriteB, unpackOne, unpackTo, unpackB, joinCommitB, listB, unlistB, markBusyB, answeredB, lockOneB, lockTo, loosenB, meetB, heededB, heedB, askedB, calledB, lockPageB, valueOneB, valuesTo, writeB};
-ghost use Rattle.server_changes.specs.Frees.{freeFrom};
+ghost use Rattle.station_state.specs.Runs.{run};
 use server_state::AGE;
 use server_state::AGE_KEPT;
 use server_state::AGE_WIDTH;
@@ -17,6 +17,7 @@ use server_state::ASKED;
 use server_state::Ages;
 use server_state::BUSY;
 use server_state::CALLED;
+use server_state::GROUP_LOCKS;
 use server_state::LAST;
 use server_state::LATEST;
 use server_state::LISTED;
@@ -40,6 +41,7 @@ use server_state::WORK;
 use server_state::WRITTEN_SET;
 use server_state::WRITTEN_VALUE;
 use server_state::WRITTEN_VERSION;
+use station_state::GROUP;
 use station_state::NUMBER_WIDTH;
 use station_state::OBJECTS;
 use station_state::PAGE_SET_WIDTH;
@@ -113,14 +115,29 @@ fn free_page(s: &mut [u8], i: usize, p: usize)
     }
 }
 
+// Eight pages; where none is locked whole none is looked at.
+fn free_group(s: &mut [u8], i: usize, g: usize)
+    requires { ⌜ (length (now s) ≡ serverLength) × (i < 8) × (g < 4) ⌝ }
+    ensures { λ _. ⌜ now (s .exit) ≡ run (freePageB i) (now (s .entry)) (g * 8) 8 ⌝ }
+{
+    if le::get_u64(s, WHOLE + g * GROUP) == 0 {
+        return;
+    }
+    let mut p = 0;
+    while p < 8 {
+        free_page(s, i, g * GROUP + p);
+        p += 1;
+    }
+}
+
 fn free_all_pages(s: &mut [u8], i: usize)
     requires { ⌜ (length (now s) ≡ serverLength) × (i < 8) ⌝ }
     ensures { λ _. ⌜ now (s .exit) ≡ freePagesTo i (now (s .entry)) 32 ⌝ }
 {
-    let mut p = 0;
-    while p < 32 {
-        free_page(s, i, p);
-        p += 1;
+    let mut g = 0;
+    while g < 4 {
+        free_group(s, i, g);
+        g += 1;
     }
 }
 
@@ -148,7 +165,7 @@ fn free_one(s: &mut [u8], i: usize, a: usize)
 // The locks of i on the objects of page p. A page without locks is passed over.
 fn free_on(s: &mut [u8], i: usize, p: usize)
     requires { ⌜ (length (now s) ≡ serverLength) × (i < 8) × (p < 32) ⌝ }
-    ensures { λ _. ⌜ now (s .exit) ≡ freeFrom i (now (s .entry)) (p * 8) 8 ⌝ }
+    ensures { λ _. ⌜ now (s .exit) ≡ run (freeOneB i) (now (s .entry)) (p * 8) 8 ⌝ }
 {
     if le::get_u64(s, LOCK + p * OBJECTS) == 0 {
         return;
@@ -160,14 +177,29 @@ fn free_on(s: &mut [u8], i: usize, p: usize)
     }
 }
 
+// .. and of eight pages.
+fn free_in(s: &mut [u8], i: usize, g: usize)
+    requires { ⌜ (length (now s) ≡ serverLength) × (i < 8) × (g < 4) ⌝ }
+    ensures { λ _. ⌜ now (s .exit) ≡ run (freeOneB i) (now (s .entry)) (g * 64) 64 ⌝ }
+{
+    if station_state::over(s, LOCK + g * GROUP_LOCKS, GROUP_LOCKS) == 0 {
+        return;
+    }
+    let mut p = 0;
+    while p < 8 {
+        free_on(s, i, g * GROUP + p);
+        p += 1;
+    }
+}
+
 fn free(s: &mut [u8], i: usize)
     requires { ⌜ (length (now s) ≡ serverLength) × (i < 8) ⌝ }
     ensures { λ _. ⌜ now (s .exit) ≡ freeTo i (now (s .entry)) 256 ⌝ }
 {
-    let mut p = 0;
-    while p < 32 {
-        free_on(s, i, p);
-        p += 1;
+    let mut g = 0;
+    while g < 4 {
+        free_in(s, i, g);
+        g += 1;
     }
 }
 
@@ -444,14 +476,44 @@ fn value_one(s: &mut [u8], i: usize, n: u32, a: usize)
     }
 }
 
+// The objects of page p. A page that is not written is passed over.
+fn values_on(s: &mut [u8], i: usize, n: u32, p: usize)
+    requires { ⌜ (length (now s) ≡ serverLength) × (i < 8) × (p < 32) ⌝ }
+    ensures { λ _. ⌜ now (s .exit) ≡ run (valueOneB i n) (now (s .entry)) (p * 8) 8 ⌝ }
+{
+    if s[WRITTEN_SET + i * SET_ROW + p] == 0 {
+        return;
+    }
+    let mut o = 0;
+    while o < 8 {
+        value_one(s, i, n, p * OBJECTS + o);
+        o += 1;
+    }
+}
+
+// .. and of eight pages.
+fn values_in(s: &mut [u8], i: usize, n: u32, g: usize)
+    requires { ⌜ (length (now s) ≡ serverLength) × (i < 8) × (g < 4) ⌝ }
+    ensures { λ _. ⌜ now (s .exit) ≡ run (valueOneB i n) (now (s .entry)) (g * 64) 64 ⌝ }
+{
+    if le::get_u64(s, WRITTEN_SET + i * SET_ROW + g * GROUP) == 0 {
+        return;
+    }
+    let mut p = 0;
+    while p < 8 {
+        values_on(s, i, n, g * GROUP + p);
+        p += 1;
+    }
+}
+
 fn values(s: &mut [u8], i: usize, n: u32)
     requires { ⌜ (length (now s) ≡ serverLength) × (i < 8) ⌝ }
     ensures { λ _. ⌜ now (s .exit) ≡ valuesTo i n (now (s .entry)) 256 ⌝ }
 {
-    let mut a = 0;
-    while a < 256 {
-        value_one(s, i, n, a);
-        a += 1;
+    let mut g = 0;
+    while g < 4 {
+        values_in(s, i, n, g);
+        g += 1;
     }
 }
 

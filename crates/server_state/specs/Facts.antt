@@ -10,13 +10,12 @@ use lib.Bits.{bitOr}
 use native.Mathlib.Omega.{arith}
 use borrow.Author.Tests.{eqb-true, eqb-false, ltb-true, leb-true, not-true, ltb-false, eq-eqb, ne-eqb}
 use Rattle.le.specs.Le.{u64At}
-use Rattle.le.specs.Width.{numAt}
-use Rattle.le.specs.Laws.{u64At-is}
 use Rattle.lists.specs.Tests.{allTo, allTo-at, allTo-of, and-l, and-r}
 use Rattle.sets.specs.Laws.{byB}
 use Rattle.limits.specs.Limit.{limit}
 use Rattle.kinds.specs.Kinds.{mostKind}
 use Rattle.station_state.specs.Layout.{hasBit, countIn, noneIn}
+use Rattle.station_state.specs.Sets.{eight-bytes}
 use Rattle.server_state.specs.Layout.{counterLimit, kindFrom, wantFrom, calledFrom, unfinishedFrom, serverLength, ageOf, arrivalOf, agesOf, arrivalsOf, workNumber, latestOf, askedOf, lockFrom, lockOf, wholeOf, readSetFrom, writtenSetFrom, kindOf, wantOf, requestOf, calledOf, pendOf, busyOf, unfinishedOf, ageKeptFrom, ageKeptOf, wholeForOf, lockingB, keepsB}
 use Rattle.server_state.specs.Valid.{mostAt, most, rangesOk, countersOk, wordOf, onlyIn, pageOnly, blankOk, fewOk, commitOk, writeOk, requestOk, waiterOk, entryOk, owesAt, callsOk, agedOk, stationOk, holderOk, holderAt, besideAt, givenOk, wholeOk, pageOk, askedAt, apartAt, apartOk, valid, kindsOk, ageless}
 
@@ -128,7 +127,7 @@ pub record Ranged (s : List ℕ) : Type 0 where
 -- A STATION
 
 module _ (s : List ℕ) (i : ℕ) where
-  blank-of : blankOk s i ≡ true → Blank s i
+  pub blank-of : blankOk s i ≡ true → Blank s i
   unfolding blankOk
   blank-of h =
       let u = all-4 (eqb (arrivalOf s i) 0) (eqb (requestOf s i) 0) (noneIn s (readSetFrom i)) (noneIn s (writtenSetFrom i)) h in
@@ -358,18 +357,9 @@ pub kinds-length : (kinds : List ℕ) → kindsOk kinds ≡ true → length kind
 unfolding kindsOk
 kinds-length kinds h = eqb-true (length kinds) 8 (and-l (eqb (length kinds) 8) (most kinds 0 mostKind 8) h)
 
--- the bytes of a number that is 0
-pub zero-bytes : (n : ℕ) (s : List ℕ) (at : ℕ) → numAt n s at ≡ 0 → (k : ℕ) → k < n → getD s (at + k) 0 ≡ 0
-unfolding numAt
-zero-bytes zero s at e k l = absurd (omega arith)
-zero-bytes (suc n) s at e zero l = let here : at + 0 ≡ at = omega arith in rw here (omega arith)
-zero-bytes (suc n) s at e (suc k) l =
-    let there : at + suc k ≡ suc at + k = omega arith in
-    rw there (zero-bytes n s (suc at) (omega arith) k (omega arith))
-
 -- eight bytes at once
 pub zero-eight : (s : List ℕ) (at k : ℕ) → k < 8 → u64At s at ≡ 0 → getD s (at + k) 0 ≡ 0
-zero-eight s at k l e = zero-bytes 8 s at (sym (u64At-is s at) ∙ e) k l
+zero-eight s at k l e = eight-bytes s at k l e
 
 -- WHAT THE CODE PASSES OVER
 
@@ -394,14 +384,6 @@ no-bit k = refl
 pub none-asked : (s : List ℕ) → askedOf s ≡ 0 → true ≡ allTo (askedAt s) 32
 unfolding askedAt
 none-asked s e = sym (allTo-of (askedAt s) 32 (λ p l. rw (e, no-bit p)))
-
--- a station whose age does not count and that does not wait
-pub apart-idle : (s : List ℕ) (i : ℕ) → (ageless s i && eqb (wantOf s i) 0) ≡ true → true ≡ apartOk s i
-unfolding apartOk apartAt
-apart-idle s i e =
-    let a = and-l (ageless s i) (eqb (wantOf s i) 0) e in
-    let b = and-r (ageless s i) (eqb (wantOf s i) 0) e in
-    sym (allTo-of (apartAt s i) i (λ j l. rw (a, b) refl))
 
 -- the last of four words, the others being as they should
 pub only-last : (s : List ℕ) (at x : ℕ) {a b c d f g h k : ℕ} → a ≡ u64At s at → b ≡ u64At s (at + 8) → c ≡ u64At s (at + 16) → d ≡ u64At s (at + 24)

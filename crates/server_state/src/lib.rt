@@ -4,9 +4,10 @@ ghost use Prim.Native.Nat.{_+_, _≤_, _<_};
 ghost use lib.ListN.{length, replicate};
 ghost use Rattle.lists.specs.Tests.{allTo};
 ghost use Rattle.server_state.specs.Layout.{serverLength, latestOf, arrivalOf, lastOf, askedOf, wholeForOf, lockingB, keepsB, otherB};
-ghost use Rattle.server_state.specs.Valid.{mostAt, most as Valid·most, rangesOk, countersOk, wordOf, onlyIn, pageOnlyAt, pageOnly, blankOk, fewOk, commitOk, writeOk, requestOk, waiterOk, entryOk, owesAt, callsOk, agedOk, stationOk, holderOk, holderAt, besideAt, givenOk, wholeOk, pageOk, askedAt, apartAt, apartOk, valid as Valid·valid, kindsOk, kindsTo, freshened, freshOf, ageless};
-ghost use Rattle.server_state.specs.Eights.{groupFree, groupOk};
+ghost use Rattle.server_state.specs.Valid.{mostAt, most as Valid·most, rangesOk, countersOk, wordOf, onlyIn, pageOnlyAt, pageOnly, blankOk, fewOk, commitOk, writeOk, requestOk, waiterOk, entryOk, owesAt, callsOk, agedOk, stationOk, holderOk, holderAt, besideAt, givenOk, wholeOk, pageOk, askedAt, apartOk, valid as Valid·valid, kindsOk, kindsTo, freshened, freshOf, ageless};
+ghost use Rattle.server_state.specs.Eights.{groupFree, groupOk, agesAt, arrivalsAt};
 ghost use Rattle.server_state.specs.Ages.{agedOf};
+use station_state::GROUP;
 use station_state::NUMBER_WIDTH;
 use station_state::OBJECTS;
 use station_state::PAGE_SET_WIDTH;
@@ -90,10 +91,15 @@ pub const COUNTER_LIMIT: u64 = 9223372036854775808;
 // Stations, each with an entry in the fields by station.
 pub const STATIONS: usize = 8;
 
-// Pages that are tested together for locks, and the bytes of their locks on objects.
-const GROUP: usize = 8;
+// The bytes of all ages or arrivals, of the sets of all entries, and of what is kept of 20s.
+const ALL_AGES: usize = STATIONS * AGE_WIDTH;
 
-const GROUP_LOCKS: usize = GROUP * OBJECTS;
+const ALL_SETS: usize = KIND - READ_SET;
+
+const ALL_CALLS: usize = UNFINISHED - CALLED;
+
+// The bytes of a group's locks on objects, and of the numbers beside its whole locks.
+pub const GROUP_LOCKS: usize = GROUP * OBJECTS;
 
 const GROUP_NUMBERS: usize = GROUP * NUMBER_WIDTH;
 
@@ -334,17 +340,15 @@ fn entry_ok(s: &[u8], i: usize) -> bool
     waiter_ok(s, i)
 }
 
+// Whether all eight entries are empty: their sets stand one behind the other.
 fn blanks_ok(s: &[u8]) -> bool
     requires { ⌜ length (now s) ≡ serverLength ⌝ }
     ensures { λ r. ⌜ r ≡ allTo (blankOk (now (s .entry))) 8 ⌝ }
 {
-    let mut ok = true;
-    let mut i = 0;
-    while i < 8 {
-        ok &= blank_ok(s, i);
-        i += 1;
-    }
-    ok
+    let arrivals = station_state::over(s, ARRIVAL, ALL_AGES);
+    let requests = station_state::over(s, REQUEST, STATIONS);
+    let sets = station_state::over(s, READ_SET, ALL_SETS);
+    (arrivals | requests | sets) == 0
 }
 
 // Where nobody waits, eight entries are tested without asking of each which it is.
@@ -395,13 +399,13 @@ fn calls_ok(s: &[u8], i: usize) -> bool
     (s[WANT + i] >= 2) & (s[BUSY + i] | s[PEND + i] == s[PEND + i]) & owes_ok(s, i)
 }
 
-// Where no 20 is out, the bytes of all eight are tested at once.
+// Where no 20 is out and none is owed, the bytes of all eight are tested at once.
 fn all_calls_ok(s: &[u8]) -> bool
     requires { ⌜ length (now s) ≡ serverLength ⌝ }
     ensures { λ r. ⌜ r ≡ allTo (callsOk (now (s .entry))) 8 ⌝ }
 {
-    if le::get_u64(s, CALLED) == 0 {
-        return (le::get_u64(s, PEND) == 0) & (le::get_u64(s, BUSY) == 0);
+    if station_state::over(s, CALLED, ALL_CALLS) == 0 {
+        return true;
     }
     let mut ok = true;
     let mut i = 0;
@@ -543,9 +547,10 @@ fn group_free(s: &[u8], g: usize) -> bool
     requires { ⌜ (length (now s) ≡ serverLength) × (g < 4) ⌝ }
     ensures { λ r. ⌜ r ≡ groupFree (now (s .entry)) g ⌝ }
 {
-    most(s, LOCK + g * GROUP_LOCKS, 0, GROUP_LOCKS)
-        & (le::get_u64(s, WHOLE + g * GROUP) == 0)
-        & station_state::none_in(s, WHOLE_FOR + g * GROUP_NUMBERS)
+    let objects = station_state::over(s, LOCK + g * GROUP_LOCKS, GROUP_LOCKS);
+    let pages = station_state::over(s, WHOLE + g * GROUP, GROUP);
+    let given = station_state::over(s, WHOLE_FOR + g * GROUP_NUMBERS, GROUP_NUMBERS);
+    (objects | pages | given) == 0
 }
 
 // Eight pages; where nothing is locked none is looked at.
@@ -610,34 +615,65 @@ fn ageless_at(s: &[u8], i: usize) -> bool
     (s[UNFINISHED + i] == 0) & (s[AGE_KEPT + i] == 0)
 }
 
-// Whether stations i and j differ in age, where both ages count, and their requests in arrival.
-fn apart_at(s: &[u8], i: usize, j: usize) -> bool
+// Whether stations i and j differ in age, where both ages count.
+fn ages_at(s: &[u8], i: usize, j: usize) -> bool
     requires { ⌜ (length (now s) ≡ serverLength) × (i < 8) × (j < 8) ⌝ }
-    ensures { λ r. ⌜ r ≡ apartAt (now (s .entry)) i j ⌝ }
+    ensures { λ r. ⌜ r ≡ agesAt (now (s .entry)) i j ⌝ }
 {
-    (ageless_at(s, i)
+    ageless_at(s, i)
         | ageless_at(s, j)
-        | (le::get_u64(s, AGE + i * AGE_WIDTH) != le::get_u64(s, AGE + j * AGE_WIDTH)))
-        & ((s[WANT + i] == 0)
-            | (s[WANT + j] == 0)
-            | (le::get_u64(s, ARRIVAL + i * AGE_WIDTH) != le::get_u64(s, ARRIVAL + j * AGE_WIDTH)))
+        | (le::get_u64(s, AGE + i * AGE_WIDTH) != le::get_u64(s, AGE + j * AGE_WIDTH))
 }
 
-// A station whose age does not count and that does not wait is passed over; the others are looked at beside those before them.
-fn apart_ok(s: &[u8], i: usize) -> bool
+// A station whose age does not count is passed over; the others are looked at beside those before them.
+fn ages_apart(s: &[u8], i: usize) -> bool
     requires { ⌜ (length (now s) ≡ serverLength) × (i < 8) ⌝ }
-    ensures { λ r. ⌜ r ≡ apartOk (now (s .entry)) i ⌝ }
+    ensures { λ r. ⌜ r ≡ allTo (agesAt (now (s .entry)) i) i ⌝ }
 {
-    if ageless_at(s, i) & (s[WANT + i] == 0) {
+    if ageless_at(s, i) {
         return true;
     }
     let mut ok = true;
     let mut j = 0;
     while j < i {
-        ok &= apart_at(s, i, j);
+        ok &= ages_at(s, i, j);
         j += 1;
     }
     ok
+}
+
+// Whether the requests of i and j differ in arrival, where both wait.
+fn arrivals_at(s: &[u8], i: usize, j: usize) -> bool
+    requires { ⌜ (length (now s) ≡ serverLength) × (i < 8) × (j < 8) ⌝ }
+    ensures { λ r. ⌜ r ≡ arrivalsAt (now (s .entry)) i j ⌝ }
+{
+    (s[WANT + i] == 0)
+        | (s[WANT + j] == 0)
+        | (le::get_u64(s, ARRIVAL + i * AGE_WIDTH) != le::get_u64(s, ARRIVAL + j * AGE_WIDTH))
+}
+
+// A station that does not wait is passed over.
+fn arrivals_apart(s: &[u8], i: usize) -> bool
+    requires { ⌜ (length (now s) ≡ serverLength) × (i < 8) ⌝ }
+    ensures { λ r. ⌜ r ≡ allTo (arrivalsAt (now (s .entry)) i) i ⌝ }
+{
+    if s[WANT + i] == 0 {
+        return true;
+    }
+    let mut ok = true;
+    let mut j = 0;
+    while j < i {
+        ok &= arrivals_at(s, i, j);
+        j += 1;
+    }
+    ok
+}
+
+fn apart_ok(s: &[u8], i: usize) -> bool
+    requires { ⌜ (length (now s) ≡ serverLength) × (i < 8) ⌝ }
+    ensures { λ r. ⌜ r ≡ apartOk (now (s .entry)) i ⌝ }
+{
+    ages_apart(s, i) & arrivals_apart(s, i)
 }
 
 fn all_apart(s: &[u8]) -> bool

@@ -11,6 +11,7 @@ ghost use Rattle.set_record.specs.Record.{recordFrom, filled, recordFill
 ghost use Rattle.set_record.specs.Stores.{entryOne, entriesTo, valuesFor, bothFor};
 ghost use Rattle.set_record.specs.Spans.{memberFrom, spanTo};
 ghost use Rattle.layout.specs.Record.{headerLength, valueLength, entryLength, mostEntries, longestRecord, bytesOf};
+use station_state::GROUP;
 use station_state::OBJECTS;
 
 // Room for the addresses of both sets.
@@ -46,17 +47,35 @@ fn list_page(list: &mut [u8], s: &[u8], at: usize, i: usize, p: usize) -> usize
     j
 }
 
+// The same of eight pages.
+fn list_group(list: &mut [u8], s: &[u8], at: usize, i: usize, g: usize) -> usize
+    requires { ⌜ (at + setRow ≤ length (now s)) × (i + 64 ≤ length (now list)) × (g < 4) ⌝ }
+    ensures { λ r. ⌜ filled (now (list .exit)) r ≡ filled (spanTo (now (list .entry)) (now (s .entry)) at i (g * 64) 64) (i + rank (memberFrom (now (s .entry)) at (g * 64)) 64) ⌝ }
+{
+    if le::get_u64(s, at + g * GROUP) == 0 {
+        return i;
+    }
+    let mut j = i;
+    let mut p = 0;
+    while p < 8 {
+        let b = list_page(list, s, at, j, g * GROUP + p);
+        j = b;
+        p += 1;
+    }
+    j
+}
+
 // Lists the addresses of the set from `at`, from entry i on: how many entries there are then.
 pub fn list_set(list: &mut [u8], s: &[u8], at: usize, i: usize) -> usize
     requires { ⌜ (at + setRow ≤ length (now s)) × (i + mostEntries ≤ length (now list)) ⌝ }
     ensures { λ r. ⌜ (now (list .exit) ≡ entriesTo (now (list .entry)) (now (s .entry)) at i 256) × (r ≡ i + rank (Layout·member (now (s .entry)) at) 256) × (i ≤ r) × (r ≤ i + mostEntries) ⌝ }
 {
     let mut j = i;
-    let mut p = 0;
-    while p < 32 {
-        let b = list_page(list, s, at, j, p);
+    let mut g = 0;
+    while g < 4 {
+        let b = list_group(list, s, at, j, g);
         j = b;
-        p += 1;
+        g += 1;
     }
     j
 }

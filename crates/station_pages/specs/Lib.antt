@@ -1,2 +1,3 @@
 -- Changes of a station's state page by page: dropped pages, marks, arriving pages, versions.
 pub mod Pages
+pub mod Groups

@@ -5,9 +5,11 @@ ghost use Prim.Native.Nat.{_+_, _*_, _≤_, _<_, _^_};
 ghost use lib.ListN.{length};
 ghost use Rattle.station_pages.specs.Pages.{usedPageB, wrotePageB, usedPagesB, writtenPagesB, usesB, inUseB, dropsB, droppedB, blankTo, unversionTo, dropPageB, dropOneB, dropPagesB, markOneB, markB, arrivesB, arriveTo, arriveVersionsTo, arriveB, versionOneB, versionOnTo, versionPageB, versionsB};
 ghost use Rattle.station_state.specs.Layout.{setRow, stateLength};
+ghost use Rattle.station_state.specs.Runs.{run};
 ghost use Rattle.message.specs.Layout.{messageLength};
 use station_state::CACHED;
 use station_state::COPY;
+use station_state::GROUP;
 use station_state::NUMBER_WIDTH;
 use station_state::OBJECTS;
 use station_state::READ_SET;
@@ -272,14 +274,29 @@ fn version_page(s: &mut [u8], n: u32, p: usize)
     }
 }
 
+// Eight pages; where nothing is written none is looked at.
+fn version_group(s: &mut [u8], n: u32, g: usize)
+    requires { ⌜ (length (now s) ≡ stateLength) × (g < 4) ⌝ }
+    ensures { λ _. ⌜ now (s .exit) ≡ run (versionPageB n) (now (s .entry)) (g * 8) 8 ⌝ }
+{
+    if le::get_u64(s, WRITTEN_SET + g * GROUP) == 0 {
+        return;
+    }
+    let mut p = 0;
+    while p < 8 {
+        version_page(s, n, g * GROUP + p);
+        p += 1;
+    }
+}
+
 // Written objects of cached pages take version n.
 pub fn versions(s: &mut [u8], n: u32)
     requires { ⌜ length (now s) ≡ stateLength ⌝ }
     ensures { λ _. ⌜ now (s .exit) ≡ versionsB n (now (s .entry)) ⌝ }
 {
-    let mut p = 0;
-    while p < 32 {
-        version_page(s, n, p);
-        p += 1;
+    let mut g = 0;
+    while g < 4 {
+        version_group(s, n, g);
+        g += 1;
     }
 }

@@ -5,3 +5,4 @@ pub mod Changes
 pub mod Stores
 pub mod Facts
 pub mod Sets
+pub mod Runs

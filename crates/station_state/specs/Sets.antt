@@ -3,10 +3,11 @@ use Prim.Native.Nat.{ℕ, zero, suc, _+_, _-_, _*_, _/_, _%_, _^_, _≤_, _<_}
 use mathlib.Core.Path.{_≡_, refl, sym, ap, _∙_}
 use mathlib.Core.Bool.{Bool, true, false, not, _&&_}
 use mathlib.Core.List.{List}
+use mathlib.Core.Logic.{⊎-elim}
+use native.Mathlib.Nat.{eq-or-lt-of-le, le-of-suc-le-suc}
 use native.Mathlib.Omega.{arith}
-use lib.Bits.{bitAnd, and-le-r}
+use lib.Bits.{bitAnd, bitOr, and-le-l, and-le-r, or-add-and, or-zero-r}
 use lib.Count.{ones, ones-le}
-use lib.Bits.{bitOr}
 use lib.Dec.{eqb}
 use lib.ListN.{getD}
 use borrow.Author.Tests.{eqb-true, eq-eqb}
@@ -119,19 +120,19 @@ module _ (s : List ℕ) (h : AllBytes s) (at : ℕ) where
       omega (arith, words-count 3, words-count 2, words-count 1, words-count 0, none-count, first)
 
   -- as the code adds them up
-  word-few : (p : ℕ) {x : ℕ} → x ≡ u64At s p → ones x ≤ 64
+  word-few : (p : ℕ) {x : ℕ} → x ≡ ones (u64At s p) → x ≤ 64
   word-few p e = rw e (ones-le 64 (u64At s p) (rw (u64At-is s p) (num-lt 8 s p h)))
 
-  pub two-fit : (p q : ℕ) {x y : ℕ} → x ≡ u64At s p → y ≡ u64At s q → ones x + ones y < 2 ^ 32
+  pub two-fit : (p q : ℕ) {x y : ℕ} → x ≡ ones (u64At s p) → y ≡ ones (u64At s q) → x + y < 2 ^ 32
   two-fit p q d e = omega (arith, word-few p d, word-few q e)
 
-  pub three-fit : (p q r : ℕ) {x y z : ℕ} → x ≡ u64At s p → y ≡ u64At s q → z ≡ u64At s r → ones x + ones y + ones z < 2 ^ 32
+  pub three-fit : (p q r : ℕ) {x y z : ℕ} → x ≡ ones (u64At s p) → y ≡ ones (u64At s q) → z ≡ ones (u64At s r) → x + y + z < 2 ^ 32
   three-fit p q r d e f = omega (arith, word-few p d, word-few q e, word-few r f)
 
-  pub four-fit : (p q r t : ℕ) {x y z w : ℕ} → x ≡ u64At s p → y ≡ u64At s q → z ≡ u64At s r → w ≡ u64At s t → ones x + ones y + ones z + ones w < 2 ^ 32
+  pub four-fit : (p q r t : ℕ) {x y z w : ℕ} → x ≡ ones (u64At s p) → y ≡ ones (u64At s q) → z ≡ ones (u64At s r) → w ≡ ones (u64At s t) → x + y + z + w < 2 ^ 32
   four-fit p q r t d e f g = omega (arith, word-few p d, word-few q e, word-few r f, word-few t g)
 
-  pub count-added : {x y z w : ℕ} → x ≡ u64At s at → y ≡ u64At s (at + 8) → z ≡ u64At s (at + 16) → w ≡ u64At s (at + 24) → ones x + ones y + ones z + ones w ≡ countIn s at
+  pub count-added : {x y z w : ℕ} → x ≡ ones (u64At s at) → y ≡ ones (u64At s (at + 8)) → z ≡ ones (u64At s (at + 16)) → w ≡ ones (u64At s (at + 24)) → x + y + z + w ≡ countIn s at
   count-added d e f g = rw (d, e, f, g) (sym count-words)
 
 -- a page's objects beside those counted
@@ -211,3 +212,68 @@ numbers-none s at e =
 -- the four words in one: 0 where the sets have nothing (`none-joined` of Facts.antt)
 unfoldable pub joined : List ℕ → ℕ → ℕ
 joined s at = bitOr (bitOr (bitOr (u64At s at) (u64At s (at + 8))) (u64At s (at + 16))) (u64At s (at + 24))
+
+-- BYTES, laid over each other
+
+-- the n bytes from `at` in one
+unfoldable pub over : List ℕ → ℕ → ℕ → ℕ
+over s at zero = 0
+over s at (suc n) = bitOr (over s at n) (getD s (at + n) 0)
+
+pub or-right : (x y : ℕ) → bitOr x y ≡ 0 → y ≡ 0
+or-right x y e = omega (arith, e, or-add-and x y, and-le-l x y)
+
+pub or-left : (x y : ℕ) → bitOr x y ≡ 0 → x ≡ 0
+or-left x y e = sym (or-zero-r x) ∙ ap (bitOr x) (sym (or-right x y e)) ∙ e
+
+-- 0, where each of them is
+pub over-each : (s : List ℕ) (at n : ℕ) → over s at n ≡ 0 → (k : ℕ) → k < n → getD s (at + k) 0 ≡ 0
+unfolding over
+over-each s at zero e k l = absurd (omega arith)
+over-each s at (suc n) e k l =
+    ⊎-elim
+    (λ last. ap (λ (j : ℕ). getD s (at + j) 0) last ∙ or-right (over s at n) (getD s (at + n) 0) e)
+    (λ before. over-each s at n (or-left (over s at n) (getD s (at + n) 0) e) k before)
+    (eq-or-lt-of-le (le-of-suc-le-suc l))
+
+pub each-over : (s : List ℕ) (at n : ℕ) → ((k : ℕ) → k < n → getD s (at + k) 0 ≡ 0) → over s at n ≡ 0
+unfolding over
+each-over s at zero e = refl
+each-over s at (suc n) e = rw (each-over s at n (λ k l. e k (omega arith)), e n (omega arith)) refl
+
+-- the bytes of a number that is 0, and back
+zero-bytes : (n : ℕ) (s : List ℕ) (at : ℕ) → numAt n s at ≡ 0 → (k : ℕ) → k < n → getD s (at + k) 0 ≡ 0
+unfolding numAt
+zero-bytes zero s at e k l = absurd (omega arith)
+zero-bytes (suc n) s at e zero l = let here : at + 0 ≡ at = omega arith in rw here (omega arith)
+zero-bytes (suc n) s at e (suc k) l =
+    let there : at + suc k ≡ suc at + k = omega arith in
+    rw there (zero-bytes n s (suc at) (omega arith) k (omega arith))
+
+bytes-zero : (n : ℕ) (s : List ℕ) (at : ℕ) → ((k : ℕ) → k < n → getD s (at + k) 0 ≡ 0) → numAt n s at ≡ 0
+unfolding numAt
+bytes-zero zero s at e = refl
+bytes-zero (suc n) s at e =
+    let here : at + 0 ≡ at = omega arith in
+    let first : getD s at 0 ≡ 0 = rw here at (e 0 (omega arith)) in
+    let rest : numAt n s (suc at) ≡ 0 =
+    bytes-zero n s (suc at) (λ k l. let there : suc at + k ≡ at + suc k = omega arith in rw there (e (suc k) (omega arith))) in
+    omega (arith, first, rest)
+
+-- eight bytes at once
+pub eight-bytes : (s : List ℕ) (at k : ℕ) → k < 8 → u64At s at ≡ 0 → getD s (at + k) 0 ≡ 0
+eight-bytes s at k l e = zero-bytes 8 s at (sym (u64At-is s at) ∙ e) k l
+
+pub eight-zero : (s : List ℕ) (at : ℕ) → ((k : ℕ) → k < 8 → getD s (at + k) 0 ≡ 0) → u64At s at ≡ 0
+eight-zero s at e = u64At-is s at ∙ bytes-zero 8 s at e
+
+-- the bytes of a row
+pub row-bytes : (s : List ℕ) (at : ℕ) → noneIn s at ≡ true → (k : ℕ) → k < 32 → getD s (at + k) 0 ≡ 0
+row-bytes s at h k l =
+    let place : at + k ≡ at + k / 8 * 8 + k % 8 = omega arith in
+    rw place (eight-bytes s (at + k / 8 * 8) (k % 8) (omega arith) (words-of s at h (k / 8) (omega arith)))
+
+pub bytes-row : (s : List ℕ) (at : ℕ) → ((k : ℕ) → k < 32 → getD s (at + k) 0 ≡ 0) → noneIn s at ≡ true
+bytes-row s at e =
+    of-words s at
+    (λ k l. eight-zero s (at + k * 8) (λ j q. let place : at + k * 8 + j ≡ at + (k * 8 + j) = omega arith in rw place (e (k * 8 + j) (omega arith))))

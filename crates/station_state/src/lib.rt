@@ -4,10 +4,12 @@ ghost use mathlib.Core.Path.{_≡_};
 ghost use mathlib.Core.Logic.{_≢_};
 ghost use Prim.Native.Nat.{_+_, _^_, _≤_, _<_};
 ghost use lib.ListN.{length, replicate};
+ghost use lib.Count.{ones};
+ghost use Rattle.le.specs.Le.{u64At};
 ghost use Rattle.station_state.specs.Layout.{pageSetWidth, setRow, stateLength, station as Layout·station, opened, hasBit, member as Layout·member, passingWhole, keptWholeB, countIn, writtenWith, noneIn, requestedB, number as Layout·number, cached as Layout·cached, whole as Layout·whole};
 ghost use Rattle.station_state.specs.Valid.{fieldsOk, ownKept, firstOk, setOk, outOk, fewIn, fewWritten, limitedOk, worksOk, locklessOk, holdsOk, valid as Valid·valid, freshened, freshOf, restsOk};
 ghost use Rattle.station_state.specs.Changes.{addTo, pageOn, pageOff, clearTo, copyTo, beginB, recordReadB, usedB, firstUseB, writeLocalB, writeObjectB, writeAllB, idleB, forReadB, waitObjectB, waitAllB, forWriteB, waitingValues, forCommitB, lockWaitingB, loosenB, keepB, unkeepB, unwholeB, closedB};
-ghost use Rattle.station_state.specs.Sets.{joined as Sets·joined};
+ghost use Rattle.station_state.specs.Sets.{joined as Sets·joined, over as Sets·over};
 
 // Widths: of a value, of a transaction's number or a version, of a page set. An object set has one byte.
 pub const VALUE_WIDTH: usize = 8;
@@ -21,6 +23,9 @@ pub const SET_ROW: usize = 32;
 
 // Objects of a page: address p * OBJECTS + o is object o of page p.
 pub const OBJECTS: usize = 8;
+
+// Pages that are passed over together where eight bytes say that they have nothing.
+pub const GROUP: usize = 8;
 
 // Places, each behind the field before it.
 pub const COPY: usize = 0;
@@ -132,6 +137,21 @@ pub fn member(s: &[u8], at: usize, a: usize) -> bool
     has_bit8(s[at + a / 8], a % 8)
 }
 
+// The n bytes from `at`, laid over each other: 0 where each of them is. No test leaves the loop early, so that it compiles to vector
+// code; a test of words would be taken apart into bytes again.
+pub fn over(s: &[u8], at: usize, n: usize) -> u8
+    requires { ⌜ at + n ≤ length (now s) ⌝ }
+    ensures { λ r. ⌜ r ≡ Sets·over (now (s .entry)) at n ⌝ }
+{
+    let mut x: u8 = 0;
+    let mut k = 0;
+    while k < n {
+        x |= s[at + k];
+        k += 1;
+    }
+    x
+}
+
 // The object sets from `at`, eight at a time, in one word: 0 where they have nothing.
 fn joined(s: &[u8], at: usize) -> u64
     requires { ⌜ at + setRow ≤ length (now s) ⌝ }
@@ -148,15 +168,20 @@ pub fn none_in(s: &[u8], at: usize) -> bool
     joined(s, at) == 0
 }
 
+// How many bits the eight bytes from `at` have. No test for none: four words are counted side by side.
+fn ones_at(s: &[u8], at: usize) -> u32
+    requires { ⌜ at + 8 ≤ length (now s) ⌝ }
+    ensures { λ r. ⌜ r ≡ ones (u64At (now (s .entry)) at) ⌝ }
+{
+    u64::count_ones(le::get_u64(s, at))
+}
+
 // How many addresses the object sets from `at` have: the bits of four words.
 pub fn count_in(s: &[u8], at: usize) -> u32
     requires { ⌜ at + setRow ≤ length (now s) ⌝ }
     ensures { λ r. ⌜ r ≡ countIn (now (s .entry)) at ⌝ }
 {
-    u64::count_ones(le::get_u64(s, at))
-        + u64::count_ones(le::get_u64(s, at + 8))
-        + u64::count_ones(le::get_u64(s, at + 16))
-        + u64::count_ones(le::get_u64(s, at + 24))
+    ones_at(s, at) + ones_at(s, at + 8) + ones_at(s, at + 16) + ones_at(s, at + 24)
 }
 
 // How many addresses are written, with the objects x of page p.

@@ -1,41 +1,43 @@
--- `server_changes::free` meets its contract. The loop's invariant: the state is the definition's at the count of pages passed.
+-- `server_changes::free` meets its contract. The loop's invariant: the state is that of the changes passed.
 use Prim.Native.Nat.{_≤_, _-_, _*_}
-use mathlib.Core.Path.{_≡_, ap, _∙_}
+use mathlib.Core.Path.{_≡_, sym, ap, _∙_}
+use native.Mathlib.Numerals.{add-one}
 use native.Mathlib.Omega.{arith}
 use borrow.Author.Needs.{needs}
 use lib.ListN.{length}
-use Rattle.server_changes.specs.Changes.{freeTo}
-use Rattle.server_changes.specs.Frees.{free-page}
+use Rattle.station_state.specs.Runs.{run, run-group}
+use Rattle.server_changes.specs.Changes.{freeOneB}
+use Rattle.server_changes.specs.Frees.{locks-run}
 use Rattle.server_changes.proofs.free.Statement.{statement}
 use Rattle.server_changes.proofs.free.Tie as tie
 
 abbrev Inv-loop : tie.InvT-loop
-Inv-loop s₀ i p₀ s p = (p ≤ 32) × (length s ≡ length s₀) × (s ≡ freeTo i s₀ (p * 8))
+Inv-loop s₀ i g₀ s g = (g ≤ 4) × (length s ≡ length s₀) × (s ≡ run (freeOneB i) s₀ 0 (g * 64))
 
 abbrev μ-loop : tie.MeasureT-loop
-μ-loop s₀ i p₀ s p = 32 - p
+μ-loop s₀ i g₀ s g = 4 - g
 
 loop-holds : tie.Need-loop-holds Inv-loop μ-loop
-unfolding freeTo
+unfolding run
 loop-holds c = search needs
 
-free-on-requires : tie.Need-free-on-requires Inv-loop μ-loop
-free-on-requires c κs = search needs
+free-in-requires : tie.Need-free-in-requires Inv-loop μ-loop
+free-in-requires c κs = search needs
 
-add-p : tie.Need-add-p Inv-loop μ-loop
-add-p c = search needs
+add-g : tie.Need-add-g Inv-loop μ-loop
+add-g c = search needs
 
 loop-less : tie.Need-loop-less Inv-loop μ-loop
 loop-less c = search needs
 
 loop-again : tie.Need-loop-again Inv-loop μ-loop
-loop-again c = (search needs, search needs, free-page _ _ _ (c .before .before .before .before .before .loop .inv .2) (c .before .before .free-on .ensures))
+loop-again c = (search needs, search needs, run-group _ _ _ _ _ _ _ (c .before .before .before .before .before .loop .inv .2) (c .before .before .free-in .ensures) (omega arith) (omega arith))
 
 same-length : tie.Need-same-length Inv-loop μ-loop
 same-length c = search needs
 
 returns : tie.Need-returns Inv-loop μ-loop
-returns c = let e : c .before .loop .p * 8 ≡ 256 = omega arith in c .before .loop .inv .2 ∙ ap (freeTo _ _) e
+returns c = let e : c .before .loop .g * 64 ≡ 256 = omega arith in c .before .loop .inv .2 ∙ ap (run _ _ _) e ∙ locks-run _ _ _
 
 pub free-spec : {M : Type 1} → statement M
 free-spec =
@@ -44,8 +46,8 @@ free-spec =
     Inv-loop
     μ-loop
     loop-holds
-    free-on-requires
-    add-p
+    free-in-requires
+    add-g
     loop-less
     loop-again
     same-length

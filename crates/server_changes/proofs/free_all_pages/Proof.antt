@@ -1,42 +1,43 @@
--- `server_changes::free_all_pages` meets its contract. The loop's invariant: the state is the definition's at the count of pages passed.
-use Prim.Native.Nat.{_≤_, _-_}
-use mathlib.Core.Path.{_≡_, ap, _∙_}
+-- `server_changes::free_all_pages` meets its contract. The loop's invariant: the state is that of the changes passed.
+use Prim.Native.Nat.{_≤_, _-_, _*_}
+use mathlib.Core.Path.{_≡_, sym, ap, _∙_}
 use native.Mathlib.Numerals.{add-one}
 use native.Mathlib.Omega.{arith}
 use borrow.Author.Needs.{needs}
-use Rattle.server_changes.specs.Changes.{freePagesTo}
 use lib.ListN.{length}
+use Rattle.station_state.specs.Runs.{run, run-group}
+use Rattle.server_changes.specs.Changes.{freePageB}
+use Rattle.server_changes.specs.Frees.{pages-run}
 use Rattle.server_changes.proofs.free_all_pages.Statement.{statement}
 use Rattle.server_changes.proofs.free_all_pages.Tie as tie
 
 abbrev Inv-loop : tie.InvT-loop
-Inv-loop s₀ i p₀ s p = (p ≤ 32) × (length s ≡ length s₀) × (s ≡ freePagesTo i s₀ p)
+Inv-loop s₀ i g₀ s g = (g ≤ 4) × (length s ≡ length s₀) × (s ≡ run (freePageB i) s₀ 0 (g * 8))
 
 abbrev μ-loop : tie.MeasureT-loop
-μ-loop s₀ i p₀ s p = 32 - p
+μ-loop s₀ i g₀ s g = 4 - g
 
 loop-holds : tie.Need-loop-holds Inv-loop μ-loop
-unfolding freePagesTo
+unfolding run
 loop-holds c = search needs
 
-free-page-requires : tie.Need-free-page-requires Inv-loop μ-loop
-free-page-requires c κs = search needs
+free-group-requires : tie.Need-free-group-requires Inv-loop μ-loop
+free-group-requires c κs = search needs
 
-add-p : tie.Need-add-p Inv-loop μ-loop
-add-p c = search needs
+add-g : tie.Need-add-g Inv-loop μ-loop
+add-g c = search needs
 
 loop-less : tie.Need-loop-less Inv-loop μ-loop
 loop-less c = search needs
 
 loop-again : tie.Need-loop-again Inv-loop μ-loop
-unfolding freePagesTo
-loop-again c = (search needs, search needs, rw add-one (cc))
+loop-again c = (search needs, search needs, run-group _ _ _ _ _ _ _ (c .before .before .before .before .before .loop .inv .2) (c .before .before .free-group .ensures) (omega arith) (omega arith))
 
 same-length : tie.Need-same-length Inv-loop μ-loop
 same-length c = search needs
 
 returns : tie.Need-returns Inv-loop μ-loop
-returns c = c .before .loop .inv .2 ∙ ap (freePagesTo _ _) (omega arith)
+returns c = let e : c .before .loop .g * 8 ≡ 32 = omega arith in c .before .loop .inv .2 ∙ ap (run _ _ _) e ∙ pages-run _ _ _
 
 pub free-all-pages-spec : {M : Type 1} → statement M
 free-all-pages-spec =
@@ -45,8 +46,8 @@ free-all-pages-spec =
     Inv-loop
     μ-loop
     loop-holds
-    free-page-requires
-    add-p
+    free-group-requires
+    add-g
     loop-less
     loop-again
     same-length

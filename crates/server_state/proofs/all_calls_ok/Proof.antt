@@ -16,17 +16,11 @@ Inv-loop s ok₀ i₀ ok i = (i ≤ 8) × (ok ≡ allTo (callsOk s) i)
 abbrev μ-loop : tie.MeasureT-loop
 μ-loop s ok₀ i₀ ok i = 8 - i
 
-get-u64-requires : tie.Need-get-u64-requires Inv-loop μ-loop
-get-u64-requires c κs = search needs
-
-get-u64-requires-2 : tie.Need-get-u64-requires-2 Inv-loop μ-loop
-get-u64-requires-2 c κs = search needs
-
-get-u64-requires-3 : tie.Need-get-u64-requires-3 Inv-loop μ-loop
-get-u64-requires-3 c κs = search needs
+over-requires : tie.Need-over-requires Inv-loop μ-loop
+over-requires c κs = search needs
 
 returns : tie.Need-returns Inv-loop μ-loop
-returns c = simp (c .before .get-u642 .ensures, c .get-u643 .ensures) (none-called _ (sym (c .before .before .before .get-u64 .ensures) ∙ c .before .before .if1 .taken))
+returns c = none-called _ (sym (c .before .over .ensures) ∙ c .if1 .taken)
 
 loop-holds : tie.Need-loop-holds Inv-loop μ-loop
 unfolding allTo
@@ -54,9 +48,7 @@ all-calls-ok-spec =
     (tie.spec
     Inv-loop
     μ-loop
-    get-u64-requires
-    get-u64-requires-2
-    get-u64-requires-3
+    over-requires
     returns
     loop-holds
     calls-ok-requires

@@ -1,41 +1,22 @@
--- `server_state::blanks_ok` meets its contract. The loop's invariant: the answer is the definition's at the count of stations passed.
-use Prim.Native.Nat.{_≤_, _-_}
-use mathlib.Core.Path.{_≡_, ap, _∙_}
-use native.Mathlib.Numerals.{add-one}
-use native.Mathlib.Omega.{arith}
+-- `server_state::blanks_ok` meets its contract.
+use mathlib.Core.Path.{sym, _∙_}
+use Rattle.server_state.specs.Eights.{allBlank, blanks-are}
 use borrow.Author.Needs.{needs}
-use Rattle.lists.specs.Tests.{allTo}
-use Rattle.server_state.specs.Valid.{blankOk}
 use Rattle.server_state.proofs.blanks_ok.Statement.{statement}
 use Rattle.server_state.proofs.blanks_ok.Tie as tie
 
-abbrev Inv-loop : tie.InvT-loop
-Inv-loop s ok₀ i₀ ok i = (i ≤ 8) × (ok ≡ allTo (blankOk s) i)
+over-requires : tie.Need-over-requires
+over-requires c κs = search needs
 
-abbrev μ-loop : tie.MeasureT-loop
-μ-loop s ok₀ i₀ ok i = 8 - i
+over-requires-2 : tie.Need-over-requires-2
+over-requires-2 c κs = search needs
 
-loop-holds : tie.Need-loop-holds Inv-loop μ-loop
-unfolding allTo
-loop-holds c = search needs
+over-requires-3 : tie.Need-over-requires-3
+over-requires-3 c κs = search needs
 
-blank-ok-requires : tie.Need-blank-ok-requires Inv-loop μ-loop
-blank-ok-requires c κs = search needs
-
-add-i : tie.Need-add-i Inv-loop μ-loop
-add-i c = search needs
-
-loop-less : tie.Need-loop-less Inv-loop μ-loop
-loop-less c = search needs
-
-loop-again : tie.Need-loop-again Inv-loop μ-loop
-unfolding allTo
-loop-again c = (search needs, rw add-one (cc))
-
-returns : tie.Need-returns Inv-loop μ-loop
-returns c = c .before .loop .inv .1 ∙ ap (allTo _) (omega arith)
+returns : tie.Need-returns
+unfolding allBlank
+returns c = simp (c .before .before .over .ensures, c .before .over2 .ensures, c .over3 .ensures) (blanks-are _)
 
 pub blanks-ok-spec : {M : Type 1} → statement M
-blanks-ok-spec =
-    tie.close
-    (tie.spec Inv-loop μ-loop loop-holds blank-ok-requires add-i loop-less loop-again returns)
+blanks-ok-spec = tie.close (tie.spec over-requires over-requires-2 over-requires-3 returns)

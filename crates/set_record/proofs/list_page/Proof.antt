@@ -50,7 +50,7 @@ same-length : tie.Need-same-length Inv-loop μ-loop
 same-length c = search needs
 
 returns-2 : tie.Need-returns-2 Inv-loop μ-loop
-returns-2 c = span-all _ _ _ _ _ _ (c .before .loop .inv .2) (c .before .loop .inv .3) (omega arith)
+returns-2 c = span-all _ _ _ _ _ _ 8 (c .before .loop .inv .2) (c .before .loop .inv .3) (omega arith)
 
 pub list-page-spec : {M : Type 1} → statement M
 list-page-spec =

@@ -1,0 +1,83 @@
+-- `server_changes::values_on` meets its contract. The loop's invariant: the state is that of the changes passed.
+use Prim.Native.Nat.{_≤_, _-_, _*_}
+use mathlib.Core.Path.{_≡_, sym, ap, _∙_}
+use native.Mathlib.Numerals.{add-one}
+use native.Mathlib.Omega.{arith}
+use borrow.Author.Needs.{needs}
+use lib.ListN.{length}
+use Rattle.station_state.specs.Runs.{run}
+use Rattle.server_changes.specs.Changes.{valueOneB}
+use Rattle.server_changes.specs.Frees.{page-unwritten}
+use Rattle.server_changes.proofs.values_on.Statement.{statement}
+use Rattle.server_changes.proofs.values_on.Tie as tie
+
+abbrev Inv-loop : tie.InvT-loop
+Inv-loop s₀ i n p o₀ s o = (o ≤ 8) × (length s ≡ length s₀) × (s ≡ run (valueOneB i n) s₀ (p * 8) o)
+
+abbrev μ-loop : tie.MeasureT-loop
+μ-loop s₀ i n p o₀ s o = 8 - o
+
+mul-if1 : tie.Need-mul-if1 Inv-loop μ-loop
+mul-if1 c = search needs
+
+add-if1 : tie.Need-add-if1 Inv-loop μ-loop
+add-if1 c = search needs
+
+add-if1-2 : tie.Need-add-if1-2 Inv-loop μ-loop
+add-if1-2 c = search needs
+
+slice-read-if1 : tie.Need-slice-read-if1 Inv-loop μ-loop
+slice-read-if1 c = search needs
+
+returns : tie.Need-returns Inv-loop μ-loop
+returns c = page-unwritten _ _ _ _ (c .if1 .taken)
+
+loop-holds : tie.Need-loop-holds Inv-loop μ-loop
+unfolding run
+loop-holds c = search needs
+
+mul-value-one : tie.Need-mul-value-one Inv-loop μ-loop
+mul-value-one c = search needs
+
+add-value-one : tie.Need-add-value-one Inv-loop μ-loop
+add-value-one c = search needs
+
+value-one-requires : tie.Need-value-one-requires Inv-loop μ-loop
+value-one-requires c κs = search needs
+
+add-o : tie.Need-add-o Inv-loop μ-loop
+add-o c = search needs
+
+loop-less : tie.Need-loop-less Inv-loop μ-loop
+loop-less c = search needs
+
+loop-again : tie.Need-loop-again Inv-loop μ-loop
+unfolding run
+loop-again c = (search needs, search needs, rw (add-one (c .before .before .before .before .before .loop .o)) (cc))
+
+same-length : tie.Need-same-length Inv-loop μ-loop
+same-length c = search needs
+
+returns-2 : tie.Need-returns-2 Inv-loop μ-loop
+returns-2 c = c .before .loop .inv .2 ∙ ap (run _ _ _) (omega arith)
+
+pub values-on-spec : {M : Type 1} → statement M
+values-on-spec =
+    tie.close
+    (tie.spec
+    Inv-loop
+    μ-loop
+    mul-if1
+    add-if1
+    add-if1-2
+    slice-read-if1
+    returns
+    loop-holds
+    mul-value-one
+    add-value-one
+    value-one-requires
+    add-o
+    loop-less
+    loop-again
+    same-length
+    returns-2)
