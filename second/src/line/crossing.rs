@@ -47,7 +47,7 @@ struct Habits {
     purge: usize,
     /// Of ten accesses so many write.
     writes: usize,
-    /// One in so many writes is of a set, mostly of two to four objects.
+    /// One in so many writes is of a set, mostly of two to four objects; 0 for none.
     sets: usize,
     /// One in so many calls holds or frees a line, or makes an owner idle or not.
     hold: usize,
@@ -58,17 +58,21 @@ struct Habits {
 
 impl Crossing {
     pub fn new(seed: u64, calls: usize) -> Crossing {
-        let crossing = Crossing::of_any_length(seed, calls);
+        let crossing = Crossing::drawn(seed, calls, true);
         match seed.is_multiple_of(LONG_ONE_IN) {
             true => crossing.made_long(),
             false => crossing,
         }
     }
 
-    fn of_any_length(seed: u64, calls: usize) -> Crossing {
+    /// With keeping stations and sets, or without: then drawn as version 1.0.0 drew it.
+    fn drawn(seed: u64, calls: usize, all: bool) -> Crossing {
         let mut random = Random::new(seed);
-        let kinds = kinds(&mut random);
-        let habits = habits(&mut random);
+        let kinds = match all {
+            true => kinds(&mut random),
+            false => two_kinds(&mut random),
+        };
+        let habits = habits(&mut random, all);
         Crossing {
             calls_left: calls,
             kinds,
@@ -103,15 +107,23 @@ impl Crossing {
 
     /// All eight stations of a fresh line, and no raw messages.
     pub fn of_eight(seed: u64, calls: usize) -> Crossing {
-        let crossing = Crossing::new(seed, calls);
+        Crossing::new(seed, calls).with_eight()
+    }
+
+    /// The same without keeping stations and sets.
+    pub fn of_eight_plain(seed: u64, calls: usize) -> Crossing {
+        Crossing::drawn(seed, calls, false).with_eight()
+    }
+
+    fn with_eight(self) -> Crossing {
         Crossing {
             numbers: None,
             stations: damage::ALL.to_vec(),
             habits: Habits {
                 raw: 0,
-                ..crossing.habits
+                ..self.habits
             },
-            ..crossing
+            ..self
         }
     }
 
@@ -272,7 +284,7 @@ impl Crossing {
         if self.random.below(10) >= self.habits.writes {
             return Call::Read(number, address);
         }
-        match self.random.one_in(self.habits.sets) {
+        match self.habits.sets != 0 && self.random.one_in(self.habits.sets) {
             true => self.write_set(number, address, world),
             false => Call::Write(number, address, self.new_value()),
         }
@@ -337,14 +349,15 @@ impl Crossing {
 
     /// A call that may not fit at all.
     fn any_call(&mut self, number: u8, world: &World) -> Call {
-        match self.random.below(9) {
+        let sets = self.habits.sets != 0;
+        match self.random.below(8 + usize::from(sets)) {
             0 => Call::Begin(number),
             1 => Call::Commit(number),
             2 => Call::Abort(number),
             3 => self.purge(number, world),
             4 => Call::Server(number),
             5 => Call::Station(number),
-            6 => self.any_set(number),
+            6 if sets => self.any_set(number),
             _ => self.access(number, world),
         }
     }
@@ -366,9 +379,21 @@ fn change_mood<T: PartialEq>(random: &mut Random, in_mood: &mut Vec<T>, one: T) 
     }
 }
 
+/// Of eight stations so many validate, in the mean.
+const VALIDATING: [usize; 10] = [0, 1, 2, 3, 3, 4, 4, 5, 6, 8];
+
+/// Locking and validating ones.
+fn two_kinds(random: &mut Random) -> [Kind; STATIONS] {
+    let validating = random.pick(&VALIDATING);
+    std::array::from_fn(|_| match random.below(8) < validating {
+        true => Kind::Validating,
+        false => Kind::Locking,
+    })
+}
+
 /// Mostly mixed, now and then all of one kind.
 fn kinds(random: &mut Random) -> [Kind; STATIONS] {
-    let validating = random.pick(&[0, 1, 2, 3, 3, 4, 4, 5, 6, 8]);
+    let validating = random.pick(&VALIDATING);
     let keeping = random.pick(&[0, 2, 4, 4, 6, 8]);
     std::array::from_fn(|_| {
         if random.below(8) < validating {
@@ -425,7 +450,7 @@ fn addresses(random: &mut Random) -> Vec<u8> {
     (first_page..first_page + pages).flat_map(on).collect()
 }
 
-fn habits(random: &mut Random) -> Habits {
+fn habits(random: &mut Random, sets: bool) -> Habits {
     Habits {
         owners: random.pick(&[1, 2, 3, 4, 6]),
         up: random.pick(&[1, 1, 2, 4]),
@@ -434,7 +459,10 @@ fn habits(random: &mut Random) -> Habits {
         abort: random.pick(&[8, 20, 60]),
         purge: random.pick(&[2, 4, 12, 40]),
         writes: random.pick(&[2, 4, 6, 8]),
-        sets: random.pick(&[1, 2, 4, 16, 100_000]),
+        sets: match sets {
+            true => random.pick(&[1, 2, 4, 16, 100_000]),
+            false => 0,
+        },
         hold: random.pick(&[6, 12, 40, 100_000]),
         idle: random.pick(&[30, 100, 100_000]),
         raw: random.pick(&[0, 0, 0, 0, 0, 0, 8, 40]),

@@ -94,6 +94,14 @@ impl Kind {
         Kind::ALL.into_iter().find(|kind| *kind as u32 == number)
     }
 
+    pub fn name(self) -> &'static str {
+        match self {
+            Kind::Locking => "locking",
+            Kind::Validating => "validating",
+            Kind::Keeping => "keeping",
+        }
+    }
+
     /// A locking station's: document 02, reading 28: "Keeping is a locking station everywhere else".
     pub fn locks(self) -> bool {
         self != Kind::Validating

@@ -1,6 +1,7 @@
 //! Times the proved library against the second implementation and a plain copy; prints a table for docs/PERFORMANCE.md.
 
 mod blocks;
+mod commits;
 mod desk;
 mod library;
 mod measure;
@@ -11,6 +12,7 @@ mod turns;
 mod works;
 
 use blocks::PLACE;
+use commits::{sqlite, COMMITS};
 use measure::{nanoseconds, proved_over, rates, ratios, Job, Spread, Times};
 use second::block::RECORDS;
 use second::generate::{self, Size};
@@ -27,7 +29,8 @@ use works::Work;
 const USAGE: &str =
     "bench [--megabytes N] [--rounds N] [--seed N] [--gate] [--playback PROGRAM --file FILE]
        bench --stations [--rounds N] [--gate]
-       bench --server [--mixed] [--rounds N] [--seed N] [--gate]
+       bench --server [--mixed [--plain]] [--rounds N] [--seed N] [--gate]
+       bench --commits [--rounds N] [--gate]
        bench --turns [--rounds N] [--seed N] [--gate]
        bench --blocks [--megabytes N] [--rounds N] [--seed N] [--gate]
   --gate      exit 1 if the proved library takes more than 1.3 times as long
@@ -35,6 +38,8 @@ const USAGE: &str =
   --stations  time the calls of a station, not the archive
   --server    time the server's step
   --mixed     .. on the mixed line alone, as a profiler wants it
+  --plain     .. without keeping stations and sets: the line of version 1.0.0
+  --commits   time whole commits of counters, the server and eight stations in one process; SQLite too, where it is installed
   --turns     time the turn-giver
   --blocks    time blocks laid out by column";
 const MEGABYTE: usize = 1_000_000;
@@ -43,6 +48,9 @@ const PLAYBACK_MEGABYTES: usize = 200;
 const GATE: f64 = 1.3;
 /// A turn of a station's calls is so short that a round has many.
 const TURNS: usize = 40;
+
+/// Turns of commits in a round.
+const COMMIT_TURNS: usize = 10;
 
 /// Steps of the mixed line, and the parts that are timed by themselves.
 const MIXED: usize = 100_000;
@@ -57,6 +65,8 @@ fn main() {
             "--stations",
             "--server",
             "--mixed",
+            "--plain",
+            "--commits",
             "--turns",
             "--blocks",
         ],
@@ -67,14 +77,19 @@ fn main() {
         rounds: options.number("--rounds", 15).max(1) as usize,
         seed: options.seed("--seed", 1),
     };
-    let asked = ["--stations", "--server", "--turns", "--blocks"].map(|name| options.has(name));
-    let rows = match asked {
-        [true, false, false, false] => bench.stations(),
-        [false, true, false, false] if options.has("--mixed") => bench.mixed(),
-        [false, true, false, false] => bench.server(),
-        [false, false, true, false] => bench.turns(),
-        [false, false, false, true] => bench.blocks(),
-        [false, false, false, false] => bench.library(),
+    let tables = ["--stations", "--server", "--commits", "--turns", "--blocks"];
+    let asked: Vec<&str> = tables
+        .into_iter()
+        .filter(|name| options.has(name))
+        .collect();
+    let rows = match asked[..] {
+        ["--stations"] => bench.stations(),
+        ["--server"] if options.has("--mixed") => bench.mixed(options.has("--plain")),
+        ["--server"] => bench.server(),
+        ["--commits"] => bench.commits(),
+        ["--turns"] => bench.turns(),
+        ["--blocks"] => bench.blocks(),
+        [] => bench.library(),
         _ => options.misused(),
     };
     if let Some(program) = options.text("--playback") {
@@ -224,8 +239,16 @@ impl Bench {
         for many in 0..=8 {
             time(&many.to_string(), &works::server::waiting(many));
         }
-        self.mixed();
+        self.mixed(false);
         rows
+    }
+
+    fn commits(&self) -> Vec<Timed> {
+        let library = sqlite::Library::load();
+        let turns = COMMIT_TURNS * self.rounds;
+        print_commits_head(turns, library.as_ref());
+        let row = |work: &commits::Work| commits_row(work, turns, library.as_ref());
+        commits::works().iter().map(row).collect()
     }
 
     fn turns(&self) -> Vec<Timed> {
@@ -243,8 +266,8 @@ impl Bench {
     }
 
     /// A line of eight stations: its steps in the order in which they came, in ten parts.
-    fn mixed(&self) -> Vec<Timed> {
-        let mixed = server::Mixed::new(self.seed, MIXED);
+    fn mixed(&self, plain: bool) -> Vec<Timed> {
+        let mixed = server::Mixed::new(self.seed, MIXED, plain);
         println!(
             "\nThe {MIXED} steps of a line of eight stations with {} commits, one behind the other on one core, seed {}; medians of {} rounds:\n",
             mixed.commits, self.seed, self.rounds
@@ -322,6 +345,49 @@ fn row(name: &str, calls: usize, times: Times) -> Timed {
     println!("| {name} | {second:.0} | {proved:.0} | {copy:.0} | {ratio} |");
     Timed {
         name: String::from(name),
+        times,
+    }
+}
+
+fn print_commits_head(turns: usize, library: Option<&sqlite::Library>) {
+    println!(
+        "Medians of {turns} turns of {COMMITS} commits in one process, the three taking turns, in nanoseconds a commit.\n\
+         Ratios are of times in the same round, below 1 where proved is faster; in brackets the middle half of them.\n\
+         A commit is begin, a read and a write of each counter and commit, with all messages both ways, at one of eight stations of\n\
+         one kind after the other: the next begins when nothing is under way. Private counters are on a page of the station's own, hot\n\
+         ones on a page of all eight. The second implementation checks the bytes of a state before each call, works on structs with\n\
+         maps, and allocates each message: it is no measure of how fast Rust could be.",
+    );
+    match library {
+        Some(library) => println!(
+            "SQLite {}: in memory, one connection, prepared statements: BEGIN, SELECT and UPDATE of each counter, a row of the log, COMMIT.\n",
+            library.version()
+        ),
+        None => println!("SQLite is not installed: apt-get install {}\n", sqlite::PACKAGE),
+    }
+    println!("| kind | counters | messages | second ns | proved ns | SQLite ns | proved / second | proved / SQLite |");
+    println!("|---|---|---|---|---|---|---|---|");
+}
+
+/// Prints the row of one kind of commit.
+fn commits_row(work: &commits::Work, turns: usize, library: Option<&sqlite::Library>) -> Timed {
+    let commits::Timed { times, messages } = work.time(turns, library);
+    let [second, proved, other] = nanoseconds(COMMITS, &times);
+    let ratio = proved_over(&times, Job::Second);
+    let (other, over_other) = match library {
+        Some(_) => (
+            format!("{other:.0}"),
+            proved_over(&times, Job::Sqlite).to_string(),
+        ),
+        None => (String::from("-"), String::from("-")),
+    };
+    println!(
+        "| {} | {} | {messages} | {second:.0} | {proved:.0} | {other} | {ratio} | {over_other} |",
+        work.kind.name(),
+        work.counters
+    );
+    Timed {
+        name: work.name(),
         times,
     }
 }

@@ -3,7 +3,7 @@
 use std::fmt;
 use std::time::Instant;
 
-/// Seconds in each round: the second implementation, the proved library, a plain copy.
+/// Seconds in each round: the second implementation, the proved library, a plain copy; of commits SQLite in its place.
 pub type Times = [Vec<f64>; 3];
 
 /// How long a job takes.
@@ -48,7 +48,7 @@ pub fn nanoseconds(calls: usize, times: &Times) -> [f64; 3] {
 pub fn proved_over(times: &Times, job: Job) -> Spread {
     let other = match job {
         Job::Second => &times[0],
-        Job::Copy => &times[2],
+        Job::Copy | Job::Sqlite => &times[2],
     };
     ratios(&times[1], other)
 }
@@ -63,6 +63,7 @@ pub fn ratios(one: &[f64], other: &[f64]) -> Spread {
 pub enum Job {
     Second,
     Copy,
+    Sqlite,
 }
 
 /// The median and the middle half.

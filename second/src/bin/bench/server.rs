@@ -90,8 +90,12 @@ pub struct Mixed {
 }
 
 impl Mixed {
-    pub fn new(seed: u64, steps: usize) -> Mixed {
-        let mut crossing = Crossing::of_eight(seed, usize::MAX);
+    /// Of all kinds and with sets; or plain, without keeping stations and sets.
+    pub fn new(seed: u64, steps: usize, plain: bool) -> Mixed {
+        let mut crossing = match plain {
+            true => Crossing::of_eight_plain(seed, usize::MAX),
+            false => Crossing::of_eight(seed, usize::MAX),
+        };
         let mut world = World::fresh(crossing.kinds);
         let mut messages = Vec::with_capacity(steps);
         while messages.len() < steps {

@@ -5,7 +5,6 @@ use super::{Chart, Place, HEAD_HEIGHT, LABEL_HEIGHT, LABEL_SIZE, MARGIN, PITCH, 
 use crate::chart::geometry::point;
 use crate::chart::picture::{Anchor, Ink, Picture, Shape, Stroke};
 use crate::chart::trace::{End, Item, Row, Span, Tone};
-use crate::line::Kind;
 
 const INK: &str = "#20242a";
 const GREY: &str = "#4d5561";
@@ -69,14 +68,10 @@ impl Chart<'_> {
         let (name, kind, fill, stroke) = match column.end {
             End::Server => (String::from("server"), None, "#f3ead2", "#a58b45"),
             End::Station(station) => {
-                let kind = match self.trace.kinds[station as usize] {
-                    Kind::Locking => "locking",
-                    Kind::Validating => "validating",
-                    Kind::Keeping => "keeping",
-                };
+                let kind = self.trace.kinds[station as usize];
                 (
                     format!("station {station}"),
-                    Some(kind),
+                    Some(kind.name()),
                     "#e3ecf8",
                     "#6785b0",
                 )
