@@ -13,17 +13,20 @@ use server_actions::Counts;
 use server_state::STATIONS;
 ghost use Rattle.server_state.specs.Layout.{serverLength};
 
-// The turn of station i, if there is such a station. Who blocks it is asked for once, and e takes the edges that leave it.
+// The turn of station i, if there is such a station. Who blocks it and what shuts it out is asked for once, and e takes the edges that
+// leave it.
 fn turn(s: &mut [u8], o: &mut [u8], q: &mut [u8], c: Counts, e: &mut [u8], i: u8) -> Counts
     requires { ⌜ (length (now s) ≡ serverLength) × (length (now e) ≡ 8) × Sane (now s) × Room (now o) (now q) c (turnB i (from (now s))) ⌝ }
     ensures { λ r. ⌜ (posted (now (s .exit)) (now (o .exit)) (now (q .exit)) r ≡ post (now (o .entry)) (now (q .entry)) c (turnB i (from (now (s .entry))))) × (now (e .exit) ≡ notedB i (now (s .entry)) (now (e .entry))) ⌝ }
 {
     if i < 8 {
         let k = i as usize;
-        let b = server_tests::blockers(s, k);
+        let p = server_tests::page_alone(s, k);
+        let b = server_tests::blockers_by(s, k, p);
+        let x = server_tests::shut_out_by(s, k, p);
         let d = server_sets::edges_by(s, k, b);
         le::put_u8(e, k, d);
-        return server_visit::visit(s, o, q, c, k, b);
+        return server_visit::visit(s, o, q, c, k, b, x);
     }
     c
 }

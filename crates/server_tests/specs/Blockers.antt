@@ -98,7 +98,7 @@ unfolding joinTo
 join-is f zero k = tb-zero k
 join-is f (suc n) k = rw (tb-or k (joinTo f n) (f n), join-is f n k) (sym (any-suc n (λ i. tb (f i) k)))
 
-join-lt : (f : ℕ → ℕ) (n : ℕ) → ((i : ℕ) → i < n → f i < 256) → joinTo f n < 256
+pub join-lt : (f : ℕ → ℕ) (n : ℕ) → ((i : ℕ) → i < n → f i < 256) → joinTo f n < 256
 unfolding joinTo
 join-lt f zero h = omega arith
 join-lt f (suc n) h = or-lt 8 (joinTo f n) (f n) (join-lt f n (λ i l. h i (omega arith))) (h n (omega arith))
@@ -134,7 +134,7 @@ bit-of true h i j l = byEq h (j + 1) own (λ e. byB (not (eqb h 0) && not (eqb h
         (λ t. rw (t, eqb-yes j i t, eqb-same (i + 1)) (tb-zero i))
         (λ t. rw (t, eqb-diff (j + 1) (i + 1) (λ z. eqb-no j i t (omega arith))) (tb-pow j j ∙ eqb-same j)))
 
-holder-lt : (s : List ℕ) (i p o : ℕ) → holderAt s i p o < 256
+pub holder-lt : (s : List ℕ) (i p o : ℕ) → holderAt s i p o < 256
 unfolding holderAt
 holder-lt s i p o = go (hasBit (wantedOn s i p) o && otherB (lockOf s (p * 8 + o)) i && leb (lockOf s (p * 8 + o)) 8)
   where

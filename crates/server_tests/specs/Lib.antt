@@ -3,3 +3,5 @@ pub mod Kinds
 pub mod Tests
 pub mod Blockers
 pub mod Shorter
+pub mod Alone
+pub mod Members

@@ -1,19 +1,23 @@
 // What the server asks of its state: number 6, the gates of the pass, who blocks a waiter.
 ghost use mathlib.Core.Path.{_≡_};
 ghost use mathlib.Core.Bool.{cond};
+ghost use mathlib.Core.Logic.{_≢_};
 ghost use Prim.Native.Nat.{_+_, _*_, _/_, _^_, _≤_, _<_};
 ghost use lib.ListN.{length, getD};
+ghost use lib.Count.{trailingZeros};
 ghost use Rattle.message.specs.Layout.{messageLength, kindOf, stationOf, pageOf};
 ghost use Rattle.message.specs.Commit.{shortestCommit, addressesAt, sentReads, entriesOf};
 ghost use Rattle.server_state.specs.Layout.{serverLength, versionRow, wholeOf, wantedOn};
 ghost use Rattle.server_tests.specs.Kinds.{ForServer};
 ghost use Rattle.server_tests.specs.Tests.{lockAtB, lockOnB, badNumberB, unlockedAt, unlockedB, dropsLockedB, dropsOwnB, aboveOpenB, unexpectedB, openCallB, openAskB, otherVersion, staleAtB, staleOnB, staleB, lockedAtB, lockedOnB, lockedB, faultB, earlierB, shutB, shutOutB, dueB, unavailableAt, unavailableB};
 ghost use Rattle.server_tests.specs.Shorter.{writtenBy};
+ghost use Rattle.server_tests.specs.Alone.{elsewhereAt, elsewhereB, aloneB, aheadAt, aheadOn};
 ghost use Rattle.server_tests.specs.Blockers.{joinTo, meetOn, meetSet, aheadB, aheadSet, holderAt, holdersOn, holderSet, blockersB};
 use server_state::LOCK;
 use server_state::PEND;
 use server_state::READ_SET;
 use server_state::READ_VERSION;
+use server_state::REQUEST;
 use server_state::UNFINISHED;
 use server_state::VERSION;
 use server_state::VERSION_ROW;
@@ -361,7 +365,15 @@ fn holder_at(s: &[u8], i: usize, p: usize, o: usize) -> u8
     bit_if(held, (byte(s, LOCK + (p * OBJECTS + o)) + 7) % 8)
 }
 
-// Most pages are without locks or not wanted, and cost a test.
+// The lowest of the objects x.
+fn lowest(x: u8) -> usize
+    requires { ⌜ x ≢ 0 ⌝ }
+    ensures { λ r. ⌜ (r ≡ trailingZeros 8 x) × (r < 8) ⌝ }
+{
+    u8::trailing_zeros(x) as usize
+}
+
+// Most pages are without locks or not wanted, and cost a test; of the others the objects that are wanted are looked at, lowest first.
 fn holders_on(s: &[u8], i: usize, p: usize) -> u8
     requires { ⌜ (length (now s) ≡ serverLength) × (i < 8) × (p < 32) ⌝ }
     ensures { λ r. ⌜ r ≡ holdersOn (now (s .entry)) i p ⌝ }
@@ -369,14 +381,11 @@ fn holders_on(s: &[u8], i: usize, p: usize) -> u8
     if le::get_u64(s, LOCK + p * OBJECTS) == 0 {
         return 0;
     }
-    if wanted(s, i, p) == 0 {
-        return 0;
-    }
+    let mut x = wanted(s, i, p);
     let mut d: u8 = 0;
-    let mut o = 0;
-    while o < 8 {
-        d |= holder_at(s, i, p, o);
-        o += 1;
+    while x != 0 {
+        d |= holder_at(s, i, p, lowest(x));
+        x &= x - 1;
     }
     d
 }
@@ -400,6 +409,77 @@ pub fn blockers(s: &[u8], i: usize) -> u8
     ensures { λ r. ⌜ r ≡ blockersB (now (s .entry)) i ⌝ }
 {
     holder_set(s, i) | ahead_set(s, i)
+}
+
+fn elsewhere_at(s: &[u8], i: usize, p: usize, q: usize) -> bool
+    requires { ⌜ (length (now s) ≡ serverLength) × (i < 8) × (q < 32) ⌝ }
+    ensures { λ r. ⌜ r ≡ elsewhereAt (now (s .entry)) i p q ⌝ }
+{
+    (q != p) & (wanted(s, i, q) != 0)
+}
+
+// Whether i wants something of a page other than p.
+fn elsewhere(s: &[u8], i: usize, p: usize) -> bool
+    requires { ⌜ (length (now s) ≡ serverLength) × (i < 8) ⌝ }
+    ensures { λ r. ⌜ r ≡ elsewhereB (now (s .entry)) i p ⌝ }
+{
+    let mut r = false;
+    let mut q = 0;
+    while q < 32 {
+        r |= elsewhere_at(s, i, p, q);
+        q += 1;
+    }
+    r
+}
+
+// The page that has all that i wants, 32 where it is not that of the request.
+pub fn page_alone(s: &[u8], i: usize) -> usize
+    requires { ⌜ (length (now s) ≡ serverLength) × (i < 8) ⌝ }
+    ensures { λ r. ⌜ r ≡ aloneB (now (s .entry)) i ⌝ }
+{
+    let p = byte(s, REQUEST + i) / OBJECTS;
+    if elsewhere(s, i, p) {
+        return 32;
+    }
+    p
+}
+
+// Whether j is an earlier waiter that stands before i on page p.
+fn ahead_at(s: &[u8], i: usize, p: usize, j: usize) -> bool
+    requires { ⌜ (length (now s) ≡ serverLength) × (i < 8) × (p < 32) × (j < 8) ⌝ }
+    ensures { λ r. ⌜ r ≡ aheadAt (now (s .entry)) i p j ⌝ }
+{
+    if s[WANT + j] == 0 {
+        return false;
+    }
+    if server_state::arrival(s, j) >= server_state::arrival(s, i) {
+        return false;
+    }
+    meet_on(s, i, j, p) != 0
+}
+
+fn ahead_on(s: &[u8], i: usize, p: usize) -> u8
+    requires { ⌜ (length (now s) ≡ serverLength) × (i < 8) × (p < 32) ⌝ }
+    ensures { λ r. ⌜ r ≡ aheadOn (now (s .entry)) i p ⌝ }
+{
+    let mut d: u8 = 0;
+    let mut j = 0;
+    while j < 8 {
+        d |= bit_if(ahead_at(s, i, p, j), j);
+        j += 1;
+    }
+    d
+}
+
+// The stations that block i; p is the page that has all that it wants, 32 for none.
+pub fn blockers_by(s: &[u8], i: usize, p: usize) -> u8
+    requires { ⌜ (length (now s) ≡ serverLength) × (i < 8) × (p ≡ aloneB (now s) i) ⌝ }
+    ensures { λ r. ⌜ r ≡ blockersB (now (s .entry)) i ⌝ }
+{
+    if p < 32 {
+        return holders_on(s, i, p) | ahead_on(s, i, p);
+    }
+    blockers(s, i)
 }
 
 // Whether i wants something of page p and another has it whole.
@@ -434,6 +514,17 @@ pub fn shut_out(s: &[u8], i: usize) -> bool
         p += 1;
     }
     r
+}
+
+// .. asked of the page that has all that i wants, 32 for none.
+pub fn shut_out_by(s: &[u8], i: usize, p: usize) -> bool
+    requires { ⌜ (length (now s) ≡ serverLength) × (i < 8) × (p ≡ aloneB (now s) i) ⌝ }
+    ensures { λ r. ⌜ r ≡ shutOutB (now (s .entry)) i ⌝ }
+{
+    if p < 32 {
+        return shut(s, i, p);
+    }
+    shut_out(s, i)
 }
 
 fn written_by(s: &[u8], i: usize, p: usize, j: usize) -> u8

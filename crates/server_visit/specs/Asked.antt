@@ -1,4 +1,4 @@
--- 19s change the set of pages asked for, and nothing else: who blocks a waiter and what is wrong with its commit stays.
+-- 19s change the set of pages asked for, and nothing else: who blocks a waiter, what shuts it out and what is wrong with its commit stays.
 use Prim.Native.Nat.{ℕ, zero, suc, _+_, _*_, _≤_, _<_}
 use mathlib.Core.Path.{_≡_, refl, sym, ap₂, _∙_}
 use mathlib.Core.Logic.{_⊎_, inl, inr}
@@ -114,6 +114,19 @@ module _ (s t : List ℕ) (h : Asks s t) where
   unfolding blockersB holderSet aheadSet
   blockers-asks i l =
       ap₂ bitOr (join-like (holdersOn t i) (holdersOn s i) 32 (holders i)) (mask-same (aheadB t i) (aheadB s i) 8 (λ j m. ahead i j l m))
+
+  -- WHAT IS SHUT
+
+  whole : (p : ℕ) → wholeOf t p ≡ wholeOf s p
+  whole p = h _ (inr (omega arith))
+
+  shut : (i p : ℕ) → shutB t i p ≡ shutB s i p
+  unfolding shutB
+  shut i p = rw (wanted i p, whole p)
+
+  pub shut-asks : (i : ℕ) → shutOutB t i ≡ shutOutB s i
+  unfolding shutOutB
+  shut-asks i = any-like (shutB t i) (shutB s i) 32 (λ p l. shut i p)
 
   -- WHAT IS WRONG
 

@@ -26,7 +26,7 @@ use Rattle.server_actions.specs.Pass.{askB, serveReadB, callOneB, callTo, callB
 use Rattle.server_actions.specs.Posting.{from, Acts, acts-state, counts, Posted, posted, post, post-none, posted-then, Room, room-first, room-next}
 use Rattle.server_actions.specs.Parts.{acts-afterCalls}
 use Rattle.server_actions.specs.Chains.{one-fits, sent-chain}
-use Rattle.server_visit.specs.Asked.{Held, Asks, asks-one, asks-all, asks-none, held-asks, blockers-asks, fault-asks}
+use Rattle.server_visit.specs.Asked.{Held, Asks, asks-one, asks-all, asks-none, held-asks, blockers-asks, shut-asks, fault-asks}
 
 -- a commit's turn
 unfoldable pub visitCommitB : ℕ → Serving → Serving
@@ -142,6 +142,11 @@ module _ (o q : List ℕ) (c : Counts) where
   unfolding post
   ask-keeps k i p s e h = rw (ap (λ (d : Posted). d .state) e) (held-asks s ((askB k i (from s) p) .state) (asks-one k i p (from s)) h)
 
+  -- whoever is blocked stays as it is
+  pub blocked-post : (w i : ℕ) (s : List ℕ) → blockedB s i ≡ true → posted s o q c ≡ post o q c (gatesB w i (from s))
+  unfolding gatesB
+  blocked-post w i s e = rw e (post-none o q c s)
+
   -- 19s to keeping holders
 
   pub keepers-none : (i : ℕ) (s : List ℕ) → shutOutB s i ≡ false → posted s o q c ≡ post o q c (askKeepersB i (from s))
@@ -158,6 +163,9 @@ module _ (o q : List ℕ) (c : Counts) where
 
     pub keepers-blockers : i < 8 → {d : ℕ} → d ≡ blockersB s i → d ≡ blockersB s₁ i
     keepers-blockers l f = f ∙ sym (blockers-asks s s₁ keepers-asks i l)
+
+    pub keepers-shut : {d : Bool} → d ≡ shutOutB s i → d ≡ shutOutB s₁ i
+    keepers-shut f = f ∙ sym (shut-asks s s₁ keepers-asks i)
 
     pub keepers-fault : i < 8 → {d : ℕ} → d ≡ faultB s i → d ≡ faultB s₁ i
     keepers-fault l f = f ∙ sym (fault-asks s s₁ keepers-asks i l)

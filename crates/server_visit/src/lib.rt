@@ -5,7 +5,7 @@ ghost use mathlib.Core.Logic.{_≢_};
 ghost use Prim.Native.Nat.{_+_, _-_, _*_, _≤_, _<_};
 ghost use lib.ListN.{length};
 ghost use Rattle.server_state.specs.Layout.{serverLength, wholeOf, wantOf, requestOf, lastOf};
-ghost use Rattle.server_tests.specs.Tests.{faultB};
+ghost use Rattle.server_tests.specs.Tests.{faultB, shutOutB};
 ghost use Rattle.server_tests.specs.Blockers.{blockersB};
 ghost use Rattle.server_actions.specs.Posting.{from, posted, post, Room};
 ghost use Rattle.server_actions.specs.Pass.{askB, askTo, serveReadB, callOneB, callTo, callB, callOnceB, grantPageB, grantObjectB, grantB, afterCallsB, proceedB, gatesB, judgeB, askKeepersB, visitB};
@@ -194,58 +194,104 @@ fn proceed(s: &mut [u8], o: &mut [u8], q: &mut [u8], c: Counts, i: usize, w: u8)
     after_calls(s, o, q, b, i, w)
 }
 
-// b is who blocks i.
-fn gates(s: &mut [u8], o: &mut [u8], q: &mut [u8], c: Counts, i: usize, w: u8, b: u8) -> Counts
-    requires { ⌜ (length (now s) ≡ serverLength) × (i < 8) × Held (now s) × (b ≡ blockersB (now s) i) × (w ≢ 1 → w ≢ 2 → lastOf (now s) < 4294967295) × Room (now o) (now q) c (gatesB w i (from (now s))) ⌝ }
+// Nobody blocks i. x is whether a page that it wants is another's whole.
+fn gates(s: &mut [u8], o: &mut [u8], q: &mut [u8], c: Counts, i: usize, w: u8, x: bool) -> Counts
+    requires { ⌜ (length (now s) ≡ serverLength) × (i < 8) × Held (now s) × (blockersB (now s) i ≡ 0) × (x ≡ shutOutB (now s) i) × (w ≢ 1 → w ≢ 2 → lastOf (now s) < 4294967295) × Room (now o) (now q) c (gatesB w i (from (now s))) ⌝ }
     ensures { λ r. ⌜ posted (now (s .exit)) (now (o .exit)) (now (q .exit)) r ≡ post (now (o .entry)) (now (q .entry)) c (gatesB w i (from (now (s .entry)))) ⌝ }
 {
-    if b != 0 {
-        return c;
-    }
-    if server_tests::shut_out(s, i) {
+    if x {
         return ask_all(s, o, q, c, i, false);
     }
     proceed(s, o, q, c, i, w)
 }
 
 // 19s to keeping holders. Where nothing that i wants is locked whole by another there are none.
-fn ask_keepers(s: &mut [u8], o: &mut [u8], q: &mut [u8], c: Counts, i: usize) -> Counts
-    requires { ⌜ (length (now s) ≡ serverLength) × (i < 8) × Held (now s) × Room (now o) (now q) c (askKeepersB i (from (now s))) ⌝ }
+fn ask_keepers(s: &mut [u8], o: &mut [u8], q: &mut [u8], c: Counts, i: usize, x: bool) -> Counts
+    requires { ⌜ (length (now s) ≡ serverLength) × (i < 8) × Held (now s) × (x ≡ shutOutB (now s) i) × Room (now o) (now q) c (askKeepersB i (from (now s))) ⌝ }
     ensures { λ r. ⌜ posted (now (s .exit)) (now (o .exit)) (now (q .exit)) r ≡ post (now (o .entry)) (now (q .entry)) c (askKeepersB i (from (now (s .entry)))) ⌝ }
 {
-    if server_tests::shut_out(s, i) {
+    if x {
         return ask_all(s, o, q, c, i, true);
     }
     c
 }
 
 // A commit that cannot be installed any more is aborted; cause is its fault.
-fn judge(s: &mut [u8], o: &mut [u8], q: &mut [u8], c: Counts, i: usize, b: u8, cause: u8) -> Counts
-    requires { ⌜ (length (now s) ≡ serverLength) × (i < 8) × Held (now s) × (b ≡ blockersB (now s) i) × (cause ≡ faultB (now s) i) × Room (now o) (now q) c (judgeB i (from (now s))) ⌝ }
+fn judge(
+    s: &mut [u8],
+    o: &mut [u8],
+    q: &mut [u8],
+    c: Counts,
+    i: usize,
+    b: u8,
+    x: bool,
+    cause: u8,
+) -> Counts
+    requires { ⌜ (length (now s) ≡ serverLength) × (i < 8) × Held (now s) × (b ≡ blockersB (now s) i) × (x ≡ shutOutB (now s) i) × (cause ≡ faultB (now s) i) × Room (now o) (now q) c (judgeB i (from (now s))) ⌝ }
     ensures { λ r. ⌜ posted (now (s .exit)) (now (o .exit)) (now (q .exit)) r ≡ post (now (o .entry)) (now (q .entry)) c (judgeB i (from (now (s .entry)))) ⌝ }
 {
-    if cause == 0 {
-        return gates(s, o, q, c, i, 3, b);
+    if cause != 0 {
+        return server_actions::abort(s, o, q, c, i, cause);
     }
-    server_actions::abort(s, o, q, c, i, cause)
+    if b == 0 {
+        return gates(s, o, q, c, i, 3, x);
+    }
+    c
 }
 
 // A commit's turn: 19s to keeping holders go ahead of cause 3, not of the others.
-fn visit_commit(s: &mut [u8], o: &mut [u8], q: &mut [u8], c: Counts, i: usize, b: u8) -> Counts
-    requires { ⌜ (length (now s) ≡ serverLength) × (i < 8) × Held (now s) × (b ≡ blockersB (now s) i) × Room (now o) (now q) c (visitCommitB i (from (now s))) ⌝ }
+fn visit_commit(
+    s: &mut [u8],
+    o: &mut [u8],
+    q: &mut [u8],
+    c: Counts,
+    i: usize,
+    b: u8,
+    x: bool,
+) -> Counts
+    requires { ⌜ (length (now s) ≡ serverLength) × (i < 8) × Held (now s) × (b ≡ blockersB (now s) i) × (x ≡ shutOutB (now s) i) × Room (now o) (now q) c (visitCommitB i (from (now s))) ⌝ }
     ensures { λ r. ⌜ posted (now (s .exit)) (now (o .exit)) (now (q .exit)) r ≡ post (now (o .entry)) (now (q .entry)) c (visitCommitB i (from (now (s .entry)))) ⌝ }
 {
     let cause = server_tests::fault(s, i);
     if (cause == 2) | (cause == 4) {
         return server_actions::abort(s, o, q, c, i, cause);
     }
-    let d = ask_keepers(s, o, q, c, i);
-    judge(s, o, q, d, i, b, cause)
+    let d = ask_keepers(s, o, q, c, i, x);
+    judge(s, o, q, d, i, b, x, cause)
 }
 
-// Station i's turn, if it waits. b is who blocks it: the pass asks for it once, and keeps it for the edges.
-pub fn visit(s: &mut [u8], o: &mut [u8], q: &mut [u8], c: Counts, i: usize, b: u8) -> Counts
-    requires { ⌜ (length (now s) ≡ serverLength) × (i < 8) × Held (now s) × (wantOf (now s) i ≤ 3) × (b ≡ blockersB (now s) i) × Room (now o) (now q) c (visitB i (from (now s))) ⌝ }
+// A request's turn, of a read or a write.
+fn visit_request(
+    s: &mut [u8],
+    o: &mut [u8],
+    q: &mut [u8],
+    c: Counts,
+    i: usize,
+    w: u8,
+    b: u8,
+    x: bool,
+) -> Counts
+    requires { ⌜ (length (now s) ≡ serverLength) × (i < 8) × Held (now s) × (b ≡ blockersB (now s) i) × (x ≡ shutOutB (now s) i) × (1 ≤ w) × (w ≤ 2) × Room (now o) (now q) c (gatesB w i (askKeepersB i (from (now s)))) ⌝ }
+    ensures { λ r. ⌜ posted (now (s .exit)) (now (o .exit)) (now (q .exit)) r ≡ post (now (o .entry)) (now (q .entry)) c (gatesB w i (askKeepersB i (from (now (s .entry))))) ⌝ }
+{
+    let d = ask_keepers(s, o, q, c, i, x);
+    if b != 0 {
+        return d;
+    }
+    gates(s, o, q, d, i, w, x)
+}
+
+// Station i's turn, if it waits. b is who blocks it, x whether a page that it wants is another's whole: the pass asks for both once.
+pub fn visit(
+    s: &mut [u8],
+    o: &mut [u8],
+    q: &mut [u8],
+    c: Counts,
+    i: usize,
+    b: u8,
+    x: bool,
+) -> Counts
+    requires { ⌜ (length (now s) ≡ serverLength) × (i < 8) × Held (now s) × (wantOf (now s) i ≤ 3) × (b ≡ blockersB (now s) i) × (x ≡ shutOutB (now s) i) × Room (now o) (now q) c (visitB i (from (now s))) ⌝ }
     ensures { λ r. ⌜ posted (now (s .exit)) (now (o .exit)) (now (q .exit)) r ≡ post (now (o .entry)) (now (q .entry)) c (visitB i (from (now (s .entry)))) ⌝ }
 {
     let w = s[WANT + i];
@@ -253,8 +299,7 @@ pub fn visit(s: &mut [u8], o: &mut [u8], q: &mut [u8], c: Counts, i: usize, b: u
         return c;
     }
     if w == 3 {
-        return visit_commit(s, o, q, c, i, b);
+        return visit_commit(s, o, q, c, i, b, x);
     }
-    let d = ask_keepers(s, o, q, c, i);
-    gates(s, o, q, d, i, w, b)
+    visit_request(s, o, q, c, i, w, b, x)
 }

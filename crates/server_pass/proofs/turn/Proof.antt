@@ -9,8 +9,14 @@ use borrow.Author.Needs.{needs}
 use Rattle.server_pass.proofs.turn.Statement.{statement}
 use Rattle.server_pass.proofs.turn.Tie as tie
 
-blockers-requires : tie.Need-blockers-requires
-blockers-requires c κs = search needs
+page-alone-requires : tie.Need-page-alone-requires
+page-alone-requires c κs = search needs
+
+blockers-by-requires : tie.Need-blockers-by-requires
+blockers-by-requires c κs = search needs
+
+shut-out-by-requires : tie.Need-shut-out-by-requires
+shut-out-by-requires c κs = search needs
 
 edges-by-requires : tie.Need-edges-by-requires
 edges-by-requires c κs = search needs
@@ -20,7 +26,7 @@ put-u8-requires c κs = search needs
 
 visit-requires : tie.Need-visit-requires
 unfolding turnB
-visit-requires c κs = (search needs, search needs, held (c .before .before .before .before .before .before .before .before .before .before .before .before .before .before .before .before .pre .2), c .before .before .before .before .before .before .before .before .before .before .before .before .before .before .before .before .pre .2 .wanting _ (c .before .before .before .before .before .before .before .before .before .before .before .if1 .taken), c .before .before .before .before .before .before .before .before .before .blockers .ensures, yes-room _ _ _ _ _ _ (lt-ltb _ _ (c .before .before .before .before .before .before .before .before .before .before .before .if1 .taken)) (c .before .before .before .before .before .before .before .before .before .before .before .before .before .before .before .before .pre .3))
+visit-requires c κs = (search needs, search needs, held (c .before .before .before .before .before .before .before .before .before .before .before .before .before .before .before .before .before .before .before .before .pre .2), c .before .before .before .before .before .before .before .before .before .before .before .before .before .before .before .before .before .before .before .before .pre .2 .wanting _ (c .before .before .before .before .before .before .before .before .before .before .before .before .before .before .before .if1 .taken), c .before .before .before .before .before .before .before .before .before .before .before .blockers-by .ensures, c .before .before .before .before .before .before .before .before .before .shut-out-by .ensures, yes-room _ _ _ _ _ _ (lt-ltb _ _ (c .before .before .before .before .before .before .before .before .before .before .before .before .before .before .before .if1 .taken)) (c .before .before .before .before .before .before .before .before .before .before .before .before .before .before .before .before .before .before .before .before .pre .3))
 
 same-length : tie.Need-same-length
 same-length c = search needs
@@ -36,7 +42,7 @@ same-length-4 c = search needs
 
 returns : tie.Need-returns
 unfolding turnB
-returns c = (yes-post _ _ _ _ _ _ (lt-ltb _ _ (c .before .before .before .before .before .before .before .before .before .before .before .before .before .before .before .before .before .before .if1 .taken)) (c .before .before .before .before .before .before .visit .ensures), noted-yes _ _ _ (c .before .before .before .before .before .before .before .before .before .before .before .before .before .before .before .before .before .before .if1 .taken) (c .before .before .before .before .before .before .before .before .before .before .before .before .before .before .edges-by .ensures) (c .before .before .before .before .before .before .before .before .before .before .before .before .put-u8 .ensures))
+returns c = (yes-post _ _ _ _ _ _ (lt-ltb _ _ (c .before .before .before .before .before .before .before .before .before .before .before .before .before .before .before .before .before .before .before .before .before .before .if1 .taken)) (c .before .before .before .before .before .before .visit .ensures), noted-yes _ _ _ (c .before .before .before .before .before .before .before .before .before .before .before .before .before .before .before .before .before .before .before .before .before .before .if1 .taken) (c .before .before .before .before .before .before .before .before .before .before .before .before .before .before .edges-by .ensures) (c .before .before .before .before .before .before .before .before .before .before .before .before .put-u8 .ensures))
 
 returns-2 : tie.Need-returns-2
 unfolding turnB
@@ -46,7 +52,9 @@ pub turn-spec : {M : Type 1} → statement M
 turn-spec =
     tie.close
     (tie.spec
-    blockers-requires
+    page-alone-requires
+    blockers-by-requires
+    shut-out-by-requires
     edges-by-requires
     put-u8-requires
     visit-requires

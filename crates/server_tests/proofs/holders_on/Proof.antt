@@ -1,19 +1,18 @@
--- `server_tests::holders_on` meets its contract. The loop's invariant: the set is the definition's at the count of objects passed.
-use Prim.Native.Nat.{_≤_, _-_}
-use mathlib.Core.Path.{_≡_, ap, _∙_, sym}
-use native.Mathlib.Numerals.{add-one}
-use native.Mathlib.Omega.{arith}
+-- `server_tests::holders_on` meets its contract. The loop's invariant: the set has all holders but those of the objects that are left.
+use Prim.Native.Nat.{_<_}
+use mathlib.Core.Path.{sym, _∙_}
 use borrow.Author.Needs.{needs}
-use borrow.Author.Tests.{eq-eqb, ne-eqb}
-use Rattle.server_tests.specs.Blockers.{joinTo, holderAt, holdersOn}
+use borrow.Author.Tests.{eq-eqb}
+use Rattle.server_tests.specs.Blockers.{holderAt, holdersOn}
+use Rattle.server_tests.specs.Members.{Left, rest-less, holders-first, holders-next, holders-last}
 use Rattle.server_tests.proofs.holders_on.Statement.{statement}
 use Rattle.server_tests.proofs.holders_on.Tie as tie
 
 abbrev Inv-loop : tie.InvT-loop
-Inv-loop s i p d₀ o₀ d o = (o ≤ 8) × (d ≡ joinTo (holderAt s i p) o)
+Inv-loop s i p x₀ d₀ x d = (x < 256) × (d < 256) × Left (holderAt s i p) x d
 
 abbrev μ-loop : tie.MeasureT-loop
-μ-loop s i p d₀ o₀ d o = 8 - o
+μ-loop s i p x₀ d₀ x d = x
 
 mul-get-u64 : tie.Need-mul-get-u64 Inv-loop μ-loop
 mul-get-u64 c = search needs
@@ -31,30 +30,26 @@ returns c = simp (sym (c .before .get-u64 .ensures), eq-eqb _ _ (c .if1 .taken))
 wanted-requires : tie.Need-wanted-requires Inv-loop μ-loop
 wanted-requires c κs = search needs
 
-returns-2 : tie.Need-returns-2 Inv-loop μ-loop
-unfolding holdersOn
-returns-2 c = simp (sym (c .before .before .before .get-u64 .ensures), ne-eqb _ _ (c .before .before .if1 .left), sym (c .before .wanted .ensures), eq-eqb _ _ (c .if2 .taken))
-
 loop-holds : tie.Need-loop-holds Inv-loop μ-loop
-unfolding joinTo
-loop-holds c = search needs
+loop-holds c = (search needs, search needs, holders-first _ _ _ (c .wanted .ensures))
+
+lowest-requires : tie.Need-lowest-requires Inv-loop μ-loop
+lowest-requires c κs = search needs
 
 holder-at-requires : tie.Need-holder-at-requires Inv-loop μ-loop
 holder-at-requires c κs = search needs
 
-add-o : tie.Need-add-o Inv-loop μ-loop
-add-o c = search needs
+sub-x : tie.Need-sub-x Inv-loop μ-loop
+sub-x c = search needs
 
 loop-less : tie.Need-loop-less Inv-loop μ-loop
-loop-less c = search needs
+loop-less c = rest-less _ (c .before .before .loop-test .taken)
 
 loop-again : tie.Need-loop-again Inv-loop μ-loop
-unfolding joinTo
-loop-again c = (search needs, rw add-one (cc))
+loop-again c = holders-next _ _ _ (c .before .before .before .loop .inv .0) (c .before .before .loop-test .taken) (c .before .before .before .loop .inv .1) (c .before .lowest .ensures .0) (c .holder-at .ensures) (c .before .before .before .loop .inv .2)
 
-returns-3 : tie.Need-returns-3 Inv-loop μ-loop
-unfolding holdersOn
-returns-3 c = simp (sym (c .before .before .before .before .before .get-u64 .ensures), ne-eqb _ _ (c .before .before .before .before .if1 .left), sym (c .before .before .before .wanted .ensures), ne-eqb _ _ (c .before .before .if2 .left)) (c .before .loop .inv .1 ∙ ap (joinTo _) (omega arith))
+returns-2 : tie.Need-returns-2 Inv-loop μ-loop
+returns-2 c = holders-last _ _ _ (λ e. c .before .before .before .if1 .left (c .before .before .before .before .get-u64 .ensures ∙ e)) (c .loop-test .left) (c .before .loop .inv .1) (c .before .loop .inv .2)
 
 pub holders-on-spec : {M : Type 1} → statement M
 holders-on-spec =
@@ -67,10 +62,10 @@ holders-on-spec =
     get-u64-requires
     returns
     wanted-requires
-    returns-2
     loop-holds
+    lowest-requires
     holder-at-requires
-    add-o
+    sub-x
     loop-less
     loop-again
-    returns-3)
+    returns-2)

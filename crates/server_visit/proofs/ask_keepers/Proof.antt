@@ -6,12 +6,9 @@ use borrow.Author.Needs.{needs}
 use Rattle.server_visit.proofs.ask_keepers.Statement.{statement}
 use Rattle.server_visit.proofs.ask_keepers.Tie as tie
 
-shut-out-requires : tie.Need-shut-out-requires
-shut-out-requires c κs = search needs
-
 ask-all-requires : tie.Need-ask-all-requires
 unfolding askKeepersB
-ask-all-requires c κs = (search needs, search needs, c .before .before .before .before .before .before .before .before .before .pre .2, c .before .before .before .before .before .before .before .before .before .pre .3)
+ask-all-requires c κs = (search needs, search needs, c .before .before .before .before .before .before .before .pre .2, c .before .before .before .before .before .before .before .pre .4)
 
 same-length : tie.Need-same-length
 same-length c = search needs
@@ -26,21 +23,9 @@ returns : tie.Need-returns
 unfolding askKeepersB
 returns c = c .before .before .before .before .before .before .ask-all .ensures
 
-same-length-4 : tie.Need-same-length-4
-same-length-4 c = search needs
-
 returns-2 : tie.Need-returns-2
-returns-2 c = keepers-none _ _ _ _ _ (sym (c .before .shut-out .ensures) ∙ c .if1 .left)
+returns-2 c = keepers-none _ _ _ _ _ (sym (c .before .before .before .before .pre .3) ∙ c .if1 .left)
 
 pub ask-keepers-spec : {M : Type 1} → statement M
 ask-keepers-spec =
-    tie.close
-    (tie.spec
-    shut-out-requires
-    ask-all-requires
-    same-length
-    same-length-2
-    same-length-3
-    returns
-    same-length-4
-    returns-2)
+    tie.close (tie.spec ask-all-requires same-length same-length-2 same-length-3 returns returns-2)

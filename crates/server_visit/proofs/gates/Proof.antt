@@ -1,23 +1,15 @@
 -- `server_visit::gates` meets its contract.
-use mathlib.Core.Path.{sym, _∙_}
+use mathlib.Core.Path.{refl, sym, _∙_}
 use native.Mathlib.Omega.{arith}
 use Rattle.server_actions.specs.Pass.{gatesB}
-use Rattle.server_actions.specs.Posting.{post-none}
-use Rattle.server_visit.specs.Visits.{blocked-by, blocked-not, yes-room, no-room, yes-post, no-post}
+use Rattle.server_visit.specs.Visits.{blocked-not, yes-room, no-room, yes-post, no-post}
 use borrow.Author.Needs.{needs}
 use Rattle.server_visit.proofs.gates.Statement.{statement}
 use Rattle.server_visit.proofs.gates.Tie as tie
 
-returns : tie.Need-returns
-unfolding gatesB
-returns c = yes-post _ _ _ _ _ _ (blocked-by _ _ _ (c .before .before .before .before .pre .3) (λ j. omega (arith, c .before .before .before .slice-known .given j)) (c .if1 .taken)) (post-none _ _ _ _)
-
-shut-out-requires : tie.Need-shut-out-requires
-shut-out-requires c κs = search needs
-
 ask-all-requires : tie.Need-ask-all-requires
 unfolding gatesB
-ask-all-requires c κs = (search needs, search needs, c .before .before .before .before .before .before .before .before .before .before .pre .2, yes-room _ _ _ _ _ _ (sym (c .before .before .before .before .shut-out .ensures) ∙ c .before .before .before .if2 .taken) (no-room _ _ _ _ _ _ (blocked-not _ _ _ (c .before .before .before .before .before .before .before .before .before .before .pre .3) (λ j. omega (arith, c .before .before .before .before .before .before .before .before .before .slice-known .given j)) (c .before .before .before .before .before .before .if1 .left)) (c .before .before .before .before .before .before .before .before .before .before .pre .5)))
+ask-all-requires c κs = (search needs, search needs, c .before .before .before .before .before .before .before .pre .2, yes-room _ _ _ _ _ _ (sym (c .before .before .before .before .before .before .before .pre .4) ∙ c .before .before .before .if1 .taken) (no-room _ _ _ _ _ _ (blocked-not _ _ _ refl (λ j. omega (arith, c .before .before .before .before .before .before .slice-known .given j)) (c .before .before .before .before .before .before .before .pre .3)) (c .before .before .before .before .before .before .before .pre .6)))
 
 same-length : tie.Need-same-length
 same-length c = search needs
@@ -28,13 +20,13 @@ same-length-2 c = search needs
 same-length-3 : tie.Need-same-length-3
 same-length-3 c = search needs
 
-returns-2 : tie.Need-returns-2
+returns : tie.Need-returns
 unfolding gatesB
-returns-2 c = no-post _ _ _ _ _ _ (blocked-not _ _ _ (c .before .before .before .before .before .before .before .before .before .before .before .before .before .before .before .before .before .pre .3) (λ j. omega (arith, c .before .before .before .before .before .before .before .before .before .before .before .before .before .before .before .before .slice-known .given j)) (c .before .before .before .before .before .before .before .before .before .before .before .before .before .if1 .left)) (yes-post _ _ _ _ _ _ (sym (c .before .before .before .before .before .before .before .before .before .before .before .shut-out .ensures) ∙ c .before .before .before .before .before .before .before .before .before .before .if2 .taken) (c .before .before .before .before .before .before .ask-all .ensures))
+returns c = no-post _ _ _ _ _ _ (blocked-not _ _ _ refl (λ j. omega (arith, c .before .before .before .before .before .before .before .before .before .before .before .before .before .slice-known .given j)) (c .before .before .before .before .before .before .before .before .before .before .before .before .before .before .pre .3)) (yes-post _ _ _ _ _ _ (sym (c .before .before .before .before .before .before .before .before .before .before .before .before .before .before .pre .4) ∙ c .before .before .before .before .before .before .before .before .before .before .if1 .taken) (c .before .before .before .before .before .before .ask-all .ensures))
 
 proceed-requires : tie.Need-proceed-requires
 unfolding gatesB
-proceed-requires c κs = (search needs, search needs, c .before .before .before .before .before .before .before .before .before .before .pre .4, no-room _ _ _ _ _ _ (sym (c .before .before .before .before .shut-out .ensures) ∙ c .before .before .before .if2 .left) (no-room _ _ _ _ _ _ (blocked-not _ _ _ (c .before .before .before .before .before .before .before .before .before .before .pre .3) (λ j. omega (arith, c .before .before .before .before .before .before .before .before .before .slice-known .given j)) (c .before .before .before .before .before .before .if1 .left)) (c .before .before .before .before .before .before .before .before .before .before .pre .5)))
+proceed-requires c κs = (search needs, search needs, c .before .before .before .before .before .before .before .pre .5, no-room _ _ _ _ _ _ (sym (c .before .before .before .before .before .before .before .pre .4) ∙ c .before .before .before .if1 .left) (no-room _ _ _ _ _ _ (blocked-not _ _ _ refl (λ j. omega (arith, c .before .before .before .before .before .before .slice-known .given j)) (c .before .before .before .before .before .before .before .pre .3)) (c .before .before .before .before .before .before .before .pre .6)))
 
 same-length-4 : tie.Need-same-length-4
 same-length-4 c = search needs
@@ -45,23 +37,21 @@ same-length-5 c = search needs
 same-length-6 : tie.Need-same-length-6
 same-length-6 c = search needs
 
-returns-3 : tie.Need-returns-3
+returns-2 : tie.Need-returns-2
 unfolding gatesB
-returns-3 c = no-post _ _ _ _ _ _ (blocked-not _ _ _ (c .before .before .before .before .before .before .before .before .before .before .before .before .before .before .before .before .before .pre .3) (λ j. omega (arith, c .before .before .before .before .before .before .before .before .before .before .before .before .before .before .before .before .slice-known .given j)) (c .before .before .before .before .before .before .before .before .before .before .before .before .before .if1 .left)) (no-post _ _ _ _ _ _ (sym (c .before .before .before .before .before .before .before .before .before .before .before .shut-out .ensures) ∙ c .before .before .before .before .before .before .before .before .before .before .if2 .left) (c .before .before .before .before .before .before .proceed .ensures))
+returns-2 c = no-post _ _ _ _ _ _ (blocked-not _ _ _ refl (λ j. omega (arith, c .before .before .before .before .before .before .before .before .before .before .before .before .before .slice-known .given j)) (c .before .before .before .before .before .before .before .before .before .before .before .before .before .before .pre .3)) (no-post _ _ _ _ _ _ (sym (c .before .before .before .before .before .before .before .before .before .before .before .before .before .before .pre .4) ∙ c .before .before .before .before .before .before .before .before .before .before .if1 .left) (c .before .before .before .before .before .before .proceed .ensures))
 
 pub gates-spec : {M : Type 1} → statement M
 gates-spec =
     tie.close
     (tie.spec
-    returns
-    shut-out-requires
     ask-all-requires
     same-length
     same-length-2
     same-length-3
-    returns-2
+    returns
     proceed-requires
     same-length-4
     same-length-5
     same-length-6
-    returns-3)
+    returns-2)

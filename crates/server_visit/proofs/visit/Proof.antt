@@ -2,9 +2,8 @@
 use native.Mathlib.Omega.{arith}
 use borrow.Author.Tests.{eq-eqb}
 use Rattle.server_actions.specs.Pass.{visitB}
-use Rattle.server_actions.specs.Posting.{post-none, room-first}
-use Rattle.server_actions.specs.Parts.{acts-gates}
-use Rattle.server_visit.specs.Visits.{yes-post, commit-room, commit-post, other-room, other-post, keepers-held, keepers-blockers, keepers-room, keepers-chain}
+use Rattle.server_actions.specs.Posting.{post-none}
+use Rattle.server_visit.specs.Visits.{yes-post, commit-room, commit-post, other-room, other-post}
 use borrow.Author.Needs.{needs}
 use Rattle.server_visit.proofs.visit.Statement.{statement}
 use Rattle.server_visit.proofs.visit.Tie as tie
@@ -20,7 +19,7 @@ unfolding visitB
 returns c = yes-post _ _ _ _ _ _ (eq-eqb _ _ (c .if1 .taken)) (post-none _ _ _ _)
 
 visit-commit-requires : tie.Need-visit-commit-requires
-visit-commit-requires c κs = (search needs, search needs, c .before .before .before .before .before .before .before .before .before .pre .2, c .before .before .before .before .before .before .before .before .before .pre .4, commit-room _ _ _ _ _ (c .before .before .before .if2 .taken) (c .before .before .before .before .before .before .before .before .before .pre .5))
+visit-commit-requires c κs = (search needs, search needs, c .before .before .before .before .before .before .before .before .before .pre .2, c .before .before .before .before .before .before .before .before .before .pre .4, c .before .before .before .before .before .before .before .before .before .pre .5, commit-room _ _ _ _ _ (c .before .before .before .if2 .taken) (c .before .before .before .before .before .before .before .before .before .pre .6))
 
 same-length : tie.Need-same-length
 same-length c = search needs
@@ -34,11 +33,8 @@ same-length-3 c = search needs
 returns-2 : tie.Need-returns-2
 returns-2 c = commit-post _ _ _ _ _ (c .before .before .before .before .before .before .before .before .before .before .if2 .taken) (c .before .before .before .before .before .before .visit-commit .ensures)
 
-ask-keepers-requires : tie.Need-ask-keepers-requires
-ask-keepers-requires c κs = (search needs, search needs, c .before .before .before .before .before .before .before .before .before .pre .2, room-first _ _ _ (acts-gates _ _) _ (other-room _ _ _ _ _ (c .before .before .before .before .if1 .left) (c .before .before .before .if2 .left) (c .before .before .before .before .before .before .before .before .before .pre .5)))
-
-gates-requires : tie.Need-gates-requires
-gates-requires c κs = (search needs, search needs, keepers-held _ _ _ _ _ (c .before .before .before .before .before .before .before .before .before .ask-keepers .ensures) (c .before .before .before .before .before .before .before .before .before .before .before .before .before .before .before .before .before .before .before .pre .2), keepers-blockers _ _ _ _ _ (c .before .before .before .before .before .before .before .before .before .ask-keepers .ensures) (c .before .before .before .before .before .before .before .before .before .before .before .before .before .before .before .before .before .before .before .pre .1) (c .before .before .before .before .before .before .before .before .before .before .before .before .before .before .before .before .before .before .before .pre .4), λ n m. omega (arith, n, m, c .before .before .before .before .before .before .before .before .before .before .before .before .before .before .if1 .left, c .before .before .before .before .before .before .before .before .before .before .before .before .before .if2 .left, c .before .before .before .before .before .before .before .before .before .before .before .before .before .before .before .before .before .before .before .pre .3), keepers-room _ _ _ _ _ (c .before .before .before .before .before .before .before .before .before .ask-keepers .ensures) (acts-gates _ _) (other-room _ _ _ _ _ (c .before .before .before .before .before .before .before .before .before .before .before .before .before .before .if1 .left) (c .before .before .before .before .before .before .before .before .before .before .before .before .before .if2 .left) (c .before .before .before .before .before .before .before .before .before .before .before .before .before .before .before .before .before .before .before .pre .5)))
+visit-request-requires : tie.Need-visit-request-requires
+visit-request-requires c κs = (search needs, search needs, c .before .before .before .before .before .before .before .before .before .pre .2, c .before .before .before .before .before .before .before .before .before .pre .4, c .before .before .before .before .before .before .before .before .before .pre .5, omega (arith, c .before .before .before .before .if1 .left), omega (arith, c .before .before .before .if2 .left, c .before .before .before .before .before .before .before .before .before .pre .3), other-room _ _ _ _ _ (c .before .before .before .before .if1 .left) (c .before .before .before .if2 .left) (c .before .before .before .before .before .before .before .before .before .pre .6))
 
 same-length-4 : tie.Need-same-length-4
 same-length-4 c = search needs
@@ -50,7 +46,7 @@ same-length-6 : tie.Need-same-length-6
 same-length-6 c = search needs
 
 returns-3 : tie.Need-returns-3
-returns-3 c = other-post _ _ _ _ _ (c .before .before .before .before .before .before .before .before .before .before .before .before .before .before .before .before .before .before .before .before .before .if1 .left) (c .before .before .before .before .before .before .before .before .before .before .before .before .before .before .before .before .before .before .before .before .if2 .left) (keepers-chain _ _ _ _ _ (c .before .before .before .before .before .before .before .before .before .before .before .before .before .before .before .before .ask-keepers .ensures) (acts-gates _ _) (c .before .before .before .before .before .before .gates .ensures))
+returns-3 c = other-post _ _ _ _ _ (c .before .before .before .before .before .before .before .before .before .before .before .if1 .left) (c .before .before .before .before .before .before .before .before .before .before .if2 .left) (c .before .before .before .before .before .before .visit-request .ensures)
 
 pub visit-spec : {M : Type 1} → statement M
 visit-spec =
@@ -64,8 +60,7 @@ visit-spec =
     same-length-2
     same-length-3
     returns-2
-    ask-keepers-requires
-    gates-requires
+    visit-request-requires
     same-length-4
     same-length-5
     same-length-6

@@ -1,7 +1,7 @@
 -- `server_visit::visit_commit` meets its contract.
 use Rattle.server_actions.specs.Posting.{room-first}
 use Rattle.server_actions.specs.Parts.{acts-judge}
-use Rattle.server_visit.specs.Visits.{out-by, out-room, out-post, in-room, in-post, keepers-held, keepers-blockers, keepers-fault, keepers-room, keepers-chain}
+use Rattle.server_visit.specs.Visits.{out-by, out-room, out-post, in-room, in-post, keepers-held, keepers-blockers, keepers-shut, keepers-fault, keepers-room, keepers-chain}
 use borrow.Author.Needs.{needs}
 use Rattle.server_visit.proofs.visit_commit.Statement.{statement}
 use Rattle.server_visit.proofs.visit_commit.Tie as tie
@@ -10,7 +10,7 @@ fault-requires : tie.Need-fault-requires
 fault-requires c κs = search needs
 
 abort-requires : tie.Need-abort-requires
-abort-requires c κs = (search needs, search needs, rw (c .before .before .before .before .fault .ensures) (out-room _ _ _ _ _ (out-by _ _ (c .before .before .before .before .fault .ensures) (c .before .before .before .if1 .taken)) (c .before .before .before .before .before .before .before .before .before .pre .4)))
+abort-requires c κs = (search needs, search needs, rw (c .before .before .before .before .fault .ensures) (out-room _ _ _ _ _ (out-by _ _ (c .before .before .before .before .fault .ensures) (c .before .before .before .if1 .taken)) (c .before .before .before .before .before .before .before .before .before .pre .5)))
 
 same-length : tie.Need-same-length
 same-length c = search needs
@@ -25,10 +25,10 @@ returns : tie.Need-returns
 returns c = out-post _ _ _ _ _ (out-by _ _ (c .before .before .before .before .before .before .before .before .before .before .before .fault .ensures) (c .before .before .before .before .before .before .before .before .before .before .if1 .taken)) (rw (c .before .before .before .before .before .before .before .before .before .before .before .fault .ensures) at (c .before .before .before .before .before .before .abort .ensures))
 
 ask-keepers-requires : tie.Need-ask-keepers-requires
-ask-keepers-requires c κs = (search needs, search needs, c .before .before .before .before .before .before .before .before .before .pre .2, room-first _ _ _ (acts-judge _) _ (in-room _ _ _ _ _ (out-by _ _ (c .before .before .before .before .fault .ensures) (c .before .before .before .if1 .left)) (c .before .before .before .before .before .before .before .before .before .pre .4)))
+ask-keepers-requires c κs = (search needs, search needs, c .before .before .before .before .before .before .before .before .before .pre .2, c .before .before .before .before .before .before .before .before .before .pre .4, room-first _ _ _ (acts-judge _) _ (in-room _ _ _ _ _ (out-by _ _ (c .before .before .before .before .fault .ensures) (c .before .before .before .if1 .left)) (c .before .before .before .before .before .before .before .before .before .pre .5)))
 
 judge-requires : tie.Need-judge-requires
-judge-requires c κs = (search needs, search needs, keepers-held _ _ _ _ _ (c .before .before .before .before .before .before .before .before .before .ask-keepers .ensures) (c .before .before .before .before .before .before .before .before .before .before .before .before .before .before .before .before .before .before .before .pre .2), keepers-blockers _ _ _ _ _ (c .before .before .before .before .before .before .before .before .before .ask-keepers .ensures) (c .before .before .before .before .before .before .before .before .before .before .before .before .before .before .before .before .before .before .before .pre .1) (c .before .before .before .before .before .before .before .before .before .before .before .before .before .before .before .before .before .before .before .pre .3), keepers-fault _ _ _ _ _ (c .before .before .before .before .before .before .before .before .before .ask-keepers .ensures) (c .before .before .before .before .before .before .before .before .before .before .before .before .before .before .before .before .before .before .before .pre .1) (c .before .before .before .before .before .before .before .before .before .before .before .before .before .before .fault .ensures), keepers-room _ _ _ _ _ (c .before .before .before .before .before .before .before .before .before .ask-keepers .ensures) (acts-judge _) (in-room _ _ _ _ _ (out-by _ _ (c .before .before .before .before .before .before .before .before .before .before .before .before .before .before .fault .ensures) (c .before .before .before .before .before .before .before .before .before .before .before .before .before .if1 .left)) (c .before .before .before .before .before .before .before .before .before .before .before .before .before .before .before .before .before .before .before .pre .4)))
+judge-requires c κs = (search needs, search needs, keepers-held _ _ _ _ _ (c .before .before .before .before .before .before .before .before .before .ask-keepers .ensures) (c .before .before .before .before .before .before .before .before .before .before .before .before .before .before .before .before .before .before .before .pre .2), keepers-blockers _ _ _ _ _ (c .before .before .before .before .before .before .before .before .before .ask-keepers .ensures) (c .before .before .before .before .before .before .before .before .before .before .before .before .before .before .before .before .before .before .before .pre .1) (c .before .before .before .before .before .before .before .before .before .before .before .before .before .before .before .before .before .before .before .pre .3), keepers-shut _ _ _ _ _ (c .before .before .before .before .before .before .before .before .before .ask-keepers .ensures) (c .before .before .before .before .before .before .before .before .before .before .before .before .before .before .before .before .before .before .before .pre .4), keepers-fault _ _ _ _ _ (c .before .before .before .before .before .before .before .before .before .ask-keepers .ensures) (c .before .before .before .before .before .before .before .before .before .before .before .before .before .before .before .before .before .before .before .pre .1) (c .before .before .before .before .before .before .before .before .before .before .before .before .before .before .fault .ensures), keepers-room _ _ _ _ _ (c .before .before .before .before .before .before .before .before .before .ask-keepers .ensures) (acts-judge _) (in-room _ _ _ _ _ (out-by _ _ (c .before .before .before .before .before .before .before .before .before .before .before .before .before .before .fault .ensures) (c .before .before .before .before .before .before .before .before .before .before .before .before .before .if1 .left)) (c .before .before .before .before .before .before .before .before .before .before .before .before .before .before .before .before .before .before .before .pre .5)))
 
 same-length-4 : tie.Need-same-length-4
 same-length-4 c = search needs
