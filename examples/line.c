@@ -1,5 +1,5 @@
 /*
- * A complete host: the server and eight stations of both kinds in one process, with lines in memory. The owners count
+ * A complete host: the server and eight stations, locking and validating, in one process, with lines in memory. The owners count
  * frames into counters that they share: read a counter, write it with the frames added, commit; begin again when aborted.
  * The locking ones also reject bottles, which touch three counters of one page: these are written as a set, all or none.
  * Who acts next is drawn from a seeded generator, so messages cross in many ways, and a run can be had again.

@@ -45,10 +45,10 @@ extern "C" {
 #endif
 
 /* Of this header; the library has no number of its own. waxwingrack.pc has the same. */
-#define WAX_VERSION       "1.13.0"
+#define WAX_VERSION       "1.13.1"
 #define WAX_VERSION_MAJOR 1
 #define WAX_VERSION_MINOR 13
-#define WAX_VERSION_PATCH 0
+#define WAX_VERSION_PATCH 1
 
 /* Stack that the deepest call takes, its own frame and those below it, in bytes, and the deepest call of a station or the server;
  * tools/stack reads both from the library, and the package is tested for no more than these. */
@@ -373,7 +373,8 @@ uint32_t wax_counts_entry(const uint8_t *file, size_t length, size_t at, uint32_
  *
  * A station's state is WAX_STATION_LENGTH bytes that the host keeps and lends to every call (docs/STATE.md has their meaning).
  * Bytes that no call can leave and that a rule would trip over are no state: WAX_BUFFER. What is taken stays so. A state of a
- * version before 1.12.0 has another length, and is none; a server's of one before 1.13.0 too. A message of one before 1.11.0, of 112 bytes, is WAX_LENGTH.
+ * version before 1.12.0 has another length, and is none; a server's of one before 1.13.0 too. A message of one before 1.11.0, of
+ * 112 bytes, is WAX_LENGTH.
  * Each call takes two more buffers and the place for what it tells:
  *
  *   messages  at least WAX_STATION_MESSAGES bytes: messages of WAX_MESSAGE_LENGTH bytes for the server, one behind the other
