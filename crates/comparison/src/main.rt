@@ -410,17 +410,6 @@ fn entry_difference(a: &[u8], b: &[u8], n: u32, k: u32) -> Difference {
     )
 }
 
-// How many entries a record has.
-fn entries_of(f: Fields) -> u32 {
-    if 65535 < f.reads {
-        return 0;
-    }
-    if 65535 < f.writes {
-        return 0;
-    }
-    f.reads + f.writes
-}
-
 // What differs first in two records behind the same commit.
 fn first_difference(a: &[u8], b: &[u8], last: u32) -> Difference {
     let f = fields_of(a, last);
@@ -440,7 +429,7 @@ fn first_difference(a: &[u8], b: &[u8], last: u32) -> Difference {
     if f.kind != g.kind {
         return differs(4, le::long(f.kind), le::long(g.kind), 0);
     }
-    entry_difference(a, b, f.reads, entries_of(f))
+    entry_difference(a, b, f.reads, full::entry_count(f))
 }
 
 // What is said in front of the two values of a field.

@@ -23,6 +23,8 @@ const CHUNK: usize = 131072;
 // So many bytes apart the progress is shown.
 const SHOWN: u64 = 67108864;
 
+const MEGABYTE: u64 = 1000000;
+
 // Bytes of `io::buffer()`: a tariff's text has fewer.
 const TARIFF_ROOM: usize = 4096;
 
@@ -134,17 +136,6 @@ fn marked(mark: u8, value: u64) -> u8 {
     1
 }
 
-// How many entries a record has.
-fn entries_of(f: Fields) -> u32 {
-    if 65535 < f.reads {
-        return 0;
-    }
-    if 65535 < f.writes {
-        return 0;
-    }
-    f.reads + f.writes
-}
-
 // Marks the address of entry i of a record of k entries.
 fn mark_entry(input: &[u8], at: usize, k: u32, i: u32, marks: &mut [u8; 256]) {
     let Found::Entry { address, value } = archive::entry(input, at, k, i) else {
@@ -157,7 +148,7 @@ fn mark_entry(input: &[u8], at: usize, k: u32, i: u32, marks: &mut [u8; 256]) {
 
 // Marks the addresses that a record writes.
 fn mark_writes(input: &[u8], f: Fields, marks: &mut [u8; 256]) {
-    let k = entries_of(f);
+    let k = full::entry_count(f);
     let at = f.at;
     let mut i = f.reads;
     while i < k {
@@ -304,7 +295,7 @@ fn show(s: State, start: u64, last: u32) -> u64 {
         return s.shown;
     }
     tell(b"\rfees: ");
-    tell_number(start / 1000000);
+    tell_number(start / MEGABYTE);
     tell(b" MB, commit ");
     tell_number(le::long(last));
     start
@@ -778,7 +769,9 @@ fn with_file(path: &[u8], stretch: Stretch) {
     libc::close(fd);
     if n == TARIFF_ROOM {
         refused(17);
-        tell(b"fees: tariff: the file is longer than 4095 bytes\n");
+        tell(b"fees: tariff: the file is longer than ");
+        tell_number((TARIFF_ROOM - 1) as u64);
+        tell(b" bytes\n");
         return;
     }
     with_tariff(&text[..n], stretch);

@@ -119,14 +119,17 @@ fn put_entries(
     next
 }
 
+// The most that the two bytes of a record's count say.
+const MOST_COUNT: u32 = 65535;
+
 // How many entries a record of these fields has.
-fn entry_count(f: Fields) -> u32
+pub fn entry_count(f: Fields) -> u32
     ensures { λ r. ⌜ r ≡ entryCount f ⌝ }
 {
-    if f.reads > 65535 {
+    if f.reads > MOST_COUNT {
         return 0;
     }
-    if f.writes > 65535 {
+    if f.writes > MOST_COUNT {
         return 0;
     }
     f.reads + f.writes

@@ -73,6 +73,9 @@ fn minus(x: i64) -> i64
     -x
 }
 
+// How far the lowest number is from 0.
+const LOWEST: u64 = 9223372036854775808;
+
 // How far from 0. The lowest number has no opposite.
 pub fn magnitude(x: i64) -> u64
     ensures { λ r. ⌜ r ≡ natAbs x ⌝ }
@@ -81,7 +84,7 @@ pub fn magnitude(x: i64) -> u64
         return natural(x);
     }
     if x < -9223372036854775807 {
-        return 9223372036854775808;
+        return LOWEST;
     }
     natural(minus(x))
 }

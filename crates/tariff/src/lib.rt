@@ -113,11 +113,14 @@ pub enum Cents {
     Beyond,
 }
 
+// The high word of the greatest number that is below 2^63 cents: above it nothing fits.
+const HIGH: u64 = 49999;
+
 // Hundred-thousandths of a cent, rounded to cents, a half up.
 fn rounded(x: Wide) -> Cents
     ensures { λ r. ⌜ r ≡ centsOf (words (x .hi) (x .lo)) ⌝ }
 {
-    if 49999 < x.hi {
+    if HIGH < x.hi {
         return Cents::Beyond;
     }
     let high = x.hi * 4294967296 + x.lo / 4294967296;

@@ -29,6 +29,9 @@ fn long(b: u8) -> u64
     b as u64
 }
 
+// A tenth of 2^63 - 1: with one digit more a number above it is beyond.
+const TENTH: u64 = 922337203685477580;
+
 // The number that a word of digits is, to 2^63 - 1.
 fn count_of(word: &[u8]) -> Count
     ensures { λ r. ⌜ r ≡ countOf (now (word .entry)) ⌝ }
@@ -43,7 +46,7 @@ fn count_of(word: &[u8]) -> Count
         if !is_digit(b) {
             return Count::Nothing;
         }
-        if 922337203685477580 < n {
+        if TENTH < n {
             return Count::Nothing;
         }
         n = n * 10 + (long(b) - 48);

@@ -8,11 +8,14 @@ ghost use Rattle.replay.specs.Replay.{addressFrom, addressAt};
 ghost use Rattle.totals.specs.Totals.{oneMore, countedTo, counted};
 ghost use Rattle.totals.specs.Table.{heading, counterLine, atLine, missingLine, longestMessage};
 
+// The most that a count says.
+const MOST: u64 = 18446744073709551615;
+
 // One more, where that fits.
 fn one_more(n: u64) -> u64
     ensures { λ r. ⌜ r ≡ oneMore n ⌝ }
 {
-    if n < 18446744073709551615 {
+    if n < MOST {
         return n + 1;
     }
     n

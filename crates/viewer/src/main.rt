@@ -21,6 +21,9 @@ const LINE: usize = 16384;
 
 const CLOSING: usize = 64;
 
+// What the two bytes of a record's count can say.
+const SIZES: u64 = 65536;
+
 // What is asked for.
 const COUNTS: u8 = 1;
 
@@ -178,8 +181,8 @@ fn put_entry(line: &mut [u8], at: usize, part: &[u8], entries: u32, i: u32, read
 
 // The line of a record: its numbers, and each entry, reads first.
 fn service_line(line: &mut [u8], part: &[u8], fields: &[u64; readers::SERVICE]) -> usize {
-    let reads = (fields[readers::READS] % 65536) as u32;
-    let writes = (fields[readers::WRITES] % 65536) as u32;
+    let reads = (fields[readers::READS] % SIZES) as u32;
+    let writes = (fields[readers::WRITES] % SIZES) as u32;
     let at = put_number(line, 0, fields[readers::COMMIT]);
     let at = put_column(line, at, fields[readers::STATION]);
     let at = put_column(line, at, fields[readers::KIND]);

@@ -3,6 +3,9 @@ ghost use mathlib.Core.Path.{_≡_};
 ghost use Prim.Native.Nat.{_+_, _*_, _<_, _≤_};
 ghost use Rattle.wide.specs.Wide.{words};
 
+// The most that a word says.
+const MOST: u64 = 18446744073709551615;
+
 pub struct Wide {
     pub hi: u64,
     pub lo: u64,
@@ -25,7 +28,7 @@ pub fn add(a: Wide, b: Wide) -> Wide
     requires { ⌜ a .hi + b .hi < 18446744073709551615 ⌝ }
     ensures { λ r. ⌜ (words (r .hi) (r .lo) ≡ words (a .hi) (a .lo) + words (b .hi) (b .lo)) × (r .hi ≤ a .hi + b .hi + 1) ⌝ }
 {
-    let room = 18446744073709551615 - a.lo;
+    let room = MOST - a.lo;
     if room < b.lo {
         return Wide {
             hi: a.hi + b.hi + 1,

@@ -10,8 +10,8 @@ Inv-loop input marks₀ k at i₀ marks i = (0 ≤ i)
 abbrev μ-loop : tie.MeasureT-loop
 μ-loop input marks₀ k at i₀ marks i = k - i
 
-entries-of-requires : tie.Need-entries-of-requires Inv-loop μ-loop
-entries-of-requires c κs = search needs
+entry-count-requires : tie.Need-entry-count-requires Inv-loop μ-loop
+entry-count-requires c κs = search needs
 
 loop-holds : tie.Need-loop-holds Inv-loop μ-loop
 loop-holds c = search needs
@@ -37,7 +37,7 @@ mark-writes-spec =
     (tie.spec
     Inv-loop
     μ-loop
-    entries-of-requires
+    entry-count-requires
     loop-holds
     mark-entry-requires
     add-i
