@@ -30,7 +30,7 @@ use Rattle.station_state.specs.Layout.{number, cached, whole, locks, unavailabl
 use Rattle.station_answer.specs.declared.Answer.the-variants.{Aborted}
 use Rattle.station_answer.specs.Did.{Did}
 use Rattle.station_owner.specs.Owner.{unlessB, checkBeginB, openThenB, checkOpenB, longReadB, longWriteB, checkReadB, badSetB, checkWriteB, checkPurgeB, ownBeginB, readRequestB, writeRequestB, shownB, readLocalB, readAskB, readHereB, readAsB, ownReadB, atHandB, namedB, askB, writeAskB, writeAsB, ownWriteSetB, abortsB, ownAbortB, ownPurgeB}
-use Rattle.station_owner.specs.Facts.{lowest-lt}
+use Rattle.cells.specs.Lowest.{low-lt}
 use Rattle.station_meaning.specs.Meant.{given, Is}
 use Rattle.station_meaning.specs.Tests.{has-if, bit-of, given-has, given-at, some-given, station-at, kind-at, number-at, number-lt, open-at, waiting-at, requested-at, cached-at, whole-at, lock-at, keptWhole-at, unav-at, read-at, wrote-at, copy-at, usedPage-at}
 use Rattle.station_meaning.specs.Counts.{writtenWith-at}
@@ -311,7 +311,7 @@ module _ {i : ℕ} {s : List ℕ} {m : Station} (h : Is i s m) (q : Sound i m) w
     unfolding askB
     asks-read lx z o =
         let y : ℕ = namedB p x s in
-        let low : trailingZeros 8 y < 8 = lowest-lt 8 y (namedB-lt p x lx) z in
+        let low : trailingZeros 8 y < 8 = low-lt 8 y (namedB-lt p x lx) z in
         rw (kind-at h, ← named-is, lowest-named lx z)
         (byB (locking (m .kind)) (λ e. rw e (request-write p y l z (namedB-lt p x lx) o)) (λ e. rw e (request-read (p * 8 + trailingZeros 8 y) (omega (arith, low)) o)))
 

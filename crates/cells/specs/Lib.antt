@@ -3,6 +3,7 @@ pub mod Upd
 pub mod Num
 pub mod Le
 pub mod Bits
+pub mod Lowest
 pub mod Cells
 pub mod Sets
 pub mod Tells

@@ -1,28 +1,33 @@
 -- What is stored into a message that stands in lent bytes.
-use Prim.Native.Nat.{ℕ, zero, suc, _+_, _-_, _/_, _%_, _≤_, _<_}
+use Prim.Native.Nat.{ℕ, zero, suc, _+_, _*_, _-_, _/_, _%_, _≤_, _<_}
 use mathlib.Core.Path.{_≡_, refl, ap, _∙_}
 use mathlib.Core.List.{List, [], _∷_, _++_, append-assoc, append-nil}
 use native.Mathlib.Omega.{arith}
-use lib.ListN.{length, take, drop, set, replicate, length-take, length-drop, length-set, length-append}
+use lib.ListN.{length, take, drop, set, replicate, length-drop, length-set, length-append}
 use lib.Seq.{sets, sets-eq, set-set, length-take-le, take-all}
-use Rattle.lists.specs.Stores.{copy-whole, put-part, sets-join, sets-front}
-use Rattle.le.specs.Width.{bytes}
+use Rattle.lists.specs.Parts.{part-join}
+use Rattle.lists.specs.Stores.{sets-join, sets-front}
+use Rattle.le.specs.Le.{u64At, setU64}
+use Rattle.le.specs.Laws.{u64At-is}
+use Rattle.le.specs.Width.{bytes, bytes-numAt}
+use Rattle.cells.specs.Num.{AllBytes, bytes-all}
+use Rattle.cells.specs.Le.{setU64-is}
 use Rattle.message.specs.Layout.{setsFrom, setsLength, valuesFrom, pageVersionsFrom as pageVersionsAt, behindLength, messageLength, message, single}
 use Rattle.message.specs.Stores.{length-message}
 use Rattle.set_record.specs.Filled.{one-first}
 use Rattle.server_state.specs.Layout.{pageRow, pageVersionRow, setRow, pageValuesFrom, pageVersionsFrom, serverLength, latestOf, writtenSetFrom}
 use Rattle.server_actions.specs.Actions.{plain, pageB, writtenSets, callbackB, invalidateB}
 
--- a copy out of one list into a part of another
-pub copied-in : (s o : List ℕ) (from at n k l : ℕ) {x : List ℕ} → k ≡ n → l ≡ n → from + n ≤ length s → at + n ≤ length o
-    → x ≡ take (length (take k (drop from s))) (take k (drop from s)) ++ drop (length (take k (drop from s))) (take l (drop at o))
-    → take at o ++ (x ++ drop l (drop at o)) ≡ sets o at (take n (drop from s))
-copied-in s o from at n k l {x} ek el hs ho ex =
-    let p = take n (drop from s) in
-    let lp : length p ≡ n = rw (length-take, length-drop) (omega arith) in
-    let lt : length (take l (drop at o)) ≡ n = rw (length-take, length-drop) (omega arith) in
-    let whole : x ≡ p = ex ∙ rw ek (copy-whole p (take l (drop at o)) (omega arith)) in
-    put-part p x o at l whole (omega arith) (omega arith)
+part-length : (s : List ℕ) (at n : ℕ) → at + n ≤ length s → length (take n (drop at s)) ≡ n
+part-length s at n l = length-take-le n (drop at s) (rw length-drop (omega arith))
+
+-- a turn of a copy by words
+pub word-copied : (s o : List ℕ) (from at k : ℕ) {x y : List ℕ} → AllBytes s → from + (k + 1) * 8 ≤ length s → x ≡ sets o at (take (k * 8) (drop from s))
+    → y ≡ setU64 x (at + k * 8) (u64At s (from + k * 8)) → y ≡ sets o at (take ((k + 1) * 8) (drop from s))
+word-copied s o from at k all fits ex ey =
+    let next : (k + 1) * 8 ≡ k * 8 + 8 = omega arith in
+    rw (ey, setU64-is, u64At-is, bytes-numAt 8 s (from + k * 8) (bytes-all s all) (omega arith), ex, next, part-join (k * 8) 8 from s)
+    (sets-join (take (k * 8) (drop from s)) (take 8 (drop (from + k * 8) s)) o at (at + k * 8) (rw (part-length s from (k * 8) (omega arith))))
 
 -- stores that fall into a run are stores of the run
 set-over : (x s : List ℕ) (a b k v : ℕ) → b ≡ a + k → k + 1 ≤ length x → set (sets s a x) b v ≡ sets s a (set x k v)
@@ -65,9 +70,6 @@ module _ (kind station page object transaction version : ℕ) (o : List ℕ) (at
   sets-stores x h e₁ e₂ =
       let len : length bare ≡ messageLength = length-message kind station page object transaction 0 version (replicate setsLength 0) (replicate behindLength 0) in
       rw (e₂, e₁) (sets-over x bare o at (at + setsFrom) setsFrom refl (omega arith) ∙ ap (sets o at) (sets-are x h))
-
-part-length : (s : List ℕ) (at n : ℕ) → at + n ≤ length s → length (take n (drop at s)) ≡ n
-part-length s at n l = length-take-le n (drop at s) (rw length-drop (omega arith))
 
 module _ (s o : List ℕ) (at : ℕ) (len : length s ≡ serverLength) where
   pub page-put : (kind i a u : ℕ) → a < 256 → {t : ℕ} {o₁ o₂ o₃ o₄ : List ℕ} → t ≡ latestOf s i

@@ -25,6 +25,15 @@ use server_state::WRITTEN_VALUE;
 use station_state::NUMBER_WIDTH;
 use station_state::SET_ROW;
 
+// The bytes of a word, and the words of what is copied.
+const WORD: usize = 8;
+
+const SET_WORDS: usize = SET_ROW / WORD;
+
+const PAGE_WORDS: usize = PAGE_ROW / WORD;
+
+const PAGE_VERSION_WORDS: usize = PAGE_VERSION_ROW / WORD;
+
 // How many messages stand in o, and how many bytes of records in q.
 pub struct Counts {
     pub messages: usize,
@@ -42,14 +51,17 @@ pub fn one_more(c: Counts) -> Counts
     }
 }
 
-// The n bytes of s from `from` go to o, from `at` on.
-fn copy_in(o: &mut [u8], at: usize, s: &[u8], from: usize, n: usize)
-    requires { ⌜ (at + n ≤ length (now o)) × (from + n ≤ length (now s)) ⌝ }
-    ensures { λ _. ⌜ now (o .exit) ≡ sets (now (o .entry)) at (take n (drop from (now (s .entry)))) ⌝ }
+// The words of s from `from` go to o, from `at` on. A copy of bytes whose count is known would be compiled to single bytes.
+fn copy_in(o: &mut [u8], at: usize, s: &[u8], from: usize, words: usize)
+    requires { ⌜ (at + words * 8 ≤ length (now o)) × (from + words * 8 ≤ length (now s)) ⌝ }
+    ensures { λ _. ⌜ now (o .exit) ≡ sets (now (o .entry)) at (take (words * 8) (drop from (now (s .entry)))) ⌝ }
 {
-    let e = from + n;
-    let f = at + n;
-    bytes::copy(&s[from..e], &mut o[at..f]);
+    let mut k = 0;
+    while k < words {
+        let v = le::get_u64(s, from + k * WORD);
+        le::put_u64(o, at + k * WORD, v);
+        k += 1;
+    }
 }
 
 // 16, 17 or 18 with the page of address a.
@@ -61,13 +73,13 @@ fn put_page(o: &mut [u8], at: usize, s: &[u8], kind: u8, i: usize, a: usize, u: 
     let t = server_state::latest(s, i);
     message::put_message(o, at, kind, i as u8, p as u8, (a % 8) as u8, t, 0, 0);
     le::put_u8(o, at + message::SETS, u);
-    copy_in(o, at + message::VALUES, s, VALUE + p * PAGE_ROW, PAGE_ROW);
+    copy_in(o, at + message::VALUES, s, VALUE + p * PAGE_ROW, PAGE_WORDS);
     copy_in(
         o,
         at + message::PAGE_VERSIONS,
         s,
         VERSION + p * PAGE_VERSION_ROW,
-        PAGE_VERSION_ROW,
+        PAGE_VERSION_WORDS,
     );
 }
 
@@ -78,7 +90,13 @@ pub fn put_callback(o: &mut [u8], at: usize, s: &[u8], j: usize, i: usize)
 {
     let t = server_state::latest(s, i);
     message::put_message(o, at, 20, j as u8, i as u8, 0, t, 0, 0);
-    copy_in(o, at + message::SETS, s, WRITTEN_SET + i * SET_ROW, SET_ROW);
+    copy_in(
+        o,
+        at + message::SETS,
+        s,
+        WRITTEN_SET + i * SET_ROW,
+        SET_WORDS,
+    );
 }
 
 // Sends the page of address a to station i, which is listed for it from now on.
@@ -119,7 +137,7 @@ fn inform(s: &mut [u8], o: &mut [u8], q: &mut [u8], c: Counts, w: u8, y: &[u8], 
 {
     if station_state::has_bit8(w, j) {
         message::put_message(o, c.messages * MESSAGE, 23, j as u8, 0, 0, 0, 0, 0);
-        copy_in(o, c.messages * MESSAGE + message::SETS, y, 0, SET_ROW);
+        copy_in(o, c.messages * MESSAGE + message::SETS, y, 0, SET_WORDS);
         return one_more(c);
     }
     c
@@ -199,7 +217,7 @@ pub fn install(s: &mut [u8], o: &mut [u8], q: &mut [u8], c: Counts, i: usize) ->
     let d = server_sets::written_pages(s, i);
     // the entry goes before the first 23
     let mut x = [0u8; SET_ROW];
-    copy_in(&mut x, 0, s, WRITTEN_SET + i * SET_ROW, SET_ROW);
+    copy_in(&mut x, 0, s, WRITTEN_SET + i * SET_ROW, SET_WORDS);
     let b = put_installed(s, o, q, c, i);
     let y = &x[0..SET_ROW];
     inform_all(s, o, q, b, i, d, y)

@@ -3,5 +3,6 @@ pub mod Sane
 pub mod Seats
 pub mod Edges
 pub mod Rounds
+pub mod Idle
 pub mod Calls
 pub mod Goes

@@ -11,6 +11,7 @@ ghost use Rattle.server_pass.specs.Edges.{notedB, Noted};
 ghost use Rattle.server_pass.specs.Rounds.{passedB, brokenB, roundB};
 use server_actions::Counts;
 use server_state::STATIONS;
+use server_state::WANT;
 ghost use Rattle.server_state.specs.Layout.{serverLength};
 
 // The turn of station i, if there is such a station. Who blocks it and what shuts it out is asked for once, and e takes the edges that
@@ -74,7 +75,7 @@ fn break_cycle(s: &mut [u8], o: &mut [u8], q: &mut [u8], c: Counts, e: &[u8]) ->
 }
 
 // A pass; where it rests it changed nothing, and the cycle is looked for in the edges that it met.
-fn round(s: &mut [u8], o: &mut [u8], q: &mut [u8], c: Counts) -> Counts
+fn round_of_waiters(s: &mut [u8], o: &mut [u8], q: &mut [u8], c: Counts) -> Counts
     requires { ⌜ (length (now s) ≡ serverLength) × Sane (now s) × Room (now o) (now q) c (roundB (from (now s))) ⌝ }
     ensures { λ r. ⌜ posted (now (s .exit)) (now (o .exit)) (now (q .exit)) r ≡ post (now (o .entry)) (now (q .entry)) c (roundB (from (now (s .entry)))) ⌝ }
 {
@@ -84,6 +85,17 @@ fn round(s: &mut [u8], o: &mut [u8], q: &mut [u8], c: Counts) -> Counts
         return b;
     }
     break_cycle(s, o, q, b, &e)
+}
+
+// A round. Where nobody waits it changes nothing.
+fn round(s: &mut [u8], o: &mut [u8], q: &mut [u8], c: Counts) -> Counts
+    requires { ⌜ (length (now s) ≡ serverLength) × Sane (now s) × Room (now o) (now q) c (roundB (from (now s))) ⌝ }
+    ensures { λ r. ⌜ posted (now (s .exit)) (now (o .exit)) (now (q .exit)) r ≡ post (now (o .entry)) (now (q .entry)) c (roundB (from (now (s .entry)))) ⌝ }
+{
+    if le::get_u64(s, WANT) == 0 {
+        return c;
+    }
+    round_of_waiters(s, o, q, c)
 }
 
 // Rounds until one sends nothing. That they end is proved, not counted.

@@ -1,7 +1,7 @@
 -- Sets of stations, a bit for each: bit j is set exactly when station j is in the set. The laws are over the state's bytes; over the
 -- server of `line` they are in Sets.antt of server_meaning. Who owes a 7 and who is busy stand in the state as such bytes already.
 -- Who gets 20, who gets 23 and what hinders a whole lock are tests of these bits: `concerned-is`, `informed-is`, `hindered-is`.
-use Prim.Native.Nat.{ℕ, _-_, _^_, _<_}
+use Prim.Native.Nat.{ℕ, zero, suc, _+_, _-_, _*_, _^_, _<_}
 use mathlib.Core.Path.{_≡_, refl, sym, ap, ap₂, _∙_}
 use mathlib.Core.Bool.{Bool, true, false, not, _&&_, _||_, and-comm}
 use mathlib.Core.List.{List}
@@ -10,14 +10,17 @@ use native.Mathlib.Omega.{arith}
 use lib.Dec.{eqb}
 use lib.Bits.{bitAnd, bitOr, and-le-l, and-le-r, or-lt}
 use lib.Pow.{pow-lt}
-use borrow.Author.Tests.{lt-ltb}
+use borrow.Author.Tests.{lt-ltb, ne-eqb}
 use Rattle.sets.specs.Base.{any}
+use Rattle.sets.specs.Laws.{or-no, not-no, eqb-yes}
+use Rattle.le.specs.Le.{u64At}
 use Rattle.cells.specs.Bits.{tb, tb-or, tb-and, tb-pow, tb-not, tb-tells}
 use Rattle.cells.specs.Loops.{any-to, any-same, maskTo, mask-is, mask-lt}
 use Rattle.cells.specs.Pages.{any-bits, any-byte}
 use Rattle.station_state.specs.Layout.{hasBit}
-use Rattle.server_state.specs.Layout.{listedOf, writtenSet, lockingB}
+use Rattle.server_state.specs.Layout.{lockFrom, listedOf, wholeOf, writtenSet, lockingB}
 use Rattle.server_tests.specs.Tests.{lockOnB, concernsAt, concernedB, concernedSet, hindersB, hinderedB, writtenPageB, writtenPagesB, informedB, edgeB, edgeSet}
+use Rattle.server_tests.specs.Shorter.{lock-whole}
 use Rattle.server_tests.specs.Blockers.{bit-is}
 
 -- station j is listed for one of the pages d
@@ -30,7 +33,11 @@ listedSet s d = maskTo (listedB s d) 8
 unfoldable pub lockingSet : List ℕ → ℕ
 lockingSet s = maskTo (lockingB s) 8
 
--- the stations with a lock on page p, whole or on an object
+-- page p has a lock, whole or on an object
+unfoldable pub anyLockB : List ℕ → ℕ → Bool
+anyLockB s p = not (eqb (u64At s (lockFrom + p * 8)) 0) || not (eqb (wholeOf s p) 0)
+
+-- the stations with a lock there
 unfoldable pub lockSet : List ℕ → ℕ → ℕ
 lockSet s p = maskTo (λ j. lockOnB s j p) 8
 
@@ -61,6 +68,21 @@ locking-set s j l = mask-has (lockingB s) j l
 pub lock-set : (s : List ℕ) (p j : ℕ) → j < 8 → hasBit (lockSet s p) j ≡ lockOnB s j p
 unfolding lockSet
 lock-set s p j l = mask-has (λ k. lockOnB s k p) j l
+
+mask-none : (f : ℕ → Bool) (n : ℕ) → ((j : ℕ) → j < n → f j ≡ false) → maskTo f n ≡ 0
+unfolding maskTo
+mask-none f zero h = refl
+mask-none f (suc n) h = rw (mask-none f n (λ j l. h j (omega arith)), h n (omega arith))
+
+-- a page without locks
+pub lock-none : (s : List ℕ) (p : ℕ) → anyLockB s p ≡ false → lockSet s p ≡ 0
+unfolding lockSet anyLockB
+lock-none s p e =
+    let x = u64At s (lockFrom + p * 8) in
+    let n = or-no (not (eqb x 0)) (not (eqb (wholeOf s p) 0)) e in
+    let objects : x ≡ 0 = eqb-yes x 0 (not-no (eqb x 0) (n .0)) in
+    let whole : wholeOf s p ≡ 0 = eqb-yes (wholeOf s p) 0 (not-no (eqb (wholeOf s p) 0) (n .1)) in
+    mask-none (λ j. lockOnB s j p) 8 (λ j l. lock-whole s j p objects ∙ rw (whole, ne-eqb 0 (j + 1) (λ z. omega arith)))
 
 pub writer-set : (s : List ℕ) (p j : ℕ) → j < 8 → hasBit (writerSet s p) j ≡ writtenPageB s j p
 unfolding writerSet

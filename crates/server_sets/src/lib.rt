@@ -7,12 +7,15 @@ ghost use lib.ListN.{length};
 ghost use Rattle.server_state.specs.Layout.{serverLength, pendOf, busyOf};
 ghost use Rattle.server_tests.specs.Tests.{concernedSet, hinderedB, writtenPageB, writtenPagesB, edgeSet};
 ghost use Rattle.server_tests.specs.Blockers.{blockersB};
-ghost use Rattle.server_sets.specs.Sets.{listedB, listedSet, lockingSet, lockSet, writerSet, informedSet};
+ghost use Rattle.server_sets.specs.Sets.{listedB, listedSet, lockingSet, anyLockB, lockSet, writerSet, informedSet};
 use server_state::BUSY;
 use server_state::LISTED;
+use server_state::LOCK;
 use server_state::PEND;
 use server_state::WANT;
+use server_state::WHOLE;
 use server_state::WRITTEN_SET;
+use station_state::OBJECTS;
 use station_state::PAGE_SET_WIDTH;
 use station_state::SET_ROW;
 
@@ -51,11 +54,22 @@ fn locking_set(s: &[u8]) -> u8
     x
 }
 
-// The stations with a lock on page p.
+// Whether somebody has a lock on page p, whole or on an object.
+fn any_lock(s: &[u8], p: usize) -> bool
+    requires { ⌜ (length (now s) ≡ serverLength) × (p < 32) ⌝ }
+    ensures { λ r. ⌜ r ≡ anyLockB (now (s .entry)) p ⌝ }
+{
+    (le::get_u64(s, LOCK + p * OBJECTS) != 0) | (s[WHOLE + p] != 0)
+}
+
+// The stations with a lock on page p. A page without locks is seen at once.
 fn lock_set(s: &[u8], p: usize) -> u8
     requires { ⌜ (length (now s) ≡ serverLength) × (p < 32) ⌝ }
     ensures { λ r. ⌜ r ≡ lockSet (now (s .entry)) p ⌝ }
 {
+    if !any_lock(s, p) {
+        return 0;
+    }
     let mut x: u8 = 0;
     let mut j = 0;
     while j < 8 {

@@ -368,13 +368,18 @@ unfolding holderOk
 no-holder s = refl
 
 -- a page without locks
+object-unlocked : (s : List ℕ) (p o : ℕ) → o < 8 → u64At s (lockFrom + p * 8) ≡ 0 → lockOf s (p * 8 + o) ≡ 0
+object-unlocked s p o l e =
+    let at : lockFrom + (p * 8 + o) ≡ lockFrom + p * 8 + o = omega arith in
+    rw at (zero-eight s (lockFrom + p * 8) o l e)
+
 pub page-unlocked : (s : List ℕ) (p : ℕ) → u64At s (lockFrom + p * 8) ≡ 0 → true ≡ allTo (holderAt s p) 8
 unfolding holderAt
-page-unlocked s p e =
-    sym (allTo-of (holderAt s p) 8
-    (λ o l.
-    let at : lockFrom + (p * 8 + o) ≡ lockFrom + p * 8 + o = omega arith in
-    rw (at, zero-eight s (lockFrom + p * 8) o l e) (sym (no-holder s))))
+page-unlocked s p e = sym (allTo-of (holderAt s p) 8 (λ o l. rw (object-unlocked s p o l e) (sym (no-holder s))))
+
+pub none-beside : (s : List ℕ) (p : ℕ) → u64At s (lockFrom + p * 8) ≡ 0 → true ≡ allTo (besideAt s p) 8
+unfolding besideAt
+none-beside s p e = sym (allTo-of (besideAt s p) 8 (λ o l. rw (object-unlocked s p o l e)))
 
 no-bit : (k : ℕ) → hasBit 0 k ≡ false
 unfolding hasBit

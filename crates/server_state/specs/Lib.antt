@@ -7,3 +7,4 @@ pub mod Facts
 pub mod Eights
 pub mod Sets
 pub mod Pages
+pub mod Members

@@ -376,15 +376,16 @@ fn owes_at(s: &[u8], i: usize, j: usize) -> bool
     !station_state::has_bit8(s[PEND + i], j) | ((j != i) & locking(s, j))
 }
 
+// Those who owe a 7 are looked at, the lowest first, and nobody else.
 fn owes_ok(s: &[u8], i: usize) -> bool
     requires { ⌜ (length (now s) ≡ serverLength) × (i < 8) ⌝ }
     ensures { λ r. ⌜ r ≡ allTo (owesAt (now (s .entry)) i) 8 ⌝ }
 {
     let mut ok = true;
-    let mut j = 0;
-    while j < 8 {
-        ok &= owes_at(s, i, j);
-        j += 1;
+    let mut x = s[PEND + i];
+    while x != 0 {
+        ok &= owes_at(s, i, station_state::lowest8(x));
+        x &= x - 1;
     }
     ok
 }
@@ -452,10 +453,15 @@ fn beside_at(s: &[u8], p: usize, o: usize) -> bool
     (s[LOCK + (p * OBJECTS + o)] == 0) | (s[LOCK + (p * OBJECTS + o)] == s[WHOLE + p])
 }
 
+// A page without locks on objects is passed over.
 fn besides_ok(s: &[u8], p: usize) -> bool
     requires { ⌜ (length (now s) ≡ serverLength) × (p < 32) ⌝ }
     ensures { λ r. ⌜ r ≡ allTo (besideAt (now (s .entry)) p) 8 ⌝ }
 {
+    let locks = le::get_u64(s, LOCK + p * OBJECTS);
+    if locks == 0 {
+        return true;
+    }
     let mut ok = true;
     let mut o = 0;
     while o < 8 {

@@ -64,7 +64,7 @@ join-one f p (suc n) l h =
     ap₂ bitOr (join-one f p n (omega (arith, z)) (λ q k y. h q (omega arith) y)) (h n (omega arith) (λ y. z (sym y))) ∙ or-zero-r (f p))
 
 -- .. and what is false
-any-none : (f : ℕ → Bool) (n : ℕ) → ((q : ℕ) → q < n → f q ≡ false) → anyTo f n ≡ false
+pub any-none : (f : ℕ → Bool) (n : ℕ) → ((q : ℕ) → q < n → f q ≡ false) → anyTo f n ≡ false
 unfolding anyTo
 any-none f zero h = refl
 any-none f (suc n) h = rw (any-none f n (λ q l. h q (omega arith)), h n (omega arith))

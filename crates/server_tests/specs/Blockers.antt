@@ -104,7 +104,7 @@ join-lt f zero h = omega arith
 join-lt f (suc n) h = or-lt 8 (joinTo f n) (f n) (join-lt f n (λ i l. h i (omega arith))) (h n (omega arith))
 
 -- a page on which nothing is wanted need not be looked at
-skip : (x : ℕ) (f r : ℕ → Bool) → ((o : ℕ) → f o ≡ (hasBit x o && r o)) → cond (eqb x 0) false (anyTo f 8) ≡ any 8 f
+pub skip : (x : ℕ) (f r : ℕ → Bool) → ((o : ℕ) → f o ≡ (hasBit x o && r o)) → cond (eqb x 0) false (anyTo f 8) ≡ any 8 f
 skip x f r h =
     byEq x 0
     (λ e. rw e (sym (any-none 8 f (λ o l. h o ∙ rw (eqb-yes x 0 e, bit-is 0 o, tb-zero o)))))
@@ -142,7 +142,7 @@ holder-lt s i p o = go (hasBit (wantedOn s i p) o && otherB (lockOf s (p * 8 + o
     go true = pow-lt {j = 8} (omega arith)
     go false = omega arith
 
-holders-lt : (s : List ℕ) (i p : ℕ) → holdersOn s i p < 256
+pub holders-lt : (s : List ℕ) (i p : ℕ) → holdersOn s i p < 256
 unfolding holdersOn
 holders-lt s i p = go (eqb (u64At s (lockFrom + p * 8)) 0) (eqb (wantedOn s i p) 0)
   where

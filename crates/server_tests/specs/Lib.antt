@@ -5,3 +5,4 @@ pub mod Blockers
 pub mod Shorter
 pub mod Alone
 pub mod Members
+pub mod Groups

@@ -1,83 +1,25 @@
--- The members of a set one by one, the lowest first: as the objects that are wanted of a page are looked at.
-use Prim.Native.Nat.{ℕ, zero, suc, _+_, _-_, _*_, _/_, _%_, _^_, _<_}
+-- The members of a set one by one, the lowest first: as objects of a page and pages of a message are looked at.
+use Prim.Native.Nat.{ℕ, zero, suc, _+_, _-_, _*_, _^_, _<_}
 use mathlib.Core.Path.{_≡_, refl, sym, ap, ap₂, _∙_}
 use mathlib.Core.Logic.{_≢_}
-use mathlib.Core.Bool.{Bool, true, false, not, _&&_, _||_, or-false, or-assoc, false≢true}
+use mathlib.Core.Bool.{Bool, true, false, not, _&&_, _||_, or-false, or-assoc}
 use mathlib.Core.List.{List}
 use native.Mathlib.Nat.{lt-of-le-of-lt}
-use native.Mathlib.Decide.{decLt}
 use native.Mathlib.Omega.{arith}
-use lib.Dec.{eqb, eqb·zero-suc, eqb·suc-zero, eqb·suc-suc}
-use lib.Bits.{bitAnd, bitOr, and-step, and-self, and-le-l, and-le-r, or-lt}
-use lib.Count.{under, trailingZeros}
+use lib.Dec.{eqb}
+use lib.Bits.{bitAnd, bitOr, and-le-l, or-lt}
+use lib.Count.{trailingZeros}
 use borrow.Author.Tests.{ne-eqb}
 use Rattle.sets.specs.Base.{any}
-use Rattle.sets.specs.Laws.{byB, byEq, eqb-same, eqb-yes, eqb-no}
+use Rattle.sets.specs.Laws.{byB, byEq, eqb-same, eqb-yes, eqb-no, any-ext}
 use Rattle.le.specs.Le.{u64At}
-use Rattle.cells.specs.Bits.{tb, tb-zero, tb-or, tb-high, tb-tells}
-use Rattle.cells.specs.Loops.{any-suc, any-same}
-use Rattle.server_state.specs.Layout.{lockFrom, wantedOn}
+use Rattle.cells.specs.Bits.{tb, tb-zero, tb-or, tb-tells}
+use Rattle.cells.specs.Lowest.{low-in, low-lt, rest-is, rest-lt}
+use Rattle.cells.specs.Loops.{anyTo, any-to, any-suc, any-same}
+use Rattle.server_state.specs.Layout.{lockFrom, writtenSet, wantedOn}
+use Rattle.server_tests.specs.Tests.{dropsLockedB, dropsOwnB, lockedAtB, lockedOnB}
 use Rattle.server_tests.specs.Blockers.{joinTo, join-is, join-lt, any-none, bit-is, holderAt, holder-lt, holdersOn}
 use Rattle.server_tests.specs.Alone.{join-none}
-
--- THE LOWEST
-
-low-by : (n x d : ℕ) → x % 2 ≡ d → x ≢ 0 → (x / 2 ≢ 0 → tb (x / 2) (trailingZeros n (x / 2)) ≡ true) → tb x (under d (trailingZeros n (x / 2))) ≡ true
-unfolding tb
-low-by n x zero e z h = h (λ y. z (omega (arith, e, y)))
-low-by n x (suc zero) e z h = rw e refl
-low-by n x (suc (suc d)) e z h = absurd (omega arith)
-
-low-in : (n x : ℕ) → x < 2 ^ n → x ≢ 0 → tb x (trailingZeros n x) ≡ true
-unfolding trailingZeros
-low-in zero x l z = absurd (z (omega arith))
-low-in (suc n) x l z = low-by n x (x % 2) refl z (λ y. low-in n (x / 2) (omega arith) y)
-
-pub low-lt : (n x : ℕ) → x < 2 ^ n → x ≢ 0 → trailingZeros n x < n
-low-lt n x l z = go (decLt (trailingZeros n x) n)
-  where
-    go : Dec (trailingZeros n x < n) → trailingZeros n x < n
-    go (yes q) = q
-    go (no q) = absurd (false≢true (sym (tb-high n (trailingZeros n x) x (omega arith) l) ∙ low-in n x l z))
-
--- x & (x - 1) is x without it
-even : (x : ℕ) → x % 2 ≡ 0 → x ≢ 0 → bitAnd x (x - 1) ≡ bitAnd (x / 2) (x / 2 - 1) * 2
-even x e z =
-    let p : (x - 1) / 2 ≡ x / 2 - 1 = omega (arith, e, z) in
-    let q : (x - 1) % 2 ≡ 1 = omega (arith, e, z) in
-    and-step x (x - 1) ∙ rw (p, q, e) (omega arith)
-
-odd : (x : ℕ) → x % 2 ≡ 1 → bitAnd x (x - 1) ≡ x / 2 * 2
-odd x e =
-    let p : (x - 1) / 2 ≡ x / 2 = omega (arith, e) in
-    let q : (x - 1) % 2 ≡ 0 = omega (arith, e) in
-    and-step x (x - 1) ∙ rw (p, q, e, and-self (x / 2)) (omega arith)
-
-rest-by : (n x d o : ℕ) → x % 2 ≡ d → x ≢ 0
-    → ((k : ℕ) → x / 2 ≢ 0 → tb (bitAnd (x / 2) (x / 2 - 1)) k ≡ (not (eqb k (trailingZeros n (x / 2))) && tb (x / 2) k))
-    → tb (bitAnd x (x - 1)) o ≡ (not (eqb o (under d (trailingZeros n (x / 2)))) && tb x o)
-unfolding tb
-rest-by n x zero zero e z h =
-    let m : bitAnd x (x - 1) % 2 ≡ 0 = omega (arith, even x e z) in
-    rw (m, e, eqb·zero-suc (trailingZeros n (x / 2))) refl
-rest-by n x zero (suc o) e z h =
-    let m : bitAnd x (x - 1) / 2 ≡ bitAnd (x / 2) (x / 2 - 1) = omega (arith, even x e z) in
-    rw (m, eqb·suc-suc o (trailingZeros n (x / 2))) (h o (λ y. z (omega (arith, e, y))))
-rest-by n x (suc zero) zero e z h =
-    let m : bitAnd x (x - 1) % 2 ≡ 0 = omega (arith, odd x e) in
-    rw m refl
-rest-by n x (suc zero) (suc o) e z h =
-    let m : bitAnd x (x - 1) / 2 ≡ x / 2 = omega (arith, odd x e) in
-    rw (m, eqb·suc-zero o) refl
-rest-by n x (suc (suc d)) o e z h = absurd (omega arith)
-
-rest-is : (n x : ℕ) → x < 2 ^ n → x ≢ 0 → (o : ℕ) → tb (bitAnd x (x - 1)) o ≡ (not (eqb o (trailingZeros n x)) && tb x o)
-unfolding trailingZeros
-rest-is zero x l z o = absurd (z (omega arith))
-rest-is (suc n) x l z o = rest-by n x (x % 2) o refl z (λ k y. rest-is n (x / 2) (omega arith) y k)
-
-pub rest-less : (x : ℕ) → x ≢ 0 → bitAnd x (x - 1) < x
-rest-less x z = omega (arith, z, and-le-r x (x - 1))
 
 -- one of many, and the others
 any-out : (n k : ℕ) (g : ℕ → Bool) → k < n → any n g ≡ (g k || any n (λ o. not (eqb o k) && g o))
@@ -101,35 +43,84 @@ any-out (suc n) k g l =
 
 -- WHAT IS LEFT
 
--- d has the sets f of all members, but for those of x
-abbrev pub Left : (ℕ → ℕ) → ℕ → ℕ → Type 0
-Left f x d = (j : ℕ) → tb (joinTo f 8) j ≡ (tb d j || any 8 (λ o. tb x o && tb (f o) j))
+-- r tells whether one of n passes f, but for the members of x
+unfoldable pub LeftB : ℕ → (ℕ → Bool) → ℕ → Bool → Type 0
+LeftB n f x r = any n f ≡ (r || any n (λ o. tb x o && f o))
 
-module _ (f : ℕ → ℕ) where
-  left-all : (x : ℕ) → ((o : ℕ) → o < 8 → tb x o ≡ false → f o ≡ 0) → Left f x 0
-  left-all x h j =
-      join-is f 8 j ∙ rw (tb-zero j)
-      (any-same (λ o. tb (f o) j) (λ o. tb x o && tb (f o) j) 8 (λ o l. byB (tb x o) (λ t. rw t) (λ t. rw (t, h o l t, tb-zero j))))
+module _ (n : ℕ) (f : ℕ → Bool) where
+  within : (x : ℕ) → ((o : ℕ) → tb x o ≡ false → f o ≡ false) → (o : ℕ) → f o ≡ (tb x o && f o)
+  within x h o = byB (tb x o) (λ t. rw t) (λ t. rw (t, h o t))
 
-  pub left-next : (x d : ℕ) → x < 256 → x ≢ 0 → Left f x d → Left f (bitAnd x (x - 1)) (bitOr d (f (trailingZeros 8 x)))
-  left-next x d l z h j =
-      let k = trailingZeros 8 x in
-      let low : (tb x k && tb (f k) j) ≡ tb (f k) j = rw (low-in 8 x l z) refl in
-      let rest : any 8 (λ o. not (eqb o k) && (tb x o && tb (f o) j)) ≡ any 8 (λ o. tb (bitAnd x (x - 1)) o && tb (f o) j) =
-      any-same (λ o. not (eqb o k) && (tb x o && tb (f o) j)) (λ o. tb (bitAnd x (x - 1)) o && tb (f o) j) 8
-      (λ o m. rw (rest-is 8 x l z o) (regroup (not (eqb o k)) (tb x o) (tb (f o) j))) in
-      let out : any 8 (λ o. tb x o && tb (f o) j) ≡ (tb (f k) j || any 8 (λ o. tb (bitAnd x (x - 1)) o && tb (f o) j)) =
-      any-out 8 k (λ o. tb x o && tb (f o) j) (low-lt 8 x l z) ∙ ap₂ (λ a b. a || b) low rest in
-      h j ∙ rw (out, tb-or j d (f k)) (sym (or-assoc (tb d j) (tb (f k) j) (any 8 (λ o. tb (bitAnd x (x - 1)) o && tb (f o) j))))
+  left-all : (x : ℕ) → ((o : ℕ) → tb x o ≡ false → f o ≡ false) → LeftB n f x false
+  unfolding LeftB
+  left-all x h = any-ext n f (λ o. tb x o && f o) (within x h)
+
+  left-next : (x : ℕ) (r : Bool) → x < 2 ^ n → x ≢ 0 → LeftB n f x r → LeftB n f (bitAnd x (x - 1)) (r || f (trailingZeros n x))
+  unfolding LeftB
+  left-next x r l z h =
+      let k = trailingZeros n x in
+      let low : (tb x k && f k) ≡ f k = rw (low-in n x l z) refl in
+      let rest : any n (λ o. not (eqb o k) && (tb x o && f o)) ≡ any n (λ o. tb (bitAnd x (x - 1)) o && f o) =
+      any-ext n (λ o. not (eqb o k) && (tb x o && f o)) (λ o. tb (bitAnd x (x - 1)) o && f o)
+      (λ o. rw (rest-is n x l z o) (regroup (not (eqb o k)) (tb x o) (f o))) in
+      let out : any n (λ o. tb x o && f o) ≡ (f k || any n (λ o. tb (bitAnd x (x - 1)) o && f o)) =
+      any-out n k (λ o. tb x o && f o) (low-lt n x l z) ∙ ap₂ (λ a b. a || b) low rest in
+      h ∙ rw out (sym (or-assoc r (f k) (any n (λ o. tb (bitAnd x (x - 1)) o && f o))))
     where
       regroup : (a b c : Bool) → (a && (b && c)) ≡ ((a && b) && c)
       regroup true b c = refl
       regroup false b c = refl
 
-  left-none : (x d : ℕ) → x ≡ 0 → d < 256 → ((o : ℕ) → f o < 256) → Left f x d → d ≡ joinTo f 8
-  left-none x d z l m h =
-      tb-tells 8 d (joinTo f 8) l (join-lt f 8 (λ o _. m o))
-      (λ j _. sym (h j ∙ ap (λ b. tb d j || b) (any-none 8 (λ o. tb x o && tb (f o) j) (λ o _. rw (z, tb-zero o))) ∙ or-false (tb d j)))
+  left-none : (x : ℕ) (r : Bool) → x ≡ 0 → LeftB n f x r → r ≡ any n f
+  unfolding LeftB
+  left-none x r z h = sym (h ∙ ap (λ b. r || b) (any-none n (λ o. tb x o && f o) (λ o _. rw (z, tb-zero o))) ∙ or-false r)
+
+-- of sets: d has the sets f of all, but for those of the members of x
+abbrev pub Left : (ℕ → ℕ) → ℕ → ℕ → Type 0
+Left f x d = (j : ℕ) → LeftB 8 (λ o. tb (f o) j) x (tb d j)
+
+-- A TEST OF A SET'S MEMBERS
+
+-- f passes none but those of w
+module _ (n : ℕ) (f : ℕ → Bool) (w : ℕ) (h : (o : ℕ) → tb w o ≡ false → f o ≡ false) where
+  tests-first : {x : ℕ} → x ≡ w → LeftB n f x false
+  tests-first e = rw e (left-all n f w h)
+
+  tests-last : {x : ℕ} {r : Bool} → x ≡ 0 → LeftB n f x r → r ≡ anyTo f n
+  tests-last {x} {r} z l = left-none n f x r z l ∙ sym (any-to f f n (λ o _. refl))
+
+pub tests-next : (n : ℕ) (f : ℕ → Bool) (r : Bool) {x k : ℕ} {b : Bool} → x < 2 ^ n → x ≢ 0 → k ≡ trailingZeros n x → b ≡ f k → LeftB n f x r
+    → (bitAnd x (x - 1) < 2 ^ n) × LeftB n f (bitAnd x (x - 1)) (r || b)
+tests-next n f r {x} l z ek eb h = (rest-lt n x l z, rw (eb, ek) (left-next n f x r l z h))
+
+module _ (s : List ℕ) (i p : ℕ) where
+  locked-not : (o : ℕ) → tb (writtenSet s i p) o ≡ false → lockedAtB s i p o ≡ false
+  unfolding lockedAtB
+  locked-not o e = rw (bit-is (writtenSet s i p) o, e)
+
+  pub locked-first : {x : ℕ} → x ≡ writtenSet s i p → LeftB 8 (lockedAtB s i p) x false
+  locked-first = tests-first 8 (lockedAtB s i p) (writtenSet s i p) locked-not
+
+  pub locked-last : {x : ℕ} {r : Bool} → x ≡ 0 → LeftB 8 (lockedAtB s i p) x r → r ≡ lockedOnB s i p
+  unfolding lockedOnB
+  locked-last z l =
+      tests-last 8 (lockedAtB s i p) (writtenSet s i p) locked-not z l
+      ∙ byEq (writtenSet s i p) 0
+      (λ e. rw (e, any-to (lockedAtB s i p) (lockedAtB s i p) 8 (λ o _. refl)) (any-none 8 (lockedAtB s i p) (λ o _. locked-not o (rw (eqb-yes (writtenSet s i p) 0 e) (tb-zero o)))))
+      (λ e. rw e)
+
+-- the pages d, of which i has a lock on one
+module _ (s : List ℕ) (i d : ℕ) where
+  drops-not : (p : ℕ) → tb d p ≡ false → dropsLockedB s i d p ≡ false
+  unfolding dropsLockedB
+  drops-not p e = rw (bit-is d p, e)
+
+  pub drops-first : LeftB 32 (dropsLockedB s i d) d false
+  drops-first = tests-first 32 (dropsLockedB s i d) d drops-not refl
+
+  pub drops-last : {x : ℕ} {r : Bool} → x ≡ 0 → LeftB 32 (dropsLockedB s i d) x r → r ≡ dropsOwnB s i d
+  unfolding dropsOwnB
+  drops-last = tests-last 32 (dropsLockedB s i d) d drops-not
 
 -- THE HOLDERS OF A PAGE
 
@@ -139,20 +130,23 @@ module _ (s : List ℕ) (i p : ℕ) where
   holder-not o e = rw (bit-is (wantedOn s i p) o, e)
 
   pub holders-first : {x : ℕ} → x ≡ wantedOn s i p → Left (holderAt s i p) x 0
-  holders-first e = rw e (left-all (holderAt s i p) (wantedOn s i p) (λ o l. holder-not o))
+  holders-first e j =
+      rw (e, tb-zero j) (left-all 8 (λ o. tb (holderAt s i p o) j) (wantedOn s i p) (λ o t. rw (holder-not o t) (tb-zero j)))
 
   pub holders-next : {x d k r : ℕ} → x < 256 → x ≢ 0 → d < 256 → k ≡ trailingZeros 8 x → r ≡ holderAt s i p k → Left (holderAt s i p) x d
       → (bitAnd x (x - 1) < 256) × (bitOr d r < 256) × Left (holderAt s i p) (bitAnd x (x - 1)) (bitOr d r)
   holders-next {x} {d} l z m ek er h = (
     lt-of-le-of-lt (and-le-l x (x - 1)) l,
     rw er (or-lt 8 d _ m (holder-lt s i p _)),
-    rw (er, ek) (left-next (holderAt s i p) x d l z h),
+    λ j. rw (er, ek, tb-or j d (holderAt s i p (trailingZeros 8 x))) (left-next 8 (λ o. tb (holderAt s i p o) j) x (tb d j) l z (h j)),
   )
 
   pub holders-last : {x d : ℕ} → u64At s (lockFrom + p * 8) ≢ 0 → x ≡ 0 → d < 256 → Left (holderAt s i p) x d → d ≡ holdersOn s i p
   unfolding holdersOn
   holders-last {x} {d} n z l h =
-      left-none (holderAt s i p) x d z l (holder-lt s i p) h ∙ rw (ne-eqb (u64At s (lockFrom + p * 8)) 0 n)
+      tb-tells 8 d (joinTo (holderAt s i p) 8) l (join-lt (holderAt s i p) 8 (λ o _. holder-lt s i p o))
+      (λ j _. left-none 8 (λ o. tb (holderAt s i p o) j) x (tb d j) z (h j) ∙ sym (join-is (holderAt s i p) 8 j))
+      ∙ rw (ne-eqb (u64At s (lockFrom + p * 8)) 0 n)
       (byEq (wantedOn s i p) 0
       (λ e. rw e (join-none (holderAt s i p) 8 (λ o m. holder-not o (rw (eqb-yes (wantedOn s i p) 0 e) (tb-zero o)))))
       (λ e. rw e))

@@ -1,19 +1,21 @@
 -- Questions answered by the bytes of a page at once.
-use Prim.Native.Nat.{ℕ, _+_, _*_, _≤_, _<_}
+use Prim.Native.Nat.{ℕ, _+_, _-_, _*_, _/_, _^_, _≤_, _<_}
 use mathlib.Core.Path.{_≡_, refl, sym, _∙_}
-use mathlib.Core.Bool.{true, false, not, cond, or-false}
+use mathlib.Core.Bool.{true, false, not, cond, _&&_, or-false}
 use mathlib.Core.List.{List}
 use native.Mathlib.Omega.{arith}
+use native.Mathlib.Nat.{lt-of-le-of-lt}
 use lib.Dec.{eqb}
-use borrow.Author.Tests.{ne-eqb}
+use lib.Bits.{bitAnd, and-le-l}
+use borrow.Author.Tests.{ne-eqb, lt-ltb}
 use Rattle.sets.specs.Laws.{byB, eqb-no, and-l, and-r, not-yes}
 use Rattle.le.specs.Le.{u64At}
-use Rattle.cells.specs.Bits.{tb, tb-zero}
-use Rattle.cells.specs.Loops.{anyTo, any-to}
+use Rattle.cells.specs.Bits.{tb, tb-zero, tb-mask, tb-tells}
+use Rattle.cells.specs.Loops.{anyTo, any-to, maskTo, mask-is, mask-lt}
 use Rattle.station_state.specs.Layout.{hasBit}
 use Rattle.server_state.specs.Facts.{zero-eight}
 use Rattle.server_state.specs.Layout.{lockFrom, lockOf, wholeOf, writtenSet, otherB, wantedOn}
-use Rattle.server_tests.specs.Tests.{lockAtB, lockOnB, dropsLockedB, shutB, waitsToWriteB}
+use Rattle.server_tests.specs.Tests.{lockAtB, lockOnB, dropsLockedB, shutB, waitsToWriteB, unavailableAt, unavailableB}
 use Rattle.server_tests.specs.Blockers.{joinTo, join-is, bit-is, any-none}
 
 -- a page without locks on objects
@@ -38,6 +40,20 @@ others-wait s i p o =
   where
     one : (j : ℕ) → waitsToWriteB s i p o j ≡ tb (writtenBy s i p j) o
     one j = byB (eqb j i) (λ e. rw (e, tb-zero o)) (λ e. rw e (bit-is (writtenSet s j p) o))
+
+-- where no object of the page is locked, what others wait to write is unavailable, but for what i wants
+module _ (s : List ℕ) (i a : ℕ) (free : u64At s (lockFrom + a / 8 * 8) ≡ 0) where
+  free-at : (o : ℕ) → o < 8 → unavailableAt s i a o ≡ (not (tb (wantedOn s i (a / 8)) o) && tb (joinTo (writtenBy s i (a / 8)) 8) o)
+  unfolding unavailableAt otherB
+  free-at o l =
+      let place : lockFrom + (a / 8 * 8 + o) ≡ lockFrom + a / 8 * 8 + o = omega arith in
+      rw (place, zero-eight s (lockFrom + a / 8 * 8) o l free, bit-is (wantedOn s i (a / 8)) o, ← others-wait s i (a / 8) o, bit-is (joinTo (writtenBy s i (a / 8)) 8) o) refl
+
+  pub unavailable-free : {w x : ℕ} → w < 2 ^ 8 → x < 2 ^ 8 → w ≡ joinTo (writtenBy s i (a / 8)) 8 → x ≡ wantedOn s i (a / 8) → bitAnd w (2 ^ 8 - 1 - x) ≡ unavailableB s i a
+  unfolding unavailableB
+  unavailable-free {w} {x} lw lx ew ex =
+      tb-tells 8 (bitAnd w (2 ^ 8 - 1 - x)) (maskTo (unavailableAt s i a) 8) (lt-of-le-of-lt (and-le-l w (2 ^ 8 - 1 - x)) lw) (mask-lt (unavailableAt s i a) 8)
+      (λ o l. tb-mask 8 w x o lw lx ∙ sym (mask-is (unavailableAt s i a) 8 o ∙ rw (lt-ltb o 8 l, free-at o l, ew, ex) refl))
 
 -- a page that is not dropped
 pub drops-yes : (s : List ℕ) (i d p : ℕ) → hasBit d p ≡ true → dropsLockedB s i d p ≡ lockOnB s i p

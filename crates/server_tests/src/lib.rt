@@ -13,6 +13,7 @@ ghost use Rattle.server_tests.specs.Tests.{lockAtB, lockOnB, badNumberB,
 ghost use Rattle.server_tests.specs.Shorter.{writtenBy};
 ghost use Rattle.server_tests.specs.Alone.{elsewhereAt, elsewhereB, aloneB, aheadAt, aheadOn};
 ghost use Rattle.server_tests.specs.Blockers.{joinTo, meetOn, meetSet, aheadB, aheadSet, holderAt, holdersOn, holderSet, blockersB};
+ghost use Rattle.server_tests.specs.Groups.{idleIn, staleIn, lockedIn, holdersIn};
 use server_state::LOCK;
 use server_state::PEND;
 use server_state::READ_SET;
@@ -25,6 +26,7 @@ use server_state::WANT;
 use server_state::WHOLE;
 use server_state::WRITTEN_SET;
 use server_state::WRITTEN_VERSION;
+use station_state::GROUP;
 use station_state::NUMBER_WIDTH;
 use station_state::OBJECTS;
 use station_state::SET_ROW;
@@ -54,6 +56,17 @@ fn wanted(s: &[u8], i: usize, p: usize) -> u8
     ensures { λ r. ⌜ r ≡ wantedOn (now (s .entry)) i p ⌝ }
 {
     s[READ_SET + i * SET_ROW + p] | s[WRITTEN_SET + i * SET_ROW + p]
+}
+
+// Whether it wants nothing on the eight pages of group g. A test of each word: joined by `|` the two compile badly.
+fn idle_in(s: &[u8], i: usize, g: usize) -> bool
+    requires { ⌜ (length (now s) ≡ serverLength) × (i < 8) × (g < 4) ⌝ }
+    ensures { λ r. ⌜ r ≡ idleIn (now (s .entry)) i g ⌝ }
+{
+    if le::get_u64(s, READ_SET + i * SET_ROW + g * GROUP) != 0 {
+        return false;
+    }
+    le::get_u64(s, WRITTEN_SET + i * SET_ROW + g * GROUP) == 0
 }
 
 fn lock_at(s: &[u8], i: usize, p: usize, o: usize) -> bool
@@ -137,10 +150,10 @@ fn drops_own(s: &[u8], i: usize, d: u32) -> bool
     ensures { λ r. ⌜ r ≡ dropsOwnB (now (s .entry)) i d ⌝ }
 {
     let mut r = false;
-    let mut p = 0;
-    while p < 32 {
-        r |= drops_locked(s, i, d, p);
-        p += 1;
+    let mut x = d;
+    while x != 0 {
+        r |= drops_locked(s, i, d, station_state::lowest32(x));
+        x &= x - 1;
     }
     r
 }
@@ -229,16 +242,33 @@ fn stale_on(s: &[u8], i: usize, p: usize) -> bool
     r
 }
 
+// Most groups of eight pages are not used, and cost a test.
+fn stale_in(s: &[u8], i: usize, g: usize) -> bool
+    requires { ⌜ (length (now s) ≡ serverLength) × (i < 8) × (g < 4) ⌝ }
+    ensures { λ r. ⌜ r ≡ staleIn (now (s .entry)) i g ⌝ }
+{
+    if idle_in(s, i, g) {
+        return false;
+    }
+    let mut r = false;
+    let mut p = 0;
+    while p < 8 {
+        r |= stale_on(s, i, g * GROUP + p);
+        p += 1;
+    }
+    r
+}
+
 // Whether i's commit used an object at another version.
 fn stale(s: &[u8], i: usize) -> bool
     requires { ⌜ (length (now s) ≡ serverLength) × (i < 8) ⌝ }
     ensures { λ r. ⌜ r ≡ staleB (now (s .entry)) i ⌝ }
 {
     let mut r = false;
-    let mut p = 0;
-    while p < 32 {
-        r |= stale_on(s, i, p);
-        p += 1;
+    let mut g = 0;
+    while g < 4 {
+        r |= stale_in(s, i, g);
+        g += 1;
     }
     r
 }
@@ -251,19 +281,33 @@ fn locked_at(s: &[u8], i: usize, p: usize, o: usize) -> bool
         & server_state::other(s[LOCK + (p * OBJECTS + o)], i)
 }
 
-// Most pages are not written, and cost one test.
+// The objects that are written are looked at, lowest first.
 fn locked_on(s: &[u8], i: usize, p: usize) -> bool
     requires { ⌜ (length (now s) ≡ serverLength) × (i < 8) × (p < 32) ⌝ }
     ensures { λ r. ⌜ r ≡ lockedOnB (now (s .entry)) i p ⌝ }
 {
-    if s[WRITTEN_SET + i * SET_ROW + p] == 0 {
+    let mut x = s[WRITTEN_SET + i * SET_ROW + p];
+    let mut r = false;
+    while x != 0 {
+        r |= locked_at(s, i, p, station_state::lowest8(x));
+        x &= x - 1;
+    }
+    r
+}
+
+// Most groups are not written, and cost a test.
+fn locked_in(s: &[u8], i: usize, g: usize) -> bool
+    requires { ⌜ (length (now s) ≡ serverLength) × (i < 8) × (g < 4) ⌝ }
+    ensures { λ r. ⌜ r ≡ lockedIn (now (s .entry)) i g ⌝ }
+{
+    if le::get_u64(s, WRITTEN_SET + i * SET_ROW + g * GROUP) == 0 {
         return false;
     }
     let mut r = false;
-    let mut o = 0;
-    while o < 8 {
-        r |= locked_at(s, i, p, o);
-        o += 1;
+    let mut p = 0;
+    while p < 8 {
+        r |= locked_on(s, i, g * GROUP + p);
+        p += 1;
     }
     r
 }
@@ -274,10 +318,10 @@ fn locked(s: &[u8], i: usize) -> bool
     ensures { λ r. ⌜ r ≡ lockedB (now (s .entry)) i ⌝ }
 {
     let mut r = false;
-    let mut p = 0;
-    while p < 32 {
-        r |= locked_on(s, i, p);
-        p += 1;
+    let mut g = 0;
+    while g < 4 {
+        r |= locked_in(s, i, g);
+        g += 1;
     }
     r
 }
@@ -365,14 +409,6 @@ fn holder_at(s: &[u8], i: usize, p: usize, o: usize) -> u8
     bit_if(held, (byte(s, LOCK + (p * OBJECTS + o)) + 7) % 8)
 }
 
-// The lowest of the objects x.
-fn lowest(x: u8) -> usize
-    requires { ⌜ x ≢ 0 ⌝ }
-    ensures { λ r. ⌜ (r ≡ trailingZeros 8 x) × (r < 8) ⌝ }
-{
-    u8::trailing_zeros(x) as usize
-}
-
 // Most pages are without locks or not wanted, and cost a test; of the others the objects that are wanted are looked at, lowest first.
 fn holders_on(s: &[u8], i: usize, p: usize) -> u8
     requires { ⌜ (length (now s) ≡ serverLength) × (i < 8) × (p < 32) ⌝ }
@@ -384,8 +420,25 @@ fn holders_on(s: &[u8], i: usize, p: usize) -> u8
     let mut x = wanted(s, i, p);
     let mut d: u8 = 0;
     while x != 0 {
-        d |= holder_at(s, i, p, lowest(x));
+        d |= holder_at(s, i, p, station_state::lowest8(x));
         x &= x - 1;
+    }
+    d
+}
+
+// Most groups are not wanted, and cost a test.
+fn holders_in(s: &[u8], i: usize, g: usize) -> u8
+    requires { ⌜ (length (now s) ≡ serverLength) × (i < 8) × (g < 4) ⌝ }
+    ensures { λ r. ⌜ r ≡ holdersIn (now (s .entry)) i g ⌝ }
+{
+    if idle_in(s, i, g) {
+        return 0;
+    }
+    let mut d: u8 = 0;
+    let mut p = 0;
+    while p < 8 {
+        d |= holders_on(s, i, g * GROUP + p);
+        p += 1;
     }
     d
 }
@@ -395,10 +448,10 @@ fn holder_set(s: &[u8], i: usize) -> u8
     ensures { λ r. ⌜ r ≡ holderSet (now (s .entry)) i ⌝ }
 {
     let mut d: u8 = 0;
-    let mut p = 0;
-    while p < 32 {
-        d |= holders_on(s, i, p);
-        p += 1;
+    let mut g = 0;
+    while g < 4 {
+        d |= holders_in(s, i, g);
+        g += 1;
     }
     d
 }
@@ -560,12 +613,15 @@ fn unavailable_at(s: &[u8], i: usize, a: usize, w: u8, o: usize) -> bool
     !station_state::has_bit8(wanted(s, i, a / OBJECTS), o) & (other | station_state::has_bit8(w, o))
 }
 
-// The unavailable set that goes to i with the page of a: without what it waits for.
+// The unavailable set that goes to i with the page of a: without what it waits for. A page without locks is seen at once.
 pub fn unavailable(s: &[u8], i: usize, a: usize) -> u8
     requires { ⌜ (length (now s) ≡ serverLength) × (i < 8) × (a < 256) ⌝ }
     ensures { λ r. ⌜ r ≡ unavailableB (now (s .entry)) i a ⌝ }
 {
     let w = others_write(s, i, a / 8);
+    if le::get_u64(s, LOCK + a / 8 * OBJECTS) == 0 {
+        return w & !wanted(s, i, a / 8);
+    }
     let mut d: u8 = 0;
     let mut o = 0;
     while o < 8 {

@@ -1,19 +1,26 @@
--- The members of a set page by page and eight pages at a time, so that a page or a group without any is passed over at once.
-use Prim.Native.Nat.{ℕ, zero, suc, _+_, _*_, _/_, _%_, _≤_, _<_}
+-- The members of a set eight pages at a time, the lowest first.
+use Prim.Native.Nat.{ℕ, zero, suc, _+_, _-_, _*_, _/_, _%_, _^_, _≤_, _<_}
 use mathlib.Core.Path.{_≡_, refl, sym, ap, _∙_}
+use mathlib.Core.Logic.{_≢_}
 use mathlib.Core.List.{List}
-use mathlib.Core.Bool.{Bool, false, cond}
+use mathlib.Core.Bool.{Bool, true, false}
 use native.Mathlib.Nat.{add-zero, add-suc}
-use native.Mathlib.Numerals.{add-one}
 use native.Mathlib.Omega.{arith}
-use lib.ListN.{getD}
+use lib.ListN.{set}
+use lib.Dec.{eqb}
+use lib.Bits.{bitAnd}
+use lib.Count.{trailingZeros, trailing-of-zero, trailing-le}
+use borrow.Author.Tests.{ne-eqb}
 use Rattle.le.specs.Le.{u64At}
-use Rattle.cells.specs.Bits.{tb-test, tb-zero}
-use Rattle.cells.specs.Loops.{rank, rank-same}
-use Rattle.station_state.specs.Layout.{hasBit, member}
-use Rattle.station_state.specs.Sets.{eight-bytes}
+use Rattle.le.specs.Laws.{u64At-is}
+use Rattle.cells.specs.Num.{AllBytes, num-lt}
+use Rattle.cells.specs.Bits.{tb}
+use Rattle.cells.specs.Loops.{rank, rank-most}
+use Rattle.station_state.specs.Layout.{member}
+use Rattle.station_state.specs.Sets.{words-members}
 use Rattle.set_record.specs.Record.{Filled, filled}
 use Rattle.set_record.specs.Stores.{entryOne, entriesTo}
+use Rattle.cells.specs.Lowest.{low-in, low-lt, low-below, rest-is, rest-lt, rest-above}
 
 -- whether address b + x is in the set
 abbrev pub memberFrom : List ℕ → ℕ → ℕ → ℕ → Bool
@@ -36,79 +43,6 @@ span-join o s at i b (suc n) =
     let e : i + rank (member s at) (b + n) ≡ i + rank (member s at) b + rank (memberFrom s at b) n = rw (rank-join (member s at) b n) (omega arith) in
     rw (add-suc b n, e, span-join o s at i b n)
 
--- a page without members
-zero-bit : (k : ℕ) → hasBit 0 k ≡ false
-unfolding hasBit
-zero-bit k = tb-test k 0 ∙ tb-zero k
-
-none-there : (s : List ℕ) (at p x : ℕ) → getD s (at + (p * 8 + x) / 8) 0 ≡ 0 → memberFrom s at (p * 8) x ≡ false
-unfolding member
-none-there s at p x e = rw e (zero-bit ((p * 8 + x) % 8))
-
-module _ (s : List ℕ) (at b : ℕ) where
-  none-counted : (n : ℕ) → ((x : ℕ) → x < n → memberFrom s at b x ≡ false) → rank (memberFrom s at b) n ≡ 0
-  unfolding rank
-  none-counted zero h = refl
-  none-counted (suc n) h = rw (none-counted n (λ x l. h x (omega arith)), h n (omega arith)) refl
-
-  none-put : (o : List ℕ) (j n : ℕ) → ((x : ℕ) → x < n → memberFrom s at b x ≡ false) → spanTo o s at j b n ≡ o
-  unfolding spanTo entryOne
-  none-put o j zero h = refl
-  none-put o j (suc n) h = rw (h n (omega arith), none-put o j n (λ x l. h x (omega arith))) refl
-
-  span-empty : (o : List ℕ) (j n : ℕ) → ((x : ℕ) → x < n → memberFrom s at b x ≡ false)
-      → filled o j ≡ filled (spanTo o s at j b n) (j + rank (memberFrom s at b) n)
-  span-empty o j n h =
-      let z : j ≡ j + rank (memberFrom s at b) n = rw (none-counted n h) (omega arith) in
-      rw (none-put o j n h, ← z)
-
-pub page-empty : (o s : List ℕ) (at j p : ℕ) → getD s (at + p) 0 ≡ 0
-    → filled o j ≡ filled (spanTo o s at j (p * 8) 8) (j + rank (memberFrom s at (p * 8)) 8)
-page-empty o s at j p e =
-    span-empty s at (p * 8) o j 8 (λ x l. let page : (p * 8 + x) / 8 ≡ p = omega arith in none-there s at p x (rw page e))
-
-pub group-empty : (o s : List ℕ) (at j g : ℕ) → u64At s (at + g * 8) ≡ 0
-    → filled o j ≡ filled (spanTo o s at j (g * 64) 64) (j + rank (memberFrom s at (g * 64)) 64)
-group-empty o s at j g e =
-    let from : g * 8 * 8 ≡ g * 64 = omega arith in
-    rw from at
-    (span-empty s at (g * 8 * 8) o j 64
-    (λ x l.
-    let page : at + (g * 8 * 8 + x) / 8 ≡ at + g * 8 + x / 8 = omega arith in
-    none-there s at (g * 8) x (rw page (eight-bytes s (at + g * 8) (x / 8) (omega arith) e))))
-
--- a turn of the loop over a page's objects, as `list_address` tells of it
-pub span-turn : (o s : List ℕ) (at i b a : ℕ) {j r : ℕ} {d e : List ℕ} → j ≡ i + rank (memberFrom s at b) a → d ≡ spanTo o s at i b a
-    → filled e r ≡ filled (entryOne d s at j (b + a)) (j + cond (member s at (b + a)) 1 0)
-    → (r ≡ i + rank (memberFrom s at b) (a + 1)) × (e ≡ spanTo o s at i b (a + 1))
-unfolding rank spanTo
-span-turn o s at i b a ej ed h =
-    rw add-one (omega (arith, ap (λ (f : Filled). f .count) h), ap (λ (f : Filled). f .out) h ∙ rw (ej, ed))
-
--- a turn of the loop over a group's pages: the page at c is behind the m addresses passed
-span-rank : (s : List ℕ) (at b m n : ℕ) → rank (memberFrom s at b) (m + n) ≡ rank (memberFrom s at b) m + rank (memberFrom s at (b + m)) n
-span-rank s at b m n =
-    rank-join (memberFrom s at b) m n
-    ∙ ap (λ (k : ℕ). rank (memberFrom s at b) m + k)
-    (rank-same (λ x. memberFrom s at b (m + x)) (memberFrom s at (b + m)) n (λ x l. let place : b + (m + x) ≡ b + m + x = omega arith in ap (member s at) place))
-
-span-more : (o s : List ℕ) (at i b m n : ℕ) → spanTo o s at i b (m + n) ≡ spanTo (spanTo o s at i b m) s at (i + rank (memberFrom s at b) m) (b + m) n
-unfolding spanTo
-span-more o s at i b m zero = rw (add-zero m) refl
-span-more o s at i b m (suc n) =
-    let place : b + (m + n) ≡ b + m + n = omega arith in
-    let e : i + rank (memberFrom s at b) (m + n) ≡ i + rank (memberFrom s at b) m + rank (memberFrom s at (b + m)) n = rw (span-rank s at b m n) (omega arith) in
-    rw (add-suc m n, e, place, span-more o s at i b m n)
-
-pub group-turn : (o s : List ℕ) (at i b m c k : ℕ) {j r : ℕ} {d e : List ℕ} → j ≡ i + rank (memberFrom s at b) m → d ≡ spanTo o s at i b m
-    → filled e r ≡ filled (spanTo d s at j c 8) (j + rank (memberFrom s at c) 8) → c ≡ b + m → k ≡ m + 8
-    → (r ≡ i + rank (memberFrom s at b) k) × (e ≡ spanTo o s at i b k)
-group-turn o s at i b m c k {j} {r} {d} {e} ej ed h ec ek =
-    rw ek (
-      ap (λ (f : Filled). f .count) h ∙ rw (span-rank s at b m 8, ej, ec) (omega arith),
-      ap (λ (f : Filled). f .out) h ∙ rw (ej, ed, ec) (sym (span-more o s at i b m 8)),
-    )
-
 -- a turn of the loop over the groups
 pub groups-turn : (o s : List ℕ) (at i g : ℕ) {j r : ℕ} {d e : List ℕ} → j ≡ i + rank (member s at) (g * 64) → d ≡ entriesTo o s at i (g * 64)
     → filled e r ≡ filled (spanTo d s at j (g * 64) 64) (j + rank (memberFrom s at (g * 64)) 64)
@@ -120,7 +54,61 @@ groups-turn o s at i g {j} {r} {d} {e} ej ed h =
       ap (λ (f : Filled). f .out) h ∙ rw (ej, ed) (sym (span-join o s at i (g * 64) 64)),
     )
 
--- all objects of the page, or of the group, are passed
-pub span-all : (o s : List ℕ) (at i b n k : ℕ) {j : ℕ} {d : List ℕ} → j ≡ i + rank (memberFrom s at b) n → d ≡ spanTo o s at i b n → n ≡ k
-    → filled d j ≡ filled (spanTo o s at i b k) (i + rank (memberFrom s at b) k)
-span-all o s at i b n k ej ed e = rw (ej, ed, e)
+-- THE MEMBERS OF A WORD
+
+module _ (o s : List ℕ) (at i b : ℕ) where
+  -- the d addresses behind the first m are none
+  skip-put : (m d : ℕ) → ((k : ℕ) → m ≤ k → k < m + d → memberFrom s at b k ≡ false) → spanTo o s at i b (m + d) ≡ spanTo o s at i b m
+  unfolding spanTo entryOne
+  skip-put m zero h = rw (add-zero m) refl
+  skip-put m (suc d) h = rw (add-suc m d, h (m + d) (omega arith) (omega arith)) (skip-put m d (λ k l q. h k l (omega arith)))
+
+  skip-counted : (m d : ℕ) → ((k : ℕ) → m ≤ k → k < m + d → memberFrom s at b k ≡ false) → rank (memberFrom s at b) (m + d) ≡ rank (memberFrom s at b) m
+  unfolding rank
+  skip-counted m zero h = rw (add-zero m) refl
+  skip-counted m (suc d) h = rw (add-suc m d, h (m + d) (omega arith) (omega arith)) (omega (arith, skip-counted m d (λ k l q. h k l (omega arith))))
+
+  -- x has the members from its lowest on; those below it are listed, and j is the next entry
+  abbrev pub Scanned : ℕ → List ℕ → ℕ → Type 0
+  Scanned x list j =
+      (x < 2 ^ 64) × ((k : ℕ) → trailingZeros 64 x ≤ k → k < 64 → memberFrom s at b k ≡ tb x k)
+      × (j ≡ i + rank (memberFrom s at b) (trailingZeros 64 x)) × (list ≡ spanTo o s at i b (trailingZeros 64 x))
+
+  scan-from : (m d x : ℕ) → m + d ≡ trailingZeros 64 x → x < 2 ^ 64 → ((k : ℕ) → m ≤ k → k < 64 → memberFrom s at b k ≡ tb x k)
+      → {list : List ℕ} {j : ℕ} → j ≡ i + rank (memberFrom s at b) m → list ≡ spanTo o s at i b m → Scanned x list j
+  scan-from m d x t l h ej el =
+      let none : (k : ℕ) → m ≤ k → k < m + d → memberFrom s at b k ≡ false = λ k p q. h k p (omega (arith, trailing-le 64 x, t, q)) ∙ low-below 64 x k (omega (arith, t, q)) in
+      (l, λ k p q. h k (omega (arith, t, p)) q, ej ∙ rw (← t, skip-counted m d none) refl, el ∙ rw (← t, skip-put m d none) refl)
+
+  -- the lowest member left is listed
+  pub scan-next : {x a : ℕ} {list e : List ℕ} {j : ℕ} → x ≢ 0 → Scanned x list j → a ≡ b + trailingZeros 64 x → e ≡ set list j a → Scanned (bitAnd x (x - 1)) e (j + 1)
+  unfolding spanTo entryOne rank
+  scan-next {x} z h ea ee =
+      let m = trailingZeros 64 x in
+      let y = bitAnd x (x - 1) in
+      let up : m < trailingZeros 64 y = rest-above 64 x (h .0) z in
+      let here : memberFrom s at b m ≡ true = h .1 m (omega arith) (low-lt 64 x (h .0) z) ∙ low-in 64 x (h .0) z in
+      let left : (k : ℕ) → suc m ≤ k → k < 64 → memberFrom s at b k ≡ tb y k =
+      λ k p q. h .1 k (omega arith) q ∙ sym (rest-is 64 x (h .0) z k ∙ rw (ne-eqb k m (λ w. omega (arith, w))) refl) in
+      scan-from (suc m) (trailingZeros 64 y - suc m) y (omega arith) (rest-lt 64 x (h .0) z) left (rw here (omega (arith, h .2))) (ee ∙ rw (here, ea, h .2, h .3) refl)
+
+  pub scan-room : {x : ℕ} {list : List ℕ} {j : ℕ} → x ≢ 0 → Scanned x list j → j < i + 64
+  scan-room {x} z h = omega (arith, h .2, rank-most (memberFrom s at b) (trailingZeros 64 x), low-lt 64 x (h .0) z)
+
+  -- nothing is left
+  pub scan-last : {x : ℕ} {list : List ℕ} {j : ℕ} → x ≡ 0 → Scanned x list j → filled list j ≡ filled (spanTo o s at i b 64) (i + rank (memberFrom s at b) 64)
+  scan-last {x} e h =
+      let all : trailingZeros 64 x ≡ 64 = rw e (trailing-of-zero 64) in
+      rw (h .2, h .3, all)
+
+-- at the start all members of the word are left
+pub scan-first : (o s : List ℕ) (at i g : ℕ) {x : ℕ} → AllBytes s → g < 4 → x ≡ u64At s (at + g * 8) → Scanned o s at i (g * 64) x o i
+unfolding spanTo rank
+scan-first o s at i g {x} bytes l e =
+    let width : x < 2 ^ 64 = rw (e, u64At-is s (at + g * 8)) (num-lt 8 s (at + g * 8) bytes) in
+    scan-from o s at i (g * 64) 0 (trailingZeros 64 x) x (omega arith) width
+    (λ k p q.
+    let word : (g * 64 + k) / 64 ≡ g = omega arith in
+    let bit : (g * 64 + k) % 64 ≡ k = omega arith in
+    words-members s bytes at (λ n. u64At s (at + n * 8)) (λ n m. refl) (g * 64 + k) (omega arith) ∙ rw (word, bit, e) refl)
+    (omega arith) refl

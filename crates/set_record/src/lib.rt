@@ -12,55 +12,22 @@ ghost use Rattle.set_record.specs.Stores.{entryOne, entriesTo, valuesFor
 ghost use Rattle.set_record.specs.Spans.{memberFrom, spanTo};
 ghost use Rattle.layout.specs.Record.{headerLength, valueLength, entryLength, mostEntries, longestRecord, bytesOf};
 use station_state::GROUP;
-use station_state::OBJECTS;
 
 // Room for the addresses of both sets.
 pub const ADDRESSES: usize = 2 * record::MOST as usize;
 
-// Lists address a as entry i, if the set from `at` has it: how many entries there are then.
-fn list_address(list: &mut [u8], s: &[u8], at: usize, i: usize, a: usize) -> usize
-    requires { ⌜ (at + setRow ≤ length (now s)) × (i < length (now list)) × (a < 256) ⌝ }
-    ensures { λ r. ⌜ filled (now (list .exit)) r ≡ filled (entryOne (now (list .entry)) (now (s .entry)) at i a) (i + cond (Layout·member (now (s .entry)) at a) 1 0) ⌝ }
-{
-    if station_state::member(s, at, a) {
-        le::put_u8(list, i, a as u8);
-        return i + 1;
-    }
-    i
-}
-
-// Lists the addresses of page p that the set from `at` has, from entry i on. A page without any is passed over at once.
-fn list_page(list: &mut [u8], s: &[u8], at: usize, i: usize, p: usize) -> usize
-    requires { ⌜ (at + setRow ≤ length (now s)) × (i + 8 ≤ length (now list)) × (p < 32) ⌝ }
-    ensures { λ r. ⌜ filled (now (list .exit)) r ≡ filled (spanTo (now (list .entry)) (now (s .entry)) at i (p * 8) 8) (i + rank (memberFrom (now (s .entry)) at (p * 8)) 8) ⌝ }
-{
-    if s[at + p] == 0 {
-        return i;
-    }
-    let mut j = i;
-    let mut o = 0;
-    while o < 8 {
-        let b = list_address(list, s, at, j, p * OBJECTS + o);
-        j = b;
-        o += 1;
-    }
-    j
-}
-
-// The same of eight pages.
+// Lists the addresses of eight pages that the set from `at` has, from entry i on, lowest first: how many entries there are then.
 fn list_group(list: &mut [u8], s: &[u8], at: usize, i: usize, g: usize) -> usize
     requires { ⌜ (at + setRow ≤ length (now s)) × (i + 64 ≤ length (now list)) × (g < 4) ⌝ }
     ensures { λ r. ⌜ filled (now (list .exit)) r ≡ filled (spanTo (now (list .entry)) (now (s .entry)) at i (g * 64) 64) (i + rank (memberFrom (now (s .entry)) at (g * 64)) 64) ⌝ }
 {
-    if le::get_u64(s, at + g * GROUP) == 0 {
-        return i;
-    }
+    let mut x = le::get_u64(s, at + g * GROUP);
     let mut j = i;
-    let mut p = 0;
-    while p < 8 {
-        let b = list_page(list, s, at, j, g * GROUP + p);
-        j = b;
-        p += 1;
+    while x != 0 {
+        let a = g * 64 + station_state::lowest64(x);
+        le::put_u8(list, j, a as u8);
+        j += 1;
+        x &= x - 1;
     }
     j
 }

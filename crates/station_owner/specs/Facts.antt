@@ -5,9 +5,8 @@ use mathlib.Core.Bool.{Bool, true, false, not, _&&_, _||_, cond}
 use mathlib.Core.Logic.{_≢_}
 use mathlib.Core.List.{List, [], _∷_, append-nil}
 use native.Mathlib.Omega.{arith}
-use native.Mathlib.Nat.{pow-suc}
 use lib.ListN.{length}
-use lib.Count.{ones, under, trailingZeros}
+use lib.Count.{ones}
 use lib.Seq.{sets}
 use lib.Dec.{eqb, ltb, leb}
 use borrow.Author.Tests.{eqb-true, eqb-false, leb-true, eq-eqb, ne-eqb, not-true}
@@ -103,18 +102,6 @@ set-passed p x s e =
 pub write-passed : (p x : ℕ) (s : List ℕ) → checkWriteB p x s ≡ 0 → (p < 32) × (x < 256)
 unfolding checkWriteB
 write-passed p x s e = set-passed p x s ((passed (badSetB p x s) 4 _ (λ q. absurd (omega arith)) e) .0)
-
--- the lowest object of a set that has one
-lowest-by : (k n d : ℕ) → n % 2 ≡ d → n < 2 ^ suc k → n ≢ 0 → (n / 2 < 2 ^ k → n / 2 ≢ 0 → trailingZeros k (n / 2) < k) → under d (trailingZeros k (n / 2)) < suc k
-lowest-by k n zero e l z rest =
-    let half : n / 2 < 2 ^ k = omega (arith, pow-suc 2 k, l) in
-    omega (arith, rest half (λ q. z (omega arith)))
-lowest-by k n (suc d) e l z rest = omega arith
-
-pub lowest-lt : (k n : ℕ) → n < 2 ^ k → n ≢ 0 → trailingZeros k n < k
-unfolding trailingZeros
-lowest-lt zero n l z = absurd (z (omega arith))
-lowest-lt (suc k) n l z = lowest-by k n (n % 2) refl l z (λ h y. lowest-lt k (n / 2) h y)
 
 pub purge-passed : (p : ℕ) (s : List ℕ) → checkPurgeB p s ≡ 0 → p < 32
 unfolding checkPurgeB

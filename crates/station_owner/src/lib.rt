@@ -4,7 +4,6 @@ ghost use mathlib.Core.Logic.{_≢_};
 ghost use Prim.Native.Nat.{_+_, _*_, _≤_, _<_};
 ghost use lib.ListN.{length};
 ghost use lib.Seq.{sets};
-ghost use lib.Count.{trailingZeros};
 ghost use Rattle.station_answer.specs.Did.{said, outcome, delivered, handed};
 ghost use Rattle.station_callbacks.specs.Callbacks.{sends, posted, post};
 ghost use Rattle.station_owner.specs.Owner.{ready as Owner·ready, called, commitCalled, checkOpenB, longReadB, checkReadB, badSetB, checkWriteB, checkPurgeB, readRequestB, shownB, readHereB, atHandB, namedB, askB, abortsB, ownBeginB, readAsB, ownReadB, writeAsB, ownWriteSetB, onlyAt, ownWriteB, ownAbortB, ownPurgeB, atRest, noBegin};
@@ -259,14 +258,6 @@ fn named(p: usize, x: u8, s: &[u8]) -> u8
     x & !at_hand(p, s)
 }
 
-// The lowest object of a set.
-fn lowest(x: u8) -> usize
-    requires { ⌜ x ≢ 0 ⌝ }
-    ensures { λ r. ⌜ (r ≡ trailingZeros 8 x) × (r < 8) ⌝ }
-{
-    u8::trailing_zeros(x) as usize
-}
-
 // Asks for the objects x of page p: a locking station by 2, a validating one by 1.
 fn ask(p: usize, x: u8, s: &[u8], o: &mut [u8])
     requires { ⌜ (length (now s) ≡ stateLength) × (stationRoom ≤ length (now o)) × (p < 32) × (x ≢ 0) ⌝ }
@@ -286,7 +277,7 @@ fn ask(p: usize, x: u8, s: &[u8], o: &mut [u8])
         );
         return;
     }
-    request(p * station_state::OBJECTS + lowest(x), s, o);
+    request(p * station_state::OBJECTS + station_state::lowest8(x), s, o);
 }
 
 fn write_as(p: usize, x: u8, values: &[u64; 8], s: &mut [u8], o: &mut [u8]) -> Said

@@ -3,7 +3,8 @@ ghost use mathlib.Core.Path.{_≡_};
 ghost use mathlib.Core.Bool.{cond};
 ghost use Prim.Native.Nat.{_+_, _*_, _≤_, _<_, _^_};
 ghost use lib.ListN.{length};
-ghost use Rattle.station_pages.specs.Pages.{usedPageB, wrotePageB, usedPagesB, writtenPagesB, usesB, inUseB, dropsB, droppedB, blankTo, unversionTo, dropPageB, dropOneB, dropPagesB, markOneB, markB, arrivesB, arriveTo, arriveVersionsTo, arriveB, versionOneB, versionOnTo, versionPageB, versionsB};
+ghost use Rattle.station_pages.specs.Pages.{usedPageB, wrotePageB, usedPagesB, writtenPagesB, usesB, inUseB, dropsB, droppedB, blankTo, unversionTo, dropPageB, dropPagesB, markOneB, markB, arrivesB, arriveTo, arriveVersionsTo, arriveB, versionOneB, versionOnTo, versionPageB, versionsB};
+ghost use Rattle.station_pages.specs.Groups.{maskFrom};
 ghost use Rattle.station_state.specs.Layout.{setRow, stateLength};
 ghost use Rattle.station_state.specs.Runs.{run};
 ghost use Rattle.message.specs.Layout.{messageLength};
@@ -103,16 +104,33 @@ fn drops(sets: &[u8], s: &[u8], p: usize) -> bool
         & !station_state::kept_whole(s, p)
 }
 
+// Eight pages; where the sets name nothing none is looked at.
+fn dropped_in(sets: &[u8], s: &[u8], g: usize) -> u32
+    requires { ⌜ (length (now s) ≡ stateLength) × (setRow ≤ length (now sets)) × (g < 4) ⌝ }
+    ensures { λ r. ⌜ r ≡ maskFrom (dropsB (now (sets .entry)) (now (s .entry))) (g * 8) 8 ⌝ }
+{
+    if le::get_u64(sets, g * GROUP) == 0 {
+        return 0;
+    }
+    let mut d: u32 = 0;
+    let mut p = 0;
+    while p < 8 {
+        d |= bit_if(drops(sets, s, g * GROUP + p), g * GROUP + p);
+        p += 1;
+    }
+    d
+}
+
 // The pages that a callback of these sets drops.
 pub fn dropped(sets: &[u8], s: &[u8]) -> u32
     requires { ⌜ (length (now s) ≡ stateLength) × (setRow ≤ length (now sets)) ⌝ }
     ensures { λ r. ⌜ r ≡ droppedB (now (sets .entry)) (now (s .entry)) ⌝ }
 {
     let mut d: u32 = 0;
-    let mut p = 0;
-    while p < 32 {
-        d |= bit_if(drops(sets, s, p), p);
-        p += 1;
+    let mut g = 0;
+    while g < 4 {
+        d |= dropped_in(sets, s, g);
+        g += 1;
     }
     d
 }
@@ -150,28 +168,18 @@ fn drop_page(s: &mut [u8], p: usize)
     le::put_u8(s, UNAVAILABLE + p, 0);
 }
 
-fn drop_one(s: &mut [u8], d: u32, p: usize)
-    requires { ⌜ (length (now s) ≡ stateLength) × (p < 32) ⌝ }
-    ensures { λ _. ⌜ now (s .exit) ≡ dropOneB (now (s .entry)) d p ⌝ }
-{
-    if station_state::has_bit32(d, p) {
-        drop_page(s, p);
-        return;
-    }
-}
-
-// Drops the pages of a set: nothing of them is left.
+// Drops the pages of a set, the lowest first: nothing of them is left.
 pub fn drop_pages(s: &mut [u8], d: u32)
     requires { ⌜ length (now s) ≡ stateLength ⌝ }
     ensures { λ _. ⌜ now (s .exit) ≡ dropPagesB d (now (s .entry)) ⌝ }
 {
-    let mut p = 0;
-    while p < 32 {
-        drop_one(s, d, p);
-        p += 1;
+    let mut x = d;
+    while x != 0 {
+        drop_page(s, station_state::lowest32(x));
+        x &= x - 1;
     }
-    let x = station_state::cached(s);
-    le::put_u32(s, CACHED, x & !d);
+    let y = station_state::cached(s);
+    le::put_u32(s, CACHED, y & !d);
 }
 
 fn mark_one(s: &mut [u8], sets: &[u8], p: usize)
@@ -185,15 +193,30 @@ fn mark_one(s: &mut [u8], sets: &[u8], p: usize)
     }
 }
 
+// Eight pages; where the sets name nothing none is looked at.
+fn mark_group(s: &mut [u8], sets: &[u8], g: usize)
+    requires { ⌜ (length (now s) ≡ stateLength) × (setRow ≤ length (now sets)) × (g < 4) ⌝ }
+    ensures { λ _. ⌜ now (s .exit) ≡ run (markOneB (now (sets .entry))) (now (s .entry)) (g * 8) 8 ⌝ }
+{
+    if le::get_u64(sets, g * GROUP) == 0 {
+        return;
+    }
+    let mut p = 0;
+    while p < 8 {
+        mark_one(s, sets, g * GROUP + p);
+        p += 1;
+    }
+}
+
 // Marks the objects of these sets unavailable on the cached pages.
 pub fn mark(s: &mut [u8], sets: &[u8])
     requires { ⌜ (length (now s) ≡ stateLength) × (setRow ≤ length (now sets)) ⌝ }
     ensures { λ _. ⌜ now (s .exit) ≡ markB (now (sets .entry)) (now (s .entry)) ⌝ }
 {
-    let mut p = 0;
-    while p < 32 {
-        mark_one(s, sets, p);
-        p += 1;
+    let mut g = 0;
+    while g < 4 {
+        mark_group(s, sets, g);
+        g += 1;
     }
 }
 

@@ -4,7 +4,7 @@ ghost use mathlib.Core.Path.{_≡_};
 ghost use mathlib.Core.Logic.{_≢_};
 ghost use Prim.Native.Nat.{_+_, _^_, _≤_, _<_};
 ghost use lib.ListN.{length, replicate};
-ghost use lib.Count.{ones};
+ghost use lib.Count.{ones, trailingZeros};
 ghost use Rattle.le.specs.Le.{u64At};
 ghost use Rattle.station_state.specs.Layout.{pageSetWidth, setRow, stateLength, station as Layout·station, opened, hasBit, member as Layout·member, passingWhole, keptWholeB, countIn, writtenWith, noneIn, requestedB, number as Layout·number, cached as Layout·cached, whole as Layout·whole};
 ghost use Rattle.station_state.specs.Valid.{fieldsOk, ownKept, firstOk, setOk, outOk, fewIn, fewWritten, limitedOk, worksOk, locklessOk, holdsOk, valid as Valid·valid, freshened, freshOf, restsOk};
@@ -127,6 +127,28 @@ pub fn has_bit32(x: u32, k: usize) -> bool
     ensures { λ r. ⌜ r ≡ hasBit x k ⌝ }
 {
     x & bit32(k) != 0
+}
+
+// The lowest member of a set, which has one.
+pub fn lowest8(x: u8) -> usize
+    requires { ⌜ x ≢ 0 ⌝ }
+    ensures { λ r. ⌜ (r ≡ trailingZeros 8 x) × (r < 8) ⌝ }
+{
+    u8::trailing_zeros(x) as usize
+}
+
+pub fn lowest32(x: u32) -> usize
+    requires { ⌜ x ≢ 0 ⌝ }
+    ensures { λ r. ⌜ (r ≡ trailingZeros 32 x) × (r < 32) ⌝ }
+{
+    u32::trailing_zeros(x) as usize
+}
+
+pub fn lowest64(x: u64) -> usize
+    requires { ⌜ x ≢ 0 ⌝ }
+    ensures { λ r. ⌜ (r ≡ trailingZeros 64 x) × (r < 64) ⌝ }
+{
+    u64::trailing_zeros(x) as usize
 }
 
 // Whether the object sets from `at` have the address a.

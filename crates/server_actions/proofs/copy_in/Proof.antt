@@ -1,56 +1,71 @@
--- `server_actions::copy_in` meets its contract.
-use Prim.Native.Nat.{_+_, _-_}
+-- `server_actions::copy_in` meets its contract. The loop's invariant: as many words as turns passed are copied.
+use Prim.Native.Nat.{_*_, _-_, _≤_}
+use mathlib.Core.Path.{_≡_}
 use native.Mathlib.Omega.{arith}
-use Rattle.server_actions.specs.Stores.{copied-in}
+use lib.ListN.{length, take, drop}
+use lib.Seq.{sets}
 use borrow.Author.Needs.{needs}
+use Rattle.server_actions.specs.Stores.{word-copied}
 use Rattle.server_actions.proofs.copy_in.Statement.{statement}
 use Rattle.server_actions.proofs.copy_in.Tie as tie
 
-add-e : tie.Need-add-e
-add-e c = search needs
+abbrev Inv-loop : tie.InvT-loop
+Inv-loop o₀ at s from words k₀ o k = (k ≤ words) × (length o ≡ length o₀) × (o ≡ sets o₀ at (take (k * 8) (drop from s)))
 
-add-f : tie.Need-add-f
-add-f c = search needs
+abbrev μ-loop : tie.MeasureT-loop
+μ-loop o₀ at s from words k₀ o k = words - k
 
-sub-copy : tie.Need-sub-copy
-sub-copy c = search needs
+loop-holds : tie.Need-loop-holds Inv-loop μ-loop
+loop-holds c = search needs
 
-part-copy-start : tie.Need-part-copy-start
-part-copy-start c = search needs
+mul-get-u64 : tie.Need-mul-get-u64 Inv-loop μ-loop
+mul-get-u64 c = search needs
 
-part-copy-end : tie.Need-part-copy-end
-part-copy-end c = search needs
+add-get-u64 : tie.Need-add-get-u64 Inv-loop μ-loop
+add-get-u64 c = search needs
 
-sub-copy-2 : tie.Need-sub-copy-2
-sub-copy-2 c = search needs
+get-u64-requires : tie.Need-get-u64-requires Inv-loop μ-loop
+get-u64-requires c κs = search needs
 
-part-copy-start-2 : tie.Need-part-copy-start-2
-part-copy-start-2 c = search needs
+mul-put-u64 : tie.Need-mul-put-u64 Inv-loop μ-loop
+mul-put-u64 c = search needs
 
-part-copy-end-2 : tie.Need-part-copy-end-2
-part-copy-end-2 c = search needs
+add-put-u64 : tie.Need-add-put-u64 Inv-loop μ-loop
+add-put-u64 c = search needs
 
-copy-requires : tie.Need-copy-requires
-copy-requires c κs = search needs
+put-u64-requires : tie.Need-put-u64-requires Inv-loop μ-loop
+put-u64-requires c κs = search needs
 
-same-length : tie.Need-same-length
+add-k : tie.Need-add-k Inv-loop μ-loop
+add-k c = search needs
+
+loop-less : tie.Need-loop-less Inv-loop μ-loop
+loop-less c = search needs
+
+loop-again : tie.Need-loop-again Inv-loop μ-loop
+loop-again c = let a = c .before .before .before .before .before .before .before .before .before .args in (omega arith, search needs, word-copied (a .s .now) (a .o .now) (a .from) (a .at) (c .before .before .before .before .before .before .loop .k) (λ j. omega (arith, c .before .before .before .before .before .before .before .shared-slice-known .given j)) (omega arith) (c .before .before .before .before .before .before .loop .inv .2) (rw (← c .before .before .before .before .get-u64 .ensures) (c .before .before .put-u64 .ensures)))
+
+same-length : tie.Need-same-length Inv-loop μ-loop
 same-length c = search needs
 
-returns : tie.Need-returns
-returns c = let a = c .before .before .before .before .before .before .before .args in copied-in (a .s .now) (a .o .now) (a .from) (a .at) (a .n) (a .from + a .n - a .from) (a .at + a .n - a .at) (omega arith) (omega arith) (c .before .before .before .before .before .before .before .pre .1) (c .before .before .before .before .before .before .before .pre .0) (c .before .before .copy .ensures .1)
+returns : tie.Need-returns Inv-loop μ-loop
+returns c = let all : c .before .loop .k ≡ c .before .before .before .before .args .words = omega arith in rw (← all) (c .before .loop .inv .2)
 
 pub copy-in-spec : {M : Type 1} → statement M
 copy-in-spec =
     tie.close
     (tie.spec
-    add-e
-    add-f
-    sub-copy
-    part-copy-start
-    part-copy-end
-    sub-copy-2
-    part-copy-start-2
-    part-copy-end-2
-    copy-requires
+    Inv-loop
+    μ-loop
+    loop-holds
+    mul-get-u64
+    add-get-u64
+    get-u64-requires
+    mul-put-u64
+    add-put-u64
+    put-u64-requires
+    add-k
+    loop-less
+    loop-again
     same-length
     returns)

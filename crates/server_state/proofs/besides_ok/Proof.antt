@@ -1,6 +1,7 @@
 -- `server_state::besides_ok` meets its contract. The loop's invariant: the answer is the definition's at the count of objects passed.
+use Rattle.server_state.specs.Facts.{none-beside}
+use mathlib.Core.Path.{sym, _≡_, ap, _∙_}
 use Prim.Native.Nat.{_≤_, _-_}
-use mathlib.Core.Path.{_≡_, ap, _∙_}
 use native.Mathlib.Numerals.{add-one}
 use native.Mathlib.Omega.{arith}
 use borrow.Author.Needs.{needs}
@@ -10,10 +11,22 @@ use Rattle.server_state.proofs.besides_ok.Statement.{statement}
 use Rattle.server_state.proofs.besides_ok.Tie as tie
 
 abbrev Inv-loop : tie.InvT-loop
-Inv-loop s p ok₀ o₀ ok o = (o ≤ 8) × (ok ≡ allTo (besideAt s p) o)
+Inv-loop s p locks ok₀ o₀ ok o = (o ≤ 8) × (ok ≡ allTo (besideAt s p) o)
 
 abbrev μ-loop : tie.MeasureT-loop
-μ-loop s p ok₀ o₀ ok o = 8 - o
+μ-loop s p locks ok₀ o₀ ok o = 8 - o
+
+mul-get-u64 : tie.Need-mul-get-u64 Inv-loop μ-loop
+mul-get-u64 c = search needs
+
+add-get-u64 : tie.Need-add-get-u64 Inv-loop μ-loop
+add-get-u64 c = search needs
+
+get-u64-requires : tie.Need-get-u64-requires Inv-loop μ-loop
+get-u64-requires c κs = search needs
+
+returns : tie.Need-returns Inv-loop μ-loop
+returns c = none-beside _ _ (sym (c .before .get-u64 .ensures) ∙ c .if1 .taken)
 
 loop-holds : tie.Need-loop-holds Inv-loop μ-loop
 unfolding allTo
@@ -32,10 +45,22 @@ loop-again : tie.Need-loop-again Inv-loop μ-loop
 unfolding allTo
 loop-again c = (search needs, rw add-one (cc))
 
-returns : tie.Need-returns Inv-loop μ-loop
-returns c = c .before .loop .inv .1 ∙ ap (allTo _) (omega arith)
+returns-2 : tie.Need-returns-2 Inv-loop μ-loop
+returns-2 c = c .before .loop .inv .1 ∙ ap (allTo _) (omega arith)
 
 pub besides-ok-spec : {M : Type 1} → statement M
 besides-ok-spec =
     tie.close
-    (tie.spec Inv-loop μ-loop loop-holds beside-at-requires add-o loop-less loop-again returns)
+    (tie.spec
+    Inv-loop
+    μ-loop
+    mul-get-u64
+    add-get-u64
+    get-u64-requires
+    returns
+    loop-holds
+    beside-at-requires
+    add-o
+    loop-less
+    loop-again
+    returns-2)

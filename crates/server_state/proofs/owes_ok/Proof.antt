@@ -1,41 +1,62 @@
--- `server_state::owes_ok` meets its contract. The loop's invariant: the answer is the definition's at the count passed.
-use Prim.Native.Nat.{_≤_, _-_}
-use mathlib.Core.Path.{_≡_, ap, _∙_}
-use native.Mathlib.Numerals.{add-one}
+-- `server_state::owes_ok` meets its contract. The loop's invariant: all below the lowest of x are looked at, and x is the set from there on.
+use Prim.Native.Nat.{_+_, _<_}
+use mathlib.Core.Path.{_≡_, refl}
 use native.Mathlib.Omega.{arith}
+use lib.Count.{trailingZeros}
 use borrow.Author.Needs.{needs}
 use Rattle.lists.specs.Tests.{allTo}
+use Rattle.server_state.specs.Layout.{pendFrom, pendOf}
 use Rattle.server_state.specs.Valid.{owesAt}
+use Rattle.cells.specs.Lowest.{rest-less}
+use Rattle.server_state.specs.Members.{From, owes-first, owes-next, owes-last}
 use Rattle.server_state.proofs.owes_ok.Statement.{statement}
 use Rattle.server_state.proofs.owes_ok.Tie as tie
 
 abbrev Inv-loop : tie.InvT-loop
-Inv-loop s i ok₀ j₀ ok j = (j ≤ 8) × (ok ≡ allTo (owesAt s i) j)
+Inv-loop s i ok₀ x₀ ok x = (x < 256) × (ok ≡ allTo (owesAt s i) (trailingZeros 8 x)) × From (pendOf s i) x
 
 abbrev μ-loop : tie.MeasureT-loop
-μ-loop s i ok₀ j₀ ok j = 8 - j
+μ-loop s i ok₀ x₀ ok x = x
+
+add-x : tie.Need-add-x Inv-loop μ-loop
+add-x c = search needs
+
+shared-slice-read-x : tie.Need-shared-slice-read-x Inv-loop μ-loop
+shared-slice-read-x c = search needs
 
 loop-holds : tie.Need-loop-holds Inv-loop μ-loop
-unfolding allTo
-loop-holds c = search needs
+loop-holds c = (omega (arith, c .shared-slice-known2 .given (pendFrom + c .before .before .args .i)), owes-first _ _, λ k l. refl)
+
+lowest8-requires : tie.Need-lowest8-requires Inv-loop μ-loop
+lowest8-requires c κs = search needs
 
 owes-at-requires : tie.Need-owes-at-requires Inv-loop μ-loop
 owes-at-requires c κs = search needs
 
-add-j : tie.Need-add-j Inv-loop μ-loop
-add-j c = search needs
+sub-x : tie.Need-sub-x Inv-loop μ-loop
+sub-x c = search needs
 
 loop-less : tie.Need-loop-less Inv-loop μ-loop
-loop-less c = search needs
+loop-less c = rest-less _ (c .before .before .loop-test .taken)
 
 loop-again : tie.Need-loop-again Inv-loop μ-loop
-unfolding allTo
-loop-again c = (search needs, rw add-one (cc))
+loop-again c = owes-next _ _ (c .before .before .before .loop .inv .0) (c .before .before .loop-test .taken) (c .before .lowest8 .ensures .0) (c .owes-at .ensures) (c .before .before .before .loop .inv .1) (c .before .before .before .loop .inv .2)
 
 returns : tie.Need-returns Inv-loop μ-loop
-returns c = c .before .loop .inv .1 ∙ ap (allTo _) (omega arith)
+returns c = owes-last _ _ (c .loop-test .left) (c .before .loop .inv .1)
 
 pub owes-ok-spec : {M : Type 1} → statement M
 owes-ok-spec =
     tie.close
-    (tie.spec Inv-loop μ-loop loop-holds owes-at-requires add-j loop-less loop-again returns)
+    (tie.spec
+    Inv-loop
+    μ-loop
+    add-x
+    shared-slice-read-x
+    loop-holds
+    lowest8-requires
+    owes-at-requires
+    sub-x
+    loop-less
+    loop-again
+    returns)

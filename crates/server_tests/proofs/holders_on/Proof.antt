@@ -3,8 +3,9 @@ use Prim.Native.Nat.{_<_}
 use mathlib.Core.Path.{sym, _∙_}
 use borrow.Author.Needs.{needs}
 use borrow.Author.Tests.{eq-eqb}
+use Rattle.cells.specs.Lowest.{rest-less}
 use Rattle.server_tests.specs.Blockers.{holderAt, holdersOn}
-use Rattle.server_tests.specs.Members.{Left, rest-less, holders-first, holders-next, holders-last}
+use Rattle.server_tests.specs.Members.{Left, holders-first, holders-next, holders-last}
 use Rattle.server_tests.proofs.holders_on.Statement.{statement}
 use Rattle.server_tests.proofs.holders_on.Tie as tie
 
@@ -33,8 +34,8 @@ wanted-requires c κs = search needs
 loop-holds : tie.Need-loop-holds Inv-loop μ-loop
 loop-holds c = (search needs, search needs, holders-first _ _ _ (c .wanted .ensures))
 
-lowest-requires : tie.Need-lowest-requires Inv-loop μ-loop
-lowest-requires c κs = search needs
+lowest8-requires : tie.Need-lowest8-requires Inv-loop μ-loop
+lowest8-requires c κs = search needs
 
 holder-at-requires : tie.Need-holder-at-requires Inv-loop μ-loop
 holder-at-requires c κs = search needs
@@ -46,7 +47,7 @@ loop-less : tie.Need-loop-less Inv-loop μ-loop
 loop-less c = rest-less _ (c .before .before .loop-test .taken)
 
 loop-again : tie.Need-loop-again Inv-loop μ-loop
-loop-again c = holders-next _ _ _ (c .before .before .before .loop .inv .0) (c .before .before .loop-test .taken) (c .before .before .before .loop .inv .1) (c .before .lowest .ensures .0) (c .holder-at .ensures) (c .before .before .before .loop .inv .2)
+loop-again c = holders-next _ _ _ (c .before .before .before .loop .inv .0) (c .before .before .loop-test .taken) (c .before .before .before .loop .inv .1) (c .before .lowest8 .ensures .0) (c .holder-at .ensures) (c .before .before .before .loop .inv .2)
 
 returns-2 : tie.Need-returns-2 Inv-loop μ-loop
 returns-2 c = holders-last _ _ _ (λ e. c .before .before .before .if1 .left (c .before .before .before .before .get-u64 .ensures ∙ e)) (c .loop-test .left) (c .before .loop .inv .1) (c .before .loop .inv .2)
@@ -63,7 +64,7 @@ holders-on-spec =
     returns
     wanted-requires
     loop-holds
-    lowest-requires
+    lowest8-requires
     holder-at-requires
     sub-x
     loop-less

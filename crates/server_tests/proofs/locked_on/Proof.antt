@@ -1,57 +1,53 @@
--- `server_tests::locked_on` meets its contract. The loop's invariant: the answer is the definition's at the count of objects passed.
-use Prim.Native.Nat.{_≤_, _-_}
-use mathlib.Core.Path.{_≡_, ap, _∙_}
-use native.Mathlib.Numerals.{add-one}
+-- `server_tests::locked_on` meets its contract. The loop's invariant: the answer tells of all objects but those that are left.
+use Prim.Native.Nat.{_+_, _<_}
+use mathlib.Core.Path.{refl}
 use native.Mathlib.Omega.{arith}
 use borrow.Author.Needs.{needs}
-use Rattle.server_tests.specs.Tests.{lockedAtB, lockedOnB}
-use Rattle.cells.specs.Loops.{anyTo}
-use borrow.Author.Tests.{eq-eqb, ne-eqb}
+use Rattle.server_state.specs.Layout.{writtenSetFrom}
+use Rattle.cells.specs.Lowest.{rest-less}
+use Rattle.server_tests.specs.Tests.{lockedAtB}
+use Rattle.server_tests.specs.Members.{LeftB, tests-next, locked-first, locked-last}
 use Rattle.server_tests.proofs.locked_on.Statement.{statement}
 use Rattle.server_tests.proofs.locked_on.Tie as tie
 
 abbrev Inv-loop : tie.InvT-loop
-Inv-loop s i p r₀ o₀ r o = (o ≤ 8) × (r ≡ anyTo (lockedAtB s i p) o)
+Inv-loop s i p x₀ r₀ x r = (x < 256) × LeftB 8 (lockedAtB s i p) x r
 
 abbrev μ-loop : tie.MeasureT-loop
-μ-loop s i p r₀ o₀ r o = 8 - o
+μ-loop s i p x₀ r₀ x r = x
 
-mul-if1 : tie.Need-mul-if1 Inv-loop μ-loop
-mul-if1 c = search needs
+mul-x : tie.Need-mul-x Inv-loop μ-loop
+mul-x c = search needs
 
-add-if1 : tie.Need-add-if1 Inv-loop μ-loop
-add-if1 c = search needs
+add-x : tie.Need-add-x Inv-loop μ-loop
+add-x c = search needs
 
-add-if1-2 : tie.Need-add-if1-2 Inv-loop μ-loop
-add-if1-2 c = search needs
+add-x-2 : tie.Need-add-x-2 Inv-loop μ-loop
+add-x-2 c = search needs
 
-shared-slice-read-if1 : tie.Need-shared-slice-read-if1 Inv-loop μ-loop
-shared-slice-read-if1 c = search needs
-
-returns : tie.Need-returns Inv-loop μ-loop
-unfolding lockedOnB
-returns c = simp (eq-eqb _ _ (c .if1 .taken))
+shared-slice-read-x : tie.Need-shared-slice-read-x Inv-loop μ-loop
+shared-slice-read-x c = search needs
 
 loop-holds : tie.Need-loop-holds Inv-loop μ-loop
-unfolding anyTo
-loop-holds c = search needs
+loop-holds c = (let a = c .before .before .args in omega (arith, c .before .shared-slice-known .given (writtenSetFrom (a .i) + a .p)), locked-first _ _ _ refl)
+
+lowest8-requires : tie.Need-lowest8-requires Inv-loop μ-loop
+lowest8-requires c κs = search needs
 
 locked-at-requires : tie.Need-locked-at-requires Inv-loop μ-loop
 locked-at-requires c κs = search needs
 
-add-o : tie.Need-add-o Inv-loop μ-loop
-add-o c = search needs
+sub-x : tie.Need-sub-x Inv-loop μ-loop
+sub-x c = search needs
 
 loop-less : tie.Need-loop-less Inv-loop μ-loop
-loop-less c = search needs
+loop-less c = rest-less _ (c .before .before .loop-test .taken)
 
 loop-again : tie.Need-loop-again Inv-loop μ-loop
-unfolding anyTo
-loop-again c = (search needs, rw add-one (cc))
+loop-again c = tests-next _ _ _ (c .before .before .before .loop .inv .0) (c .before .before .loop-test .taken) (c .before .lowest8 .ensures .0) (c .locked-at .ensures) (c .before .before .before .loop .inv .1)
 
-returns-2 : tie.Need-returns-2 Inv-loop μ-loop
-unfolding lockedOnB
-returns-2 c = simp (ne-eqb _ _ (c .before .before .if1 .left)) (c .before .loop .inv .1 ∙ ap (anyTo _) (omega arith))
+returns : tie.Need-returns Inv-loop μ-loop
+returns c = locked-last _ _ _ (c .loop-test .left) (c .before .loop .inv .1)
 
 pub locked-on-spec : {M : Type 1} → statement M
 locked-on-spec =
@@ -59,14 +55,14 @@ locked-on-spec =
     (tie.spec
     Inv-loop
     μ-loop
-    mul-if1
-    add-if1
-    add-if1-2
-    shared-slice-read-if1
-    returns
+    mul-x
+    add-x
+    add-x-2
+    shared-slice-read-x
     loop-holds
+    lowest8-requires
     locked-at-requires
-    add-o
+    sub-x
     loop-less
     loop-again
-    returns-2)
+    returns)

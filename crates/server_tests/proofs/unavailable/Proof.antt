@@ -1,11 +1,12 @@
 -- `server_tests::unavailable` meets its contract. The loop's invariant: the mask is the definition's at the count of objects passed.
 use Prim.Native.Nat.{_≤_, _-_}
-use mathlib.Core.Path.{_≡_, ap, _∙_}
+use mathlib.Core.Path.{_≡_, sym, ap, _∙_}
 use native.Mathlib.Numerals.{add-one}
 use native.Mathlib.Omega.{arith}
 use borrow.Author.Needs.{needs}
 use Rattle.cells.specs.Loops.{maskTo}
 use Rattle.server_tests.specs.Tests.{unavailableAt, unavailableB}
+use Rattle.server_tests.specs.Shorter.{unavailable-free}
 use Rattle.server_tests.proofs.unavailable.Statement.{statement}
 use Rattle.server_tests.proofs.unavailable.Tie as tie
 
@@ -17,6 +18,21 @@ abbrev μ-loop : tie.MeasureT-loop
 
 others-write-requires : tie.Need-others-write-requires Inv-loop μ-loop
 others-write-requires c κs = search needs
+
+mul-get-u64 : tie.Need-mul-get-u64 Inv-loop μ-loop
+mul-get-u64 c = search needs
+
+add-get-u64 : tie.Need-add-get-u64 Inv-loop μ-loop
+add-get-u64 c = search needs
+
+get-u64-requires : tie.Need-get-u64-requires Inv-loop μ-loop
+get-u64-requires c κs = search needs
+
+wanted-requires : tie.Need-wanted-requires Inv-loop μ-loop
+wanted-requires c κs = search needs
+
+returns : tie.Need-returns Inv-loop μ-loop
+returns c = unavailable-free _ _ _ (sym (c .before .before .get-u64 .ensures) ∙ c .before .if1 .taken) (search needs) (search needs) (c .before .before .before .others-write .ensures) (c .wanted .ensures)
 
 loop-holds : tie.Need-loop-holds Inv-loop μ-loop
 unfolding maskTo
@@ -38,9 +54,9 @@ loop-again : tie.Need-loop-again Inv-loop μ-loop
 unfolding maskTo
 loop-again c = (search needs, rw (add-one (c .before .before .before .loop .o)) (cc))
 
-returns : tie.Need-returns Inv-loop μ-loop
+returns-2 : tie.Need-returns-2 Inv-loop μ-loop
 unfolding unavailableB
-returns c = c .before .loop .inv .1 ∙ ap (maskTo _) (omega arith)
+returns-2 c = c .before .loop .inv .1 ∙ ap (maskTo _) (omega arith)
 
 pub unavailable-spec : {M : Type 1} → statement M
 unavailable-spec =
@@ -49,10 +65,15 @@ unavailable-spec =
     Inv-loop
     μ-loop
     others-write-requires
+    mul-get-u64
+    add-get-u64
+    get-u64-requires
+    wanted-requires
+    returns
     loop-holds
     unavailable-at-requires
     bit-if-requires
     add-o
     loop-less
     loop-again
-    returns)
+    returns-2)

@@ -1,19 +1,21 @@
--- `set_record::list_group` meets its contract. The loop's invariant: list and next entry are the definition's at the pages passed.
-use Prim.Native.Nat.{ℕ, _≤_, _-_, _*_, _+_}
-use mathlib.Core.Path.{_≡_, sym, ap, _∙_}
+-- `set_record::list_group` meets its contract. The loop's invariant: what is below the lowest address left is listed.
+use Prim.Native.Nat.{_*_, _+_}
+use mathlib.Core.Path.{_≡_, ap}
 use native.Mathlib.Omega.{arith}
 use borrow.Author.Needs.{needs}
 use lib.ListN.{length}
-use Rattle.cells.specs.Loops.{rank, rank-most}
-use Rattle.set_record.specs.Spans.{memberFrom, spanTo, group-empty, group-turn, span-all}
+use Rattle.cells.specs.Lowest.{rest-less}
+use Rattle.set_record.specs.Spans.{Scanned, scan-first, scan-next, scan-room, scan-last}
 use Rattle.set_record.proofs.list_group.Statement.{statement}
 use Rattle.set_record.proofs.list_group.Tie as tie
+use Rattle.set_record.proofs.list_group.Reads as reads
+use Rattle.set_record.proofs.list_group.Lts as lts
 
 abbrev Inv-loop : tie.InvT-loop
-Inv-loop list₀ s at i g j₀ p₀ list j p = (p ≤ 8) × (length list ≡ length list₀) × (j ≡ i + rank (memberFrom s at (g * 64)) (p * 8)) × (list ≡ spanTo list₀ s at i (g * 64) (p * 8))
+Inv-loop list₀ s at i g x₀ j₀ list x j = (length list ≡ length list₀) × Scanned list₀ s at i (g * 64) x list j
 
 abbrev μ-loop : tie.MeasureT-loop
-μ-loop list₀ s at i g j₀ p₀ list j p = 8 - p
+μ-loop list₀ s at i g x₀ j₀ list x j = x
 
 mul-get-u64 : tie.Need-mul-get-u64 Inv-loop μ-loop
 mul-get-u64 c = search needs
@@ -24,36 +26,41 @@ add-get-u64 c = search needs
 get-u64-requires : tie.Need-get-u64-requires Inv-loop μ-loop
 get-u64-requires c κs = search needs
 
-returns : tie.Need-returns Inv-loop μ-loop
-returns c = group-empty _ _ _ _ _ (sym (c .before .get-u64 .ensures) ∙ c .if1 .taken)
-
 loop-holds : tie.Need-loop-holds Inv-loop μ-loop
-unfolding rank spanTo
-loop-holds c = search needs
+loop-holds c = (search needs, scan-first _ _ _ _ _ (λ k. c .before .shared-slice-known .given k .fits) (c .before .before .before .pre .2) (c .get-u64 .ensures))
 
-mul-list-page : tie.Need-mul-list-page Inv-loop μ-loop
-mul-list-page c = search needs
+mul-a : tie.Need-mul-a Inv-loop μ-loop
+mul-a c = search needs
 
-add-list-page : tie.Need-add-list-page Inv-loop μ-loop
-add-list-page c = search needs
+lowest64-requires : tie.Need-lowest64-requires Inv-loop μ-loop
+lowest64-requires c κs = search needs
 
-list-page-requires : tie.Need-list-page-requires Inv-loop μ-loop
-list-page-requires c κs = let most = rank-most (memberFrom (c .before .before .before .before .before .before .before .args .s .now) (c .before .before .before .before .before .before .before .args .at) (c .before .before .before .before .before .before .before .args .g * 64)) (c .before .before .loop .p * 8) in search needs
+add-a : tie.Need-add-a Inv-loop μ-loop
+add-a c = search needs
 
-add-p : tie.Need-add-p Inv-loop μ-loop
-add-p c = search needs
+cast-put-u8 : tie.Need-cast-put-u8 Inv-loop μ-loop
+cast-put-u8 c = search needs
+
+put-u8-requires : tie.Need-put-u8-requires Inv-loop μ-loop
+put-u8-requires c κs = let room = scan-room _ _ _ _ _ (c .before .before .loop-test .taken) (c .before .before .before .loop .inv .1) in search needs
+
+add-j : tie.Need-add-j Inv-loop μ-loop
+add-j c = let room = scan-room _ _ _ _ _ (c .before .before .before .before .before .loop-test .taken) (c .before .before .before .before .before .before .loop .inv .1) in search needs
+
+sub-x : tie.Need-sub-x Inv-loop μ-loop
+sub-x c = search needs
 
 loop-less : tie.Need-loop-less Inv-loop μ-loop
-loop-less c = search needs
+loop-less c = rest-less _ (c .before .before .before .before .before .loop-test .taken)
 
 loop-again : tie.Need-loop-again Inv-loop μ-loop
-loop-again c = let t = group-turn _ _ _ _ _ _ _ ((c .before .before .before .before .before .loop .p + 1) * 8) (c .before .before .before .before .before .loop .inv .2) (c .before .before .before .before .before .loop .inv .3) (c .before .before .list-page .ensures) (omega arith) (omega arith) in (search needs, search needs, t .0, t .1)
+loop-again c = (search needs, scan-next _ _ _ _ _ (c .before .before .before .before .before .loop-test .taken) (c .before .before .before .before .before .before .loop .inv .1) (ap (_+_ _) (c .before .before .before .before .lowest64 .ensures .0)) (c .before .before .put-u8 .ensures))
 
 same-length : tie.Need-same-length Inv-loop μ-loop
 same-length c = search needs
 
-returns-2 : tie.Need-returns-2 Inv-loop μ-loop
-returns-2 c = span-all _ _ _ _ _ _ 64 (c .before .loop .inv .2) (c .before .loop .inv .3) (omega arith)
+returns : tie.Need-returns Inv-loop μ-loop
+returns c = scan-last _ _ _ _ _ (c .loop-test .left) (c .before .loop .inv .1)
 
 pub list-group-spec : {M : Type 1} → statement M
 list-group-spec =
@@ -64,13 +71,15 @@ list-group-spec =
     mul-get-u64
     add-get-u64
     get-u64-requires
-    returns
     loop-holds
-    mul-list-page
-    add-list-page
-    list-page-requires
-    add-p
+    mul-a
+    lowest64-requires
+    add-a
+    cast-put-u8
+    put-u8-requires
+    add-j
+    sub-x
     loop-less
     loop-again
     same-length
-    returns-2)
+    returns)

@@ -33,8 +33,8 @@ returns c = simp (sym (c .before .before .before .before .before .before .before
 mul-request : tie.Need-mul-request
 mul-request c = search needs
 
-lowest-requires : tie.Need-lowest-requires
-lowest-requires c κs = search needs
+lowest8-requires : tie.Need-lowest8-requires
+lowest8-requires c κs = search needs
 
 add-request : tie.Need-add-request
 add-request c = search needs
@@ -47,7 +47,7 @@ same-length-2 c = search needs
 
 returns-2 : tie.Need-returns-2
 unfolding askB
-returns-2 c = simp (sym (c .before .before .before .before .before .before .locking .ensures), c .before .before .before .before .before .if1 .left, sym (c .before .before .before .before .lowest .ensures .0)) (c .before .before .request .ensures)
+returns-2 c = simp (sym (c .before .before .before .before .before .before .locking .ensures), c .before .before .before .before .before .if1 .left, sym (c .before .before .before .before .lowest8 .ensures .0)) (c .before .before .request .ensures)
 
 pub ask-spec : {M : Type 1} → statement M
 ask-spec =
@@ -62,7 +62,7 @@ ask-spec =
     same-length
     returns
     mul-request
-    lowest-requires
+    lowest8-requires
     add-request
     request-requires
     same-length-2

@@ -1,36 +1,37 @@
--- `station_pages::drop_pages` meets its contract. The loop's invariant: the state is the definition's at the count of pages passed.
-use Prim.Native.Nat.{_≤_, _-_}
+-- `station_pages::drop_pages` meets its contract. The loop's invariant: what is left to be dropped leads to the definition's state.
+use Prim.Native.Nat.{_^_, _<_}
 use mathlib.Core.Path.{_≡_}
-use native.Mathlib.Numerals.{add-one}
-use native.Mathlib.Omega.{arith}
 use borrow.Author.Needs.{needs}
-use Rattle.station_pages.specs.Pages.{dropTo, dropPagesB}
 use lib.ListN.{length}
+use Rattle.station_pages.specs.Pages.{dropTo, dropPagesB}
+use Rattle.cells.specs.Lowest.{rest-less, rest-lt}
+use Rattle.station_pages.specs.Drops.{drop-next, drop-last}
 use Rattle.station_pages.proofs.drop_pages.Statement.{statement}
 use Rattle.station_pages.proofs.drop_pages.Tie as tie
 
 abbrev Inv-loop : tie.InvT-loop
-Inv-loop s₀ d p₀ s p = (p ≤ 32) × (length s ≡ length s₀) × (s ≡ dropTo s₀ d p)
+Inv-loop s₀ d x₀ s x = (x < 2 ^ 32) × (length s ≡ length s₀) × (dropTo s₀ d 32 ≡ dropTo s x 32)
 
 abbrev μ-loop : tie.MeasureT-loop
-μ-loop s₀ d p₀ s p = 32 - p
+μ-loop s₀ d x₀ s x = x
 
 loop-holds : tie.Need-loop-holds Inv-loop μ-loop
-unfolding dropTo
 loop-holds c = search needs
 
-drop-one-requires : tie.Need-drop-one-requires Inv-loop μ-loop
-drop-one-requires c κs = search needs
+lowest32-requires : tie.Need-lowest32-requires Inv-loop μ-loop
+lowest32-requires c κs = search needs
 
-add-p : tie.Need-add-p Inv-loop μ-loop
-add-p c = search needs
+drop-page-requires : tie.Need-drop-page-requires Inv-loop μ-loop
+drop-page-requires c κs = search needs
+
+sub-x : tie.Need-sub-x Inv-loop μ-loop
+sub-x c = search needs
 
 loop-less : tie.Need-loop-less Inv-loop μ-loop
-loop-less c = search needs
+loop-less c = rest-less _ (c .before .before .before .before .before .loop-test .taken)
 
 loop-again : tie.Need-loop-again Inv-loop μ-loop
-unfolding dropTo
-loop-again c = (search needs, search needs, rw add-one (cc))
+loop-again c = (rest-lt 32 _ (c .before .before .before .before .before .before .loop .inv .0) (c .before .before .before .before .before .loop-test .taken), search needs, drop-next _ _ _ _ (c .before .before .before .before .before .before .loop .inv .2) (c .before .before .before .before .before .before .loop .inv .0) (c .before .before .before .before .before .loop-test .taken) (c .before .before .before .lowest32 .ensures .0) (c .before .before .drop-page .ensures))
 
 cached-requires : tie.Need-cached-requires Inv-loop μ-loop
 cached-requires c κs = search needs
@@ -43,7 +44,7 @@ same-length c = search needs
 
 returns : tie.Need-returns Inv-loop μ-loop
 unfolding dropPagesB
-returns c = let e : c .before .before .before .before .before .before .before .loop .p ≡ 32 = omega arith in cc
+returns c = let e = drop-last _ _ _ _ (c .before .before .before .before .before .before .before .loop .inv .2) (c .before .before .before .before .before .before .loop-test .left) in cc
 
 pub drop-pages-spec : {M : Type 1} → statement M
 drop-pages-spec =
@@ -52,8 +53,9 @@ drop-pages-spec =
     Inv-loop
     μ-loop
     loop-holds
-    drop-one-requires
-    add-p
+    lowest32-requires
+    drop-page-requires
+    sub-x
     loop-less
     loop-again
     cached-requires

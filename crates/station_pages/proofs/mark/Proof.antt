@@ -1,43 +1,43 @@
--- `station_pages::mark` meets its contract. The loop's invariant: the state is the definition's at the count of pages passed.
-use Prim.Native.Nat.{_≤_, _-_}
+-- `station_pages::mark` meets its contract. The loop's invariant: the state is that of the changes passed.
+use Prim.Native.Nat.{_≤_, _-_, _*_}
 use mathlib.Core.Path.{_≡_, ap, _∙_}
-use native.Mathlib.Numerals.{add-one}
 use native.Mathlib.Omega.{arith}
 use borrow.Author.Needs.{needs}
-use Rattle.station_pages.specs.Pages.{markTo, markB}
 use lib.ListN.{length}
+use Rattle.station_state.specs.Runs.{run, run-group}
+use Rattle.station_pages.specs.Pages.{markOneB, markB}
+use Rattle.station_pages.specs.Groups.{mark-run}
 use Rattle.station_pages.proofs.mark.Statement.{statement}
 use Rattle.station_pages.proofs.mark.Tie as tie
 
 abbrev Inv-loop : tie.InvT-loop
-Inv-loop s₀ sets p₀ s p = (p ≤ 32) × (length s ≡ length s₀) × (s ≡ markTo sets s₀ p)
+Inv-loop s₀ sets g₀ s g = (g ≤ 4) × (length s ≡ length s₀) × (s ≡ run (markOneB sets) s₀ 0 (g * 8))
 
 abbrev μ-loop : tie.MeasureT-loop
-μ-loop s₀ sets p₀ s p = 32 - p
+μ-loop s₀ sets g₀ s g = 4 - g
 
 loop-holds : tie.Need-loop-holds Inv-loop μ-loop
-unfolding markTo
+unfolding run
 loop-holds c = search needs
 
-mark-one-requires : tie.Need-mark-one-requires Inv-loop μ-loop
-mark-one-requires c κs = search needs
+mark-group-requires : tie.Need-mark-group-requires Inv-loop μ-loop
+mark-group-requires c κs = search needs
 
-add-p : tie.Need-add-p Inv-loop μ-loop
-add-p c = search needs
+add-g : tie.Need-add-g Inv-loop μ-loop
+add-g c = search needs
 
 loop-less : tie.Need-loop-less Inv-loop μ-loop
 loop-less c = search needs
 
 loop-again : tie.Need-loop-again Inv-loop μ-loop
-unfolding markTo
-loop-again c = (search needs, search needs, rw add-one (cc))
+loop-again c = (search needs, search needs, run-group _ _ _ _ _ _ _ (c .before .before .before .before .before .loop .inv .2) (c .before .before .mark-group .ensures) (omega arith) (omega arith))
 
 same-length : tie.Need-same-length Inv-loop μ-loop
 same-length c = search needs
 
 returns : tie.Need-returns Inv-loop μ-loop
 unfolding markB
-returns c = c .before .loop .inv .2 ∙ ap (markTo _ _) (omega arith)
+returns c = let e : c .before .loop .g * 8 ≡ 32 = omega arith in c .before .loop .inv .2 ∙ ap (run _ _ _) e ∙ mark-run _ _ _
 
 pub mark-spec : {M : Type 1} → statement M
 mark-spec =
@@ -46,8 +46,8 @@ mark-spec =
     Inv-loop
     μ-loop
     loop-holds
-    mark-one-requires
-    add-p
+    mark-group-requires
+    add-g
     loop-less
     loop-again
     same-length

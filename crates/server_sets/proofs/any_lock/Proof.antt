@@ -1,0 +1,29 @@
+-- `server_sets::any_lock` meets its contract.
+use Rattle.server_sets.specs.Sets.{anyLockB}
+use borrow.Author.Needs.{needs}
+use Rattle.server_sets.proofs.any_lock.Statement.{statement}
+use Rattle.server_sets.proofs.any_lock.Tie as tie
+
+mul-get-u64 : tie.Need-mul-get-u64
+mul-get-u64 c = search needs
+
+add-get-u64 : tie.Need-add-get-u64
+add-get-u64 c = search needs
+
+get-u64-requires : tie.Need-get-u64-requires
+get-u64-requires c κs = search needs
+
+add-result : tie.Need-add-result
+add-result c = search needs
+
+shared-slice-read-result : tie.Need-shared-slice-read-result
+shared-slice-read-result c = search needs
+
+returns : tie.Need-returns
+unfolding anyLockB
+returns c = cc
+
+pub any-lock-spec : {M : Type 1} → statement M
+any-lock-spec =
+    tie.close
+    (tie.spec mul-get-u64 add-get-u64 get-u64-requires add-result shared-slice-read-result returns)

@@ -1,0 +1,15 @@
+-- `station_state::lowest8` meets its contract.
+use native.Mathlib.Omega.{arith}
+use Rattle.cells.specs.Lowest.{low-lt}
+use borrow.Author.Needs.{needs}
+use Rattle.station_state.proofs.lowest8.Statement.{statement}
+use Rattle.station_state.proofs.lowest8.Tie as tie
+
+cast-result : tie.Need-cast-result
+cast-result c = omega (arith, low-lt 8 (c .args .x) (omega arith) (c .pre))
+
+returns : tie.Need-returns
+returns c = (search needs, low-lt 8 (c .args .x) (omega arith) (c .pre))
+
+pub lowest8-spec : {M : Type 1} → statement M
+lowest8-spec = tie.close (tie.spec cast-result returns)
