@@ -4,7 +4,7 @@ ghost use Prim.Native.Nat.{_+_, _*_, _^_, _≤_, _<_};
 ghost use lib.ListN.{length, replicate};
 ghost use lib.Seq.{sets};
 ghost use mathlib.Core.Bool.{cond};
-ghost use Rattle.message.specs.Layout.{setsFrom, setsLength, behindLength, messageLength, versionWidth, kindOf, message as Layout·message, upMessage};
+ghost use Rattle.message.specs.Layout.{setsFrom, setsLength, behindLength, messageLength, versionWidth, kindOf, stationOf, pageOf, objectOf, transactionOf, pagesOf, message as Layout·message, upMessage};
 ghost use Rattle.message.specs.Range.{zeroAt, zeros as Range·zeros, requestOk, commitOk, abortOk, purgeOk, busyOk, doneOk, writtenSetOk, writeRequestOk, pageMessageOk, grantOk, deescalateOk, callbackOk, committedOk, abortedOk, invalidateOk, upFieldsOk, downFieldsOk};
 ghost use Rattle.layout.specs.Record.{headerLength, entryLength};
 ghost use Rattle.message.specs.Commit.{versionsAt, shortestCommit, countOf, recordAt as Commit·recordAt, addressesAt, sentReads, sentWrites, entriesOf, commitLengthOk, fewOk, versionOk, pagesTo, recordAgrees, commitNumber};
@@ -85,6 +85,53 @@ const FROM_SETS: usize = LENGTH - SETS;
 const FROM_SECOND_SET: usize = LENGTH - SECOND_SET;
 
 const FROM_VALUES: usize = LENGTH - VALUES;
+
+// Fields that are read in many places.
+pub fn kind(m: &[u8]) -> u8
+    requires { ⌜ messageLength ≤ length (now m) ⌝ }
+    ensures { λ r. ⌜ r ≡ kindOf (now (m .entry)) ⌝ }
+{
+    m[KIND]
+}
+
+// The station on the line.
+pub fn station(m: &[u8]) -> u8
+    requires { ⌜ messageLength ≤ length (now m) ⌝ }
+    ensures { λ r. ⌜ r ≡ stationOf (now (m .entry)) ⌝ }
+{
+    m[STATION]
+}
+
+// The page, or the requester.
+pub fn page(m: &[u8]) -> u8
+    requires { ⌜ messageLength ≤ length (now m) ⌝ }
+    ensures { λ r. ⌜ r ≡ pageOf (now (m .entry)) ⌝ }
+{
+    m[PAGE]
+}
+
+// The object, or the cause.
+pub fn object(m: &[u8]) -> u8
+    requires { ⌜ messageLength ≤ length (now m) ⌝ }
+    ensures { λ r. ⌜ r ≡ objectOf (now (m .entry)) ⌝ }
+{
+    m[OBJECT]
+}
+
+pub fn transaction(m: &[u8]) -> u32
+    requires { ⌜ messageLength ≤ length (now m) ⌝ }
+    ensures { λ r. ⌜ r ≡ transactionOf (now (m .entry)) ⌝ }
+{
+    le::get_u32(m, TRANSACTION)
+}
+
+// The page set.
+pub fn pages(m: &[u8]) -> u32
+    requires { ⌜ messageLength ≤ length (now m) ⌝ }
+    ensures { λ r. ⌜ r ≡ pagesOf (now (m .entry)) ⌝ }
+{
+    le::get_u32(m, PAGES)
+}
 
 // Writes 0 to the n bytes from `at`.
 fn zero(o: &mut [u8], at: usize, n: usize)
@@ -197,62 +244,51 @@ fn request_ok(m: &[u8]) -> bool
     requires { ⌜ messageLength ≤ length (now m) ⌝ }
     ensures { λ r. ⌜ r ≡ requestOk (now (m .entry)) ⌝ }
 {
-    (m[PAGE] <= 31)
-        & (m[OBJECT] <= 7)
-        & (le::get_u32(m, TRANSACTION) != 0)
-        & zeros(m, PAGES, FROM_PAGES)
+    (page(m) <= 31) & (object(m) <= 7) & (transaction(m) != 0) & zeros(m, PAGES, FROM_PAGES)
 }
 
 fn commit_ok(m: &[u8]) -> bool
     requires { ⌜ messageLength ≤ length (now m) ⌝ }
     ensures { λ r. ⌜ r ≡ commitOk (now (m .entry)) ⌝ }
 {
-    zeros(m, PAGE, PAGE_OBJECT)
-        & (le::get_u32(m, TRANSACTION) != 0)
-        & zeros(m, VERSION, FROM_VERSION)
+    zeros(m, PAGE, PAGE_OBJECT) & (transaction(m) != 0) & zeros(m, VERSION, FROM_VERSION)
 }
 
 fn abort_ok(m: &[u8]) -> bool
     requires { ⌜ messageLength ≤ length (now m) ⌝ }
     ensures { λ r. ⌜ r ≡ abortOk (now (m .entry)) ⌝ }
 {
-    zeros(m, PAGE, PAGE_OBJECT) & (le::get_u32(m, TRANSACTION) != 0) & zeros(m, PAGES, FROM_PAGES)
+    zeros(m, PAGE, PAGE_OBJECT) & (transaction(m) != 0) & zeros(m, PAGES, FROM_PAGES)
 }
 
 fn purge_ok(m: &[u8]) -> bool
     requires { ⌜ messageLength ≤ length (now m) ⌝ }
     ensures { λ r. ⌜ r ≡ purgeOk (now (m .entry)) ⌝ }
 {
-    (m[PAGE] <= 31) & zeros(m, OBJECT, FROM_OBJECT)
+    (page(m) <= 31) & zeros(m, OBJECT, FROM_OBJECT)
 }
 
 fn busy_ok(m: &[u8]) -> bool
     requires { ⌜ messageLength ≤ length (now m) ⌝ }
     ensures { λ r. ⌜ r ≡ busyOk (now (m .entry)) ⌝ }
 {
-    (m[PAGE] <= 7)
-        & zeros(m, OBJECT, 1)
-        & (le::get_u32(m, TRANSACTION) != 0)
-        & zeros(m, PAGES, FROM_PAGES)
+    (page(m) <= 7) & zeros(m, OBJECT, 1) & (transaction(m) != 0) & zeros(m, PAGES, FROM_PAGES)
 }
 
 fn done_ok(m: &[u8]) -> bool
     requires { ⌜ messageLength ≤ length (now m) ⌝ }
     ensures { λ r. ⌜ r ≡ doneOk (now (m .entry)) ⌝ }
 {
-    (m[PAGE] <= 7)
-        & zeros(m, OBJECT, 1)
-        & (le::get_u32(m, TRANSACTION) != 0)
-        & zeros(m, VERSION, FROM_VERSION)
+    (page(m) <= 7) & zeros(m, OBJECT, 1) & (transaction(m) != 0) & zeros(m, VERSION, FROM_VERSION)
 }
 
 fn written_set_ok(m: &[u8]) -> bool
     requires { ⌜ messageLength ≤ length (now m) ⌝ }
     ensures { λ r. ⌜ r ≡ writtenSetOk (now (m .entry)) ⌝ }
 {
-    (m[PAGE] <= 31)
+    (page(m) <= 31)
         & zeros(m, OBJECT, 1)
-        & (le::get_u32(m, TRANSACTION) != 0)
+        & (transaction(m) != 0)
         & zeros(m, PAGES, PAGES_VERSION)
         & zeros(m, SECOND_SET, FROM_SECOND_SET)
 }
@@ -269,9 +305,9 @@ fn page_message_ok(m: &[u8]) -> bool
     requires { ⌜ messageLength ≤ length (now m) ⌝ }
     ensures { λ r. ⌜ r ≡ pageMessageOk (now (m .entry)) ⌝ }
 {
-    (m[PAGE] <= 31)
-        & (m[OBJECT] <= 7)
-        & (le::get_u32(m, TRANSACTION) != 0)
+    (page(m) <= 31)
+        & (object(m) <= 7)
+        & (transaction(m) != 0)
         & zeros(m, PAGES, PAGES_VERSION)
         & zeros(m, SECOND_SET, OTHER_SETS)
 }
@@ -288,20 +324,17 @@ fn deescalate_ok(m: &[u8]) -> bool
     requires { ⌜ messageLength ≤ length (now m) ⌝ }
     ensures { λ r. ⌜ r ≡ deescalateOk (now (m .entry)) ⌝ }
 {
-    (m[PAGE] <= 31)
-        & zeros(m, OBJECT, 1)
-        & (le::get_u32(m, TRANSACTION) != 0)
-        & zeros(m, PAGES, FROM_PAGES)
+    (page(m) <= 31) & zeros(m, OBJECT, 1) & (transaction(m) != 0) & zeros(m, PAGES, FROM_PAGES)
 }
 
 fn callback_ok(at: u32, m: &[u8]) -> bool
     requires { ⌜ messageLength ≤ length (now m) ⌝ }
     ensures { λ r. ⌜ r ≡ callbackOk at (now (m .entry)) ⌝ }
 {
-    (m[PAGE] <= 7)
-        & (le::wide(m[PAGE]) != at)
+    (page(m) <= 7)
+        & (le::wide(page(m)) != at)
         & zeros(m, OBJECT, 1)
-        & (le::get_u32(m, TRANSACTION) != 0)
+        & (transaction(m) != 0)
         & zeros(m, PAGES, PAGES_VERSION)
         & zeros(m, VALUES, FROM_VALUES)
 }
@@ -311,7 +344,7 @@ fn committed_ok(m: &[u8]) -> bool
     ensures { λ r. ⌜ r ≡ committedOk (now (m .entry)) ⌝ }
 {
     zeros(m, PAGE, PAGE_OBJECT)
-        & (le::get_u32(m, TRANSACTION) != 0)
+        & (transaction(m) != 0)
         & zeros(m, PAGES, PAGES_ALONE)
         & (le::get_u32(m, VERSION) != 0)
         & zeros(m, SETS, FROM_SETS)
@@ -322,9 +355,9 @@ fn aborted_ok(m: &[u8]) -> bool
     ensures { λ r. ⌜ r ≡ abortedOk (now (m .entry)) ⌝ }
 {
     zeros(m, PAGE, 1)
-        & (1 <= m[OBJECT])
-        & (m[OBJECT] <= 4)
-        & (le::get_u32(m, TRANSACTION) != 0)
+        & (1 <= object(m))
+        & (object(m) <= 4)
+        & (transaction(m) != 0)
         & zeros(m, PAGES, FROM_PAGES)
 }
 
@@ -340,7 +373,7 @@ fn up_fields(m: &[u8]) -> bool
     requires { ⌜ messageLength ≤ length (now m) ⌝ }
     ensures { λ r. ⌜ r ≡ upFieldsOk (now (m .entry)) ⌝ }
 {
-    match m[KIND] {
+    match kind(m) {
         1 => request_ok(m),
         2 => write_request_ok(m),
         3 => commit_ok(m),
@@ -358,7 +391,7 @@ fn down_fields(at: u32, m: &[u8]) -> bool
     requires { ⌜ messageLength ≤ length (now m) ⌝ }
     ensures { λ r. ⌜ r ≡ downFieldsOk at (now (m .entry)) ⌝ }
 {
-    match m[KIND] {
+    match kind(m) {
         16 => page_message_ok(m),
         17 => grant_ok(m),
         18 => grant_ok(m),
@@ -382,8 +415,8 @@ fn up_range(m: &[u8]) -> u32
     requires { ⌜ messageLength ≤ length (now m) ⌝ }
     ensures { λ r. ⌜ r ≡ upRange (now (m .entry)) ⌝ }
 {
-    match m[KIND] {
-        1..=8 => range_number((m[STATION] <= 7) & up_fields(m)),
+    match kind(m) {
+        1..=8 => range_number((station(m) <= 7) & up_fields(m)),
         // these go to stations
         16..=23 => 3,
         _ => 3,
@@ -395,10 +428,10 @@ fn down_range(at: u32, m: &[u8]) -> u32
     requires { ⌜ messageLength ≤ length (now m) ⌝ }
     ensures { λ r. ⌜ r ≡ downRange at (now (m .entry)) ⌝ }
 {
-    match m[KIND] {
+    match kind(m) {
         // these go to the server
         1..=8 => 3,
-        16..=23 => range_number((at <= 7) & (m[STATION] <= 7) & down_fields(at, m)),
+        16..=23 => range_number((at <= 7) & (station(m) <= 7) & down_fields(at, m)),
         _ => 3,
     }
 }
@@ -532,11 +565,11 @@ fn record_agrees(kind: u8, m: &[u8]) -> bool
     let at = record_at(m);
     let entries = sent_reads(m) + sent_writes(m);
     (le::get_u32(m, at + record::COMMIT) == 0)
-        & (le::get_u32(m, at + record::TRANSACTION) == le::get_u32(m, TRANSACTION))
-        & (m[at + record::STATION] == m[STATION])
+        & (le::get_u32(m, at + record::TRANSACTION) == transaction(m))
+        & (m[at + record::STATION] == station(m))
         & (m[at + record::KIND] == kind)
         & versions_ok(kind, m, entries)
-        & (pages_of(m, at + record::HEADER, entries) == le::get_u32(m, PAGES))
+        & (pages_of(m, at + record::HEADER, entries) == pages(m))
 }
 
 // Number 5 of a commit.
@@ -595,8 +628,8 @@ pub fn up_check(kinds: &[u8], m: &[u8]) -> u32
     if number != 0 {
         return number;
     }
-    if m[KIND] != 3 {
+    if kind(m) != 3 {
         return 0;
     }
-    commit_number(kinds[le::index(le::wide(m[STATION]))], m)
+    commit_number(kinds[le::index(le::wide(station(m)))], m)
 }

@@ -15,7 +15,7 @@ fn station(m: &[u8]) -> usize
     requires { ⌜ messageLength ≤ length (now m) ⌝ }
     ensures { λ r. ⌜ r ≡ stationOf (now (m .entry)) ⌝ }
 {
-    le::index(le::wide(m[message::STATION]))
+    le::index(le::wide(message::station(m)))
 }
 
 // Byte 2: a page or a requester.
@@ -23,14 +23,14 @@ fn named(m: &[u8]) -> usize
     requires { ⌜ messageLength ≤ length (now m) ⌝ }
     ensures { λ r. ⌜ r ≡ pageOf (now (m .entry)) ⌝ }
 {
-    le::index(le::wide(m[message::PAGE]))
+    le::index(le::wide(message::page(m)))
 }
 
 fn address(m: &[u8]) -> usize
     requires { ⌜ (messageLength ≤ length (now m)) × (addressOf (now m) < 256) ⌝ }
     ensures { λ r. ⌜ r ≡ addressOf (now (m .entry)) ⌝ }
 {
-    named(m) * station_state::OBJECTS + le::index(le::wide(m[message::OBJECT]))
+    named(m) * station_state::OBJECTS + le::index(le::wide(message::object(m)))
 }
 
 // With its first message a transaction is unfinished and has an age.
@@ -38,7 +38,7 @@ fn noticed(s: &mut [u8], m: &[u8])
     requires { ⌜ (length (now s) ≡ serverLength) × (messageLength ≤ length (now m)) × (stationOf (now m) < 8) × (agesOf (now s) < counterLimit) ⌝ }
     ensures { λ _. ⌜ now (s .exit) ≡ noticeB (stationOf (now (m .entry))) (transactionOf (now (m .entry))) (now (s .entry)) ⌝ }
 {
-    server_changes::notice(s, station(m), le::get_u32(m, message::TRANSACTION));
+    server_changes::notice(s, station(m), message::transaction(m));
 }
 
 // A locking read waits; a validating one gets its page at the same step, with no object unavailable.
@@ -116,7 +116,7 @@ fn on_busy(s: &mut [u8], m: &[u8])
 {
     let i = station(m);
     let r = named(m);
-    if server_tests::open_call(s, i, r, le::get_u32(m, message::TRANSACTION)) {
+    if server_tests::open_call(s, i, r, message::transaction(m)) {
         server_changes::mark_busy(s, i, r);
         return;
     }
@@ -129,8 +129,8 @@ fn on_done(s: &mut [u8], m: &[u8])
 {
     let i = station(m);
     let r = named(m);
-    let open = server_tests::open_call(s, i, r, le::get_u32(m, message::TRANSACTION));
-    server_changes::unlist(s, i, le::get_u32(m, message::PAGES));
+    let open = server_tests::open_call(s, i, r, message::transaction(m));
+    server_changes::unlist(s, i, message::pages(m));
     if open {
         server_changes::answered(s, i, r);
         return;
@@ -144,7 +144,7 @@ fn on_written_set(s: &mut [u8], m: &[u8])
 {
     let i = station(m);
     let p = named(m);
-    let t = le::get_u32(m, message::TRANSACTION);
+    let t = message::transaction(m);
     if server_tests::open_ask(s, i, p, t) {
         server_changes::heed(s, i, p, t, m[message::SETS]);
         return;
@@ -156,7 +156,7 @@ pub fn accept(s: &mut [u8], o: &mut [u8], q: &mut [u8], c: Counts, m: &[u8]) -> 
     requires { ⌜ (length (now s) ≡ serverLength) × Acceptable (now s) (now m) × Room (now o) (now q) c (acceptB (now m) (Posting·from (now s))) ⌝ }
     ensures { λ r. ⌜ posted (now (s .exit)) (now (o .exit)) (now (q .exit)) r ≡ post (now (o .entry)) (now (q .entry)) c (acceptB (now (m .entry)) (Posting·from (now (s .entry)))) ⌝ }
 {
-    match m[message::KIND] {
+    match message::kind(m) {
         1 => return on_read(s, o, q, c, m),
         2 => on_write(s, m),
         3 => return on_commit(s, o, q, c, m),

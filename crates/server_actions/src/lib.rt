@@ -11,7 +11,6 @@ ghost use Rattle.server_actions.specs.Posting.{from as Posting·from, co
 ghost use Rattle.server_actions.specs.Parts.{installedB};
 ghost use Rattle.server_actions.specs.Informs.{informOneB};
 use message::LENGTH as MESSAGE;
-use server_state::KIND;
 use server_state::PAGE_ROW;
 use server_state::PAGE_VERSION_ROW;
 use server_state::READ_SET;
@@ -19,10 +18,8 @@ use server_state::READ_VALUE;
 use server_state::VALUE;
 use server_state::VALUE_ROW;
 use server_state::VERSION;
-use server_state::WORK;
 use server_state::WRITTEN_SET;
 use server_state::WRITTEN_VALUE;
-use station_state::NUMBER_WIDTH;
 use station_state::SET_ROW;
 
 // The bytes of a word, and the words of what is copied.
@@ -173,8 +170,8 @@ fn archive(s: &[u8], q: &mut [u8], c: Counts, i: usize) -> Counts
     ensures { λ r. ⌜ (now (q .exit) ≡ sets (now (q .entry)) (c .records) (recordB i (now (s .entry)))) × (r ≡ counts (c .messages) (c .records + length (recordB i (now (s .entry))))) ⌝ }
 {
     let n = server_state::last(s);
-    let t = le::get_u32(s, WORK + i * NUMBER_WIDTH);
-    let kind = le::wide(s[KIND + i]);
+    let t = server_state::work(s, i);
+    let kind = le::wide(server_state::kind(s, i));
     let k = set_record::put_record(
         s,
         q,
@@ -199,7 +196,7 @@ fn put_installed(s: &mut [u8], o: &mut [u8], q: &mut [u8], c: Counts, i: usize) 
     requires { ⌜ (length (now s) ≡ serverLength) × (i < 8) × (lastOf (now s) < 4294967295) × Room (now o) (now q) c (installedB i (Posting·from (now s))) ⌝ }
     ensures { λ r. ⌜ posted (now (s .exit)) (now (o .exit)) (now (q .exit)) r ≡ post (now (o .entry)) (now (q .entry)) c (installedB i (Posting·from (now (s .entry)))) ⌝ }
 {
-    let t = le::get_u32(s, WORK + i * NUMBER_WIDTH);
+    let t = server_state::work(s, i);
     server_changes::write(s, i);
     let e = archive(s, q, c, i);
     server_changes::leave(s, i);

@@ -62,7 +62,7 @@ fn new_age(s: &mut [u8], i: usize)
     ensures { λ _. ⌜ now (s .exit) ≡ newAgeB i (now (s .entry)) ⌝ }
 {
     let ages = Ages {
-        next: le::get_u64(s, NEXT_AGE),
+        next: server_state::next_age(s),
     };
     let aged = ages.take();
     let rest = aged.ages;
@@ -109,7 +109,7 @@ fn free_page(s: &mut [u8], i: usize, p: usize)
     requires { ⌜ (length (now s) ≡ serverLength) × (i < 8) × (p < 32) ⌝ }
     ensures { λ _. ⌜ now (s .exit) ≡ freePageB i (now (s .entry)) p ⌝ }
 {
-    if s[WHOLE + p] == holder(i) {
+    if server_state::whole(s, p) == holder(i) {
         hold(s, p, 0, 0);
         return;
     }
@@ -156,7 +156,7 @@ fn free_one(s: &mut [u8], i: usize, a: usize)
     requires { ⌜ (length (now s) ≡ serverLength) × (i < 8) × (a < 256) ⌝ }
     ensures { λ _. ⌜ now (s .exit) ≡ freeOneB i (now (s .entry)) a ⌝ }
 {
-    if s[LOCK + a] == holder(i) {
+    if server_state::lock(s, a) == holder(i) {
         le::put_u8(s, LOCK + a, 0);
         return;
     }
@@ -244,7 +244,7 @@ fn join(s: &mut [u8], i: usize, k: u8, a: u8)
     requires { ⌜ (length (now s) ≡ serverLength) × (i < 8) × (arrivalsOf (now s) < counterLimit) ⌝ }
     ensures { λ _. ⌜ now (s .exit) ≡ joinB i k a (now (s .entry)) ⌝ }
 {
-    let n = le::get_u64(s, NEXT_ARRIVAL);
+    let n = server_state::next_arrival(s);
     leave(s, i);
     le::put_u64(s, ARRIVAL + i * AGE_WIDTH, n);
     le::put_u8(s, WANT + i, k);
@@ -303,11 +303,7 @@ pub fn unpack_commit(s: &mut [u8], m: &[u8], i: usize)
 {
     let n = message::sent_reads(m);
     let w = message::sent_writes(m);
-    le::put_u32(
-        s,
-        WORK + i * NUMBER_WIDTH,
-        le::get_u32(m, message::TRANSACTION),
-    );
+    le::put_u32(s, WORK + i * NUMBER_WIDTH, message::transaction(m));
     unpack(
         s,
         m,
@@ -358,7 +354,7 @@ pub fn mark_busy(s: &mut [u8], i: usize, r: usize)
     requires { ⌜ (length (now s) ≡ serverLength) × (i < 8) × (r < 8) ⌝ }
     ensures { λ _. ⌜ now (s .exit) ≡ markBusyB i r (now (s .entry)) ⌝ }
 {
-    let x = s[BUSY + r] | station_state::bit8(i);
+    let x = server_state::busy(s, r) | station_state::bit8(i);
     le::put_u8(s, BUSY + r, x);
 }
 
@@ -368,8 +364,8 @@ pub fn answered(s: &mut [u8], i: usize, r: usize)
     ensures { λ _. ⌜ now (s .exit) ≡ answeredB i r (now (s .entry)) ⌝ }
 {
     let others = !station_state::bit8(i);
-    let busy = s[BUSY + r] & others;
-    let pend = s[PEND + r] & others;
+    let busy = server_state::busy(s, r) & others;
+    let pend = server_state::pend(s, r) & others;
     le::put_u8(s, BUSY + r, busy);
     le::put_u8(s, PEND + r, pend);
 }
@@ -421,7 +417,7 @@ fn heeded(s: &[u8], i: usize, t: u32, x: u8) -> u8
     requires { ⌜ (length (now s) ≡ serverLength) × (i < 8) ⌝ }
     ensures { λ r. ⌜ r ≡ heededB i t x (now (s .entry)) ⌝ }
 {
-    if (s[UNFINISHED + i] != 0) & (t == server_state::latest(s, i)) {
+    if (server_state::unfinished(s, i) != 0) & (t == server_state::latest(s, i)) {
         return x;
     }
     0
@@ -481,7 +477,7 @@ fn values_on(s: &mut [u8], i: usize, n: u32, p: usize)
     requires { ⌜ (length (now s) ≡ serverLength) × (i < 8) × (p < 32) ⌝ }
     ensures { λ _. ⌜ now (s .exit) ≡ run (valueOneB i n) (now (s .entry)) (p * 8) 8 ⌝ }
 {
-    if s[WRITTEN_SET + i * SET_ROW + p] == 0 {
+    if server_state::written_set(s, i, p) == 0 {
         return;
     }
     let mut o = 0;

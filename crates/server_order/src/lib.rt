@@ -10,10 +10,7 @@ ghost use Rattle.server_order.specs.Order.{edgesTo, youngerB, youngestTo
 ghost use Rattle.server_order.specs.Words.{edgeIn, throughB};
 ghost use Rattle.server_order.specs.Closure.{closeTo};
 ghost use Rattle.server_order.specs.Cycles.{closureB};
-use server_state::AGE;
-use server_state::AGE_WIDTH;
 use server_state::STATIONS;
-use server_state::WANT;
 
 // In place of an edge set that was not asked for.
 pub const UNKNOWN: u8 = 255;
@@ -81,9 +78,9 @@ fn younger(s: &[u8], w: u64, r: usize, n: usize) -> bool
     requires { ⌜ (length (now s) ≡ serverLength) × (w ≡ closureB (now s)) × (r ≤ 8) × (n < 8) ⌝ }
     ensures { λ x. ⌜ x ≡ youngerB (now (s .entry)) (edgesTo (now (s .entry)) 8) r n ⌝ }
 {
-    (s[WANT + n] != 0)
+    (server_state::want(s, n) != 0)
         & on_cycle(w, n)
-        & ((r == 8) | (le::get_u64(s, AGE + r * AGE_WIDTH) < le::get_u64(s, AGE + n * AGE_WIDTH)))
+        & ((r == 8) | (server_state::age(s, r) < server_state::age(s, n)))
 }
 
 fn younger_of(s: &[u8], w: u64, r: usize, n: usize) -> usize

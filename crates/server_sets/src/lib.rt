@@ -1,23 +1,17 @@
-// Sets of stations, a bit for each: who is listed, who locks, who owes a 7, who is busy, whom a waiter waits for. Who gets 20, who gets
-// 23 and what hinders a whole lock are tests of these bits.
+// Sets of stations, a bit for each: who is listed, who locks, whom a waiter waits for. Who gets 20, who gets 23 and what hinders a
+// whole lock are tests of these bits.
 ghost use mathlib.Core.Path.{_≡_};
 ghost use mathlib.Core.Bool.{cond};
 ghost use Prim.Native.Nat.{_^_, _<_};
 ghost use lib.ListN.{length};
-ghost use Rattle.server_state.specs.Layout.{serverLength, pendOf, busyOf};
+ghost use Rattle.server_state.specs.Layout.{serverLength};
 ghost use Rattle.server_tests.specs.Tests.{concernedSet, hinderedB, writtenPageB, writtenPagesB, edgeSet};
 ghost use Rattle.server_tests.specs.Blockers.{blockersB};
 ghost use Rattle.server_sets.specs.Sets.{listedB, listedSet, lockingSet, anyLockB, lockSet, writerSet, informedSet};
-use server_state::BUSY;
 use server_state::LISTED;
 use server_state::LOCK;
-use server_state::PEND;
-use server_state::WANT;
-use server_state::WHOLE;
-use server_state::WRITTEN_SET;
 use station_state::OBJECTS;
 use station_state::PAGE_SET_WIDTH;
-use station_state::SET_ROW;
 
 fn listed(s: &[u8], d: u32, j: usize) -> bool
     requires { ⌜ (length (now s) ≡ serverLength) × (j < 8) ⌝ }
@@ -59,7 +53,7 @@ fn any_lock(s: &[u8], p: usize) -> bool
     requires { ⌜ (length (now s) ≡ serverLength) × (p < 32) ⌝ }
     ensures { λ r. ⌜ r ≡ anyLockB (now (s .entry)) p ⌝ }
 {
-    (le::get_u64(s, LOCK + p * OBJECTS) != 0) | (s[WHOLE + p] != 0)
+    (le::get_u64(s, LOCK + p * OBJECTS) != 0) | (server_state::whole(s, p) != 0)
 }
 
 // The stations with a lock on page p. A page without locks is seen at once.
@@ -83,7 +77,7 @@ fn written_page(s: &[u8], i: usize, p: usize) -> bool
     requires { ⌜ (length (now s) ≡ serverLength) × (i < 8) × (p < 32) ⌝ }
     ensures { λ r. ⌜ r ≡ writtenPageB (now (s .entry)) i p ⌝ }
 {
-    s[WRITTEN_SET + i * SET_ROW + p] != 0
+    server_state::written_set(s, i, p) != 0
 }
 
 // The stations that wait to write on page p.
@@ -149,31 +143,15 @@ pub fn hindered(s: &[u8], i: usize, p: usize) -> bool
     (listed | lock_set(s, p) | writer_set(s, p)) & !station_state::bit8(i) != 0
 }
 
-// The stations that owe a 7 to i's 20s.
-pub fn owes_set(s: &[u8], i: usize) -> u8
-    requires { ⌜ (length (now s) ≡ serverLength) × (i < 8) ⌝ }
-    ensures { λ r. ⌜ r ≡ pendOf (now (s .entry)) i ⌝ }
-{
-    s[PEND + i]
-}
-
-// Those that have answered i's 20s with 6.
-fn busy_set(s: &[u8], i: usize) -> u8
-    requires { ⌜ (length (now s) ≡ serverLength) × (i < 8) ⌝ }
-    ensures { λ r. ⌜ r ≡ busyOf (now (s .entry)) i ⌝ }
-{
-    s[BUSY + i]
-}
-
 // The stations that i waits for, if b is who blocks it.
 pub fn edges_by(s: &[u8], i: usize, b: u8) -> u8
     requires { ⌜ (length (now s) ≡ serverLength) × (i < 8) × (b ≡ blockersB (now s) i) ⌝ }
     ensures { λ r. ⌜ r ≡ edgeSet (now (s .entry)) i ⌝ }
 {
-    if s[WANT + i] == 0 {
+    if server_state::want(s, i) == 0 {
         return 0;
     }
-    busy_set(s, i) | b
+    server_state::busy(s, i) | b
 }
 
 // A station that does not wait costs one test.
@@ -181,7 +159,7 @@ pub fn edge_set(s: &[u8], i: usize) -> u8
     requires { ⌜ (length (now s) ≡ serverLength) × (i < 8) ⌝ }
     ensures { λ r. ⌜ r ≡ edgeSet (now (s .entry)) i ⌝ }
 {
-    if s[WANT + i] == 0 {
+    if server_state::want(s, i) == 0 {
         return 0;
     }
     edges_by(s, i, server_tests::blockers(s, i))

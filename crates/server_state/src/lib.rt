@@ -3,7 +3,7 @@ ghost use mathlib.Core.Path.{_≡_};
 ghost use Prim.Native.Nat.{_+_, _≤_, _<_};
 ghost use lib.ListN.{length, replicate};
 ghost use Rattle.lists.specs.Tests.{allTo};
-ghost use Rattle.server_state.specs.Layout.{serverLength, latestOf, arrivalOf, lastOf, askedOf, wholeForOf, lockingB, keepsB, otherB};
+ghost use Rattle.server_state.specs.Layout.{serverLength, ageOf, agesOf, arrivalsOf, workNumber, latestOf, arrivalOf, lastOf, askedOf, wholeForOf, lockOf, wholeOf, readSet, writtenSet, kindOf, wantOf, requestOf, pendOf, busyOf, unfinishedOf, lockingB, keepsB, otherB};
 ghost use Rattle.server_state.specs.Valid.{mostAt, most as Valid·most, rangesOk, countersOk, wordOf, onlyIn, pageOnlyAt, pageOnly, blankOk, fewOk, commitOk, writeOk, requestOk, waiterOk, entryOk, owesAt, callsOk, agedOk, stationOk, holderOk, holderAt, besideAt, givenOk, wholeOk, pageOk, askedAt, apartOk, valid as Valid·valid, kindsOk, kindsTo, freshened, freshOf, ageless};
 ghost use Rattle.server_state.specs.Eights.{groupFree, groupOk, agesAt, arrivalsAt};
 ghost use Rattle.server_state.specs.Ages.{agedOf};
@@ -135,12 +135,121 @@ pub fn asked(s: &[u8]) -> u32
     le::get_u32(s, ASKED)
 }
 
+// The age of station i's transaction. Nobody, 8, may be asked for: who looks for the youngest has nobody at first.
+pub fn age(s: &[u8], i: usize) -> u64
+    requires { ⌜ (length (now s) ≡ serverLength) × (i ≤ 8) ⌝ }
+    ensures { λ r. ⌜ r ≡ ageOf (now (s .entry)) i ⌝ }
+{
+    le::get_u64(s, AGE + i * AGE_WIDTH)
+}
+
+// The counters: the age and the arrival that are given next.
+pub fn next_age(s: &[u8]) -> u64
+    requires { ⌜ length (now s) ≡ serverLength ⌝ }
+    ensures { λ r. ⌜ r ≡ agesOf (now (s .entry)) ⌝ }
+{
+    le::get_u64(s, NEXT_AGE)
+}
+
+pub fn next_arrival(s: &[u8]) -> u64
+    requires { ⌜ length (now s) ≡ serverLength ⌝ }
+    ensures { λ r. ⌜ r ≡ arrivalsOf (now (s .entry)) ⌝ }
+{
+    le::get_u64(s, NEXT_ARRIVAL)
+}
+
+// The transaction of station i's waiting commit.
+pub fn work(s: &[u8], i: usize) -> u32
+    requires { ⌜ (length (now s) ≡ serverLength) × (i < 8) ⌝ }
+    ensures { λ r. ⌜ r ≡ workNumber (now (s .entry)) i ⌝ }
+{
+    le::get_u32(s, WORK + i * NUMBER_WIDTH)
+}
+
 // The transaction that page p's whole lock was given to.
 pub fn whole_for(s: &[u8], p: usize) -> u32
     requires { ⌜ (length (now s) ≡ serverLength) × (p < 32) ⌝ }
     ensures { λ r. ⌜ r ≡ wholeForOf (now (s .entry)) p ⌝ }
 {
     le::get_u32(s, WHOLE_FOR + p * NUMBER_WIDTH)
+}
+
+// Who holds the lock on the object at address a: 0 for nobody, i + 1 for station i.
+pub fn lock(s: &[u8], a: usize) -> u8
+    requires { ⌜ (length (now s) ≡ serverLength) × (a < 256) ⌝ }
+    ensures { λ r. ⌜ r ≡ lockOf (now (s .entry)) a ⌝ }
+{
+    s[LOCK + a]
+}
+
+// Who holds page p whole.
+pub fn whole(s: &[u8], p: usize) -> u8
+    requires { ⌜ (length (now s) ≡ serverLength) × (p < 32) ⌝ }
+    ensures { λ r. ⌜ r ≡ wholeOf (now (s .entry)) p ⌝ }
+{
+    s[WHOLE + p]
+}
+
+// The objects of page p that station i's waiting entry reads, and those that it writes.
+pub fn read_set(s: &[u8], i: usize, p: usize) -> u8
+    requires { ⌜ (length (now s) ≡ serverLength) × (i < 8) × (p < 32) ⌝ }
+    ensures { λ r. ⌜ r ≡ readSet (now (s .entry)) i p ⌝ }
+{
+    s[READ_SET + i * SET_ROW + p]
+}
+
+pub fn written_set(s: &[u8], i: usize, p: usize) -> u8
+    requires { ⌜ (length (now s) ≡ serverLength) × (i < 8) × (p < 32) ⌝ }
+    ensures { λ r. ⌜ r ≡ writtenSet (now (s .entry)) i p ⌝ }
+{
+    s[WRITTEN_SET + i * SET_ROW + p]
+}
+
+// Station i's kind.
+pub fn kind(s: &[u8], i: usize) -> u8
+    requires { ⌜ (length (now s) ≡ serverLength) × (i < 8) ⌝ }
+    ensures { λ r. ⌜ r ≡ kindOf (now (s .entry)) i ⌝ }
+{
+    s[KIND + i]
+}
+
+// What station i waits for: 0 nothing, 1 a read, 2 a write, 3 a commit.
+pub fn want(s: &[u8], i: usize) -> u8
+    requires { ⌜ (length (now s) ≡ serverLength) × (i < 8) ⌝ }
+    ensures { λ r. ⌜ r ≡ wantOf (now (s .entry)) i ⌝ }
+{
+    s[WANT + i]
+}
+
+// The address that it requested.
+pub fn request(s: &[u8], i: usize) -> u8
+    requires { ⌜ (length (now s) ≡ serverLength) × (i < 8) ⌝ }
+    ensures { λ r. ⌜ r ≡ requestOf (now (s .entry)) i ⌝ }
+{
+    s[REQUEST + i]
+}
+
+// The stations that owe it a 7, and those of them that sent 6.
+pub fn pend(s: &[u8], i: usize) -> u8
+    requires { ⌜ (length (now s) ≡ serverLength) × (i < 8) ⌝ }
+    ensures { λ r. ⌜ r ≡ pendOf (now (s .entry)) i ⌝ }
+{
+    s[PEND + i]
+}
+
+pub fn busy(s: &[u8], i: usize) -> u8
+    requires { ⌜ (length (now s) ≡ serverLength) × (i < 8) ⌝ }
+    ensures { λ r. ⌜ r ≡ busyOf (now (s .entry)) i ⌝ }
+{
+    s[BUSY + i]
+}
+
+// 1 while station i's latest transaction is unfinished.
+pub fn unfinished(s: &[u8], i: usize) -> u8
+    requires { ⌜ (length (now s) ≡ serverLength) × (i < 8) ⌝ }
+    ensures { λ r. ⌜ r ≡ unfinishedOf (now (s .entry)) i ⌝ }
+{
+    s[UNFINISHED + i]
 }
 
 // Whose rules station i has.
@@ -202,7 +311,7 @@ fn counters_ok(s: &[u8]) -> bool
     requires { ⌜ length (now s) ≡ serverLength ⌝ }
     ensures { λ r. ⌜ r ≡ countersOk (now (s .entry)) ⌝ }
 {
-    (le::get_u64(s, NEXT_AGE) < COUNTER_LIMIT) & (le::get_u64(s, NEXT_ARRIVAL) < COUNTER_LIMIT)
+    (next_age(s) < COUNTER_LIMIT) & (next_arrival(s) < COUNTER_LIMIT)
 }
 
 // The word k of the object sets that have the address a alone.
@@ -261,8 +370,8 @@ fn blank_ok(s: &[u8], i: usize) -> bool
     requires { ⌜ (length (now s) ≡ serverLength) × (i < 8) ⌝ }
     ensures { λ r. ⌜ r ≡ blankOk (now (s .entry)) i ⌝ }
 {
-    (le::get_u64(s, ARRIVAL + i * AGE_WIDTH) == 0)
-        & (s[REQUEST + i] == 0)
+    (arrival(s, i) == 0)
+        & (request(s, i) == 0)
         & station_state::none_in(s, READ_SET + i * SET_ROW)
         & station_state::none_in(s, WRITTEN_SET + i * SET_ROW)
 }
@@ -281,10 +390,7 @@ fn commit_ok(s: &[u8], i: usize) -> bool
     requires { ⌜ (length (now s) ≡ serverLength) × (i < 8) ⌝ }
     ensures { λ r. ⌜ r ≡ commitOk (now (s .entry)) i ⌝ }
 {
-    (s[KIND + i] == 1)
-        & (s[REQUEST + i] == 0)
-        & (le::get_u32(s, WORK + i * NUMBER_WIDTH) == le::get_u32(s, LATEST + i * NUMBER_WIDTH))
-        & few_ok(s, i)
+    (kind(s, i) == 1) & (request(s, i) == 0) & (work(s, i) == latest(s, i)) & few_ok(s, i)
 }
 
 // Whether it may wait with a write: of objects of one page, whose first address is the request.
@@ -292,7 +398,7 @@ fn write_ok(s: &[u8], i: usize) -> bool
     requires { ⌜ (length (now s) ≡ serverLength) × (i < 8) ⌝ }
     ensures { λ r. ⌜ r ≡ writeOk (now (s .entry)) i ⌝ }
 {
-    let a = le::index(le::wide(s[REQUEST + i]));
+    let a = le::index(le::wide(request(s, i)));
     (a % OBJECTS == 0)
         & page_only(s, WRITTEN_SET + i * SET_ROW, a / OBJECTS)
         & station_state::none_in(s, READ_SET + i * SET_ROW)
@@ -306,8 +412,8 @@ fn request_ok(s: &[u8], i: usize) -> bool
     if !locking(s, i) {
         return false;
     }
-    if s[WANT + i] == 1 {
-        let a = s[REQUEST + i];
+    if want(s, i) == 1 {
+        let a = request(s, i);
         return only_in(s, READ_SET + i * SET_ROW, a)
             & station_state::none_in(s, WRITTEN_SET + i * SET_ROW);
     }
@@ -318,13 +424,13 @@ fn waiter_ok(s: &[u8], i: usize) -> bool
     requires { ⌜ (length (now s) ≡ serverLength) × (i < 8) ⌝ }
     ensures { λ r. ⌜ r ≡ waiterOk (now (s .entry)) i ⌝ }
 {
-    if s[UNFINISHED + i] == 0 {
+    if unfinished(s, i) == 0 {
         return false;
     }
-    if le::get_u64(s, ARRIVAL + i * AGE_WIDTH) >= le::get_u64(s, NEXT_ARRIVAL) {
+    if arrival(s, i) >= next_arrival(s) {
         return false;
     }
-    if s[WANT + i] == 3 {
+    if want(s, i) == 3 {
         return commit_ok(s, i);
     }
     request_ok(s, i)
@@ -334,7 +440,7 @@ fn entry_ok(s: &[u8], i: usize) -> bool
     requires { ⌜ (length (now s) ≡ serverLength) × (i < 8) ⌝ }
     ensures { λ r. ⌜ r ≡ entryOk (now (s .entry)) i ⌝ }
 {
-    if s[WANT + i] == 0 {
+    if want(s, i) == 0 {
         return blank_ok(s, i);
     }
     waiter_ok(s, i)
@@ -373,7 +479,7 @@ fn owes_at(s: &[u8], i: usize, j: usize) -> bool
     requires { ⌜ (length (now s) ≡ serverLength) × (i < 8) × (j < 8) ⌝ }
     ensures { λ r. ⌜ r ≡ owesAt (now (s .entry)) i j ⌝ }
 {
-    !station_state::has_bit8(s[PEND + i], j) | ((j != i) & locking(s, j))
+    !station_state::has_bit8(pend(s, i), j) | ((j != i) & locking(s, j))
 }
 
 // Those who owe a 7 are looked at, the lowest first, and nobody else.
@@ -382,7 +488,7 @@ fn owes_ok(s: &[u8], i: usize) -> bool
     ensures { λ r. ⌜ r ≡ allTo (owesAt (now (s .entry)) i) 8 ⌝ }
 {
     let mut ok = true;
-    let mut x = s[PEND + i];
+    let mut x = pend(s, i);
     while x != 0 {
         ok &= owes_at(s, i, station_state::lowest8(x));
         x &= x - 1;
@@ -395,9 +501,9 @@ fn calls_ok(s: &[u8], i: usize) -> bool
     ensures { λ r. ⌜ r ≡ callsOk (now (s .entry)) i ⌝ }
 {
     if s[CALLED + i] == 0 {
-        return (s[PEND + i] == 0) & (s[BUSY + i] == 0);
+        return (pend(s, i) == 0) & (busy(s, i) == 0);
     }
-    (s[WANT + i] >= 2) & (s[BUSY + i] | s[PEND + i] == s[PEND + i]) & owes_ok(s, i)
+    (want(s, i) >= 2) & (busy(s, i) | pend(s, i) == pend(s, i)) & owes_ok(s, i)
 }
 
 // Where no 20 is out and none is owed, the bytes of all eight are tested at once.
@@ -421,8 +527,7 @@ fn aged_ok(s: &[u8], i: usize) -> bool
     requires { ⌜ (length (now s) ≡ serverLength) × (i < 8) ⌝ }
     ensures { λ r. ⌜ r ≡ agedOk (now (s .entry)) i ⌝ }
 {
-    (le::get_u64(s, AGE + i * AGE_WIDTH) < le::get_u64(s, NEXT_AGE))
-        & ((s[UNFINISHED + i] == 0) | (le::get_u32(s, LATEST + i * NUMBER_WIDTH) != 0))
+    (age(s, i) < next_age(s)) & ((unfinished(s, i) == 0) | (latest(s, i) != 0))
 }
 
 fn ages_ok(s: &[u8]) -> bool
@@ -450,7 +555,7 @@ fn beside_at(s: &[u8], p: usize, o: usize) -> bool
     requires { ⌜ (length (now s) ≡ serverLength) × (p < 32) × (o < 8) ⌝ }
     ensures { λ r. ⌜ r ≡ besideAt (now (s .entry)) p o ⌝ }
 {
-    (s[LOCK + (p * OBJECTS + o)] == 0) | (s[LOCK + (p * OBJECTS + o)] == s[WHOLE + p])
+    (lock(s, p * OBJECTS + o) == 0) | (lock(s, p * OBJECTS + o) == whole(s, p))
 }
 
 // A page without locks on objects is passed over.
@@ -483,14 +588,14 @@ fn holder_ok(s: &[u8], h: u8) -> bool
         return false;
     }
     let i = h as usize - 1;
-    locking(s, i) & (s[UNFINISHED + i] != 0)
+    locking(s, i) & (unfinished(s, i) != 0)
 }
 
 fn holder_at(s: &[u8], p: usize, o: usize) -> bool
     requires { ⌜ (length (now s) ≡ serverLength) × (p < 32) × (o < 8) ⌝ }
     ensures { λ r. ⌜ r ≡ holderAt (now (s .entry)) p o ⌝ }
 {
-    holder_ok(s, s[LOCK + (p * OBJECTS + o)])
+    holder_ok(s, lock(s, p * OBJECTS + o))
 }
 
 // A page without locks is passed over.
@@ -521,7 +626,7 @@ fn given_ok(s: &[u8], i: usize, t: u32) -> bool
     if keeps(s, i) {
         return t <= latest(s, i);
     }
-    (s[UNFINISHED + i] != 0) & (t == latest(s, i))
+    (unfinished(s, i) != 0) & (t == latest(s, i))
 }
 
 // Whether page p is locked whole by nobody, or by a station that can be, with no lock of another's beside.
@@ -529,7 +634,7 @@ fn whole_ok(s: &[u8], p: usize) -> bool
     requires { ⌜ (length (now s) ≡ serverLength) × (p < 32) ⌝ }
     ensures { λ r. ⌜ r ≡ wholeOk (now (s .entry)) p ⌝ }
 {
-    let h = s[WHOLE + p];
+    let h = whole(s, p);
     let t = whole_for(s, p);
     if h == 0 {
         return t == 0;
@@ -594,14 +699,14 @@ fn asked_at(s: &[u8], p: usize) -> bool
     requires { ⌜ (length (now s) ≡ serverLength) × (p < 32) ⌝ }
     ensures { λ r. ⌜ r ≡ askedAt (now (s .entry)) p ⌝ }
 {
-    !station_state::has_bit32(le::get_u32(s, ASKED), p) | (s[WHOLE + p] != 0)
+    !station_state::has_bit32(asked(s), p) | (whole(s, p) != 0)
 }
 
 fn asked_ok(s: &[u8]) -> bool
     requires { ⌜ length (now s) ≡ serverLength ⌝ }
     ensures { λ r. ⌜ r ≡ allTo (askedAt (now (s .entry))) 32 ⌝ }
 {
-    if le::get_u32(s, ASKED) == 0 {
+    if asked(s) == 0 {
         return true;
     }
     let mut ok = true;
@@ -618,7 +723,7 @@ fn ageless_at(s: &[u8], i: usize) -> bool
     requires { ⌜ (length (now s) ≡ serverLength) × (i < 8) ⌝ }
     ensures { λ r. ⌜ r ≡ ageless (now (s .entry)) i ⌝ }
 {
-    (s[UNFINISHED + i] == 0) & (s[AGE_KEPT + i] == 0)
+    (unfinished(s, i) == 0) & (s[AGE_KEPT + i] == 0)
 }
 
 // Whether stations i and j differ in age, where both ages count.
@@ -626,9 +731,7 @@ fn ages_at(s: &[u8], i: usize, j: usize) -> bool
     requires { ⌜ (length (now s) ≡ serverLength) × (i < 8) × (j < 8) ⌝ }
     ensures { λ r. ⌜ r ≡ agesAt (now (s .entry)) i j ⌝ }
 {
-    ageless_at(s, i)
-        | ageless_at(s, j)
-        | (le::get_u64(s, AGE + i * AGE_WIDTH) != le::get_u64(s, AGE + j * AGE_WIDTH))
+    ageless_at(s, i) | ageless_at(s, j) | (age(s, i) != age(s, j))
 }
 
 // A station whose age does not count is passed over; the others are looked at beside those before them.
@@ -653,9 +756,7 @@ fn arrivals_at(s: &[u8], i: usize, j: usize) -> bool
     requires { ⌜ (length (now s) ≡ serverLength) × (i < 8) × (j < 8) ⌝ }
     ensures { λ r. ⌜ r ≡ arrivalsAt (now (s .entry)) i j ⌝ }
 {
-    (s[WANT + i] == 0)
-        | (s[WANT + j] == 0)
-        | (le::get_u64(s, ARRIVAL + i * AGE_WIDTH) != le::get_u64(s, ARRIVAL + j * AGE_WIDTH))
+    (want(s, i) == 0) | (want(s, j) == 0) | (arrival(s, i) != arrival(s, j))
 }
 
 // A station that does not wait is passed over.
@@ -663,7 +764,7 @@ fn arrivals_apart(s: &[u8], i: usize) -> bool
     requires { ⌜ (length (now s) ≡ serverLength) × (i < 8) ⌝ }
     ensures { λ r. ⌜ r ≡ allTo (arrivalsAt (now (s .entry)) i) i ⌝ }
 {
-    if s[WANT + i] == 0 {
+    if want(s, i) == 0 {
         return true;
     }
     let mut ok = true;

@@ -15,15 +15,10 @@ ghost use Rattle.server_tests.specs.Alone.{elsewhereAt, elsewhereB, alon
 ghost use Rattle.server_tests.specs.Blockers.{joinTo, meetOn, meetSet, aheadB, aheadSet, holderAt, holdersOn, holderSet, blockersB};
 ghost use Rattle.server_tests.specs.Groups.{idleIn, staleIn, lockedIn, holdersIn};
 use server_state::LOCK;
-use server_state::PEND;
 use server_state::READ_SET;
 use server_state::READ_VERSION;
-use server_state::REQUEST;
-use server_state::UNFINISHED;
 use server_state::VERSION;
 use server_state::VERSION_ROW;
-use server_state::WANT;
-use server_state::WHOLE;
 use server_state::WRITTEN_SET;
 use server_state::WRITTEN_VERSION;
 use station_state::GROUP;
@@ -31,7 +26,7 @@ use station_state::NUMBER_WIDTH;
 use station_state::OBJECTS;
 use station_state::SET_ROW;
 
-// A byte as a number that compares with a station and finds a place.
+// A byte as a number that finds a place.
 fn byte(s: &[u8], k: usize) -> usize
     requires { ⌜ k < length (now s) ⌝ }
     ensures { λ r. ⌜ (r ≡ getD (now (s .entry)) k 0) × (r < 256) ⌝ }
@@ -55,7 +50,7 @@ fn wanted(s: &[u8], i: usize, p: usize) -> u8
     requires { ⌜ (length (now s) ≡ serverLength) × (i < 8) × (p < 32) ⌝ }
     ensures { λ r. ⌜ r ≡ wantedOn (now (s .entry)) i p ⌝ }
 {
-    s[READ_SET + i * SET_ROW + p] | s[WRITTEN_SET + i * SET_ROW + p]
+    server_state::read_set(s, i, p) | server_state::written_set(s, i, p)
 }
 
 // Whether it wants nothing on the eight pages of group g. A test of each word: joined by `|` the two compile badly.
@@ -73,7 +68,7 @@ fn lock_at(s: &[u8], i: usize, p: usize, o: usize) -> bool
     requires { ⌜ (length (now s) ≡ serverLength) × (i < 8) × (p < 32) × (o < 8) ⌝ }
     ensures { λ r. ⌜ r ≡ lockAtB (now (s .entry)) i p o ⌝ }
 {
-    byte(s, LOCK + (p * OBJECTS + o)) == i + 1
+    server_state::lock(s, p * OBJECTS + o) as usize == i + 1
 }
 
 // Whether station i has a lock on page p, whole or on an object. A page without locks on objects is seen at once.
@@ -81,7 +76,7 @@ pub fn lock_on(s: &[u8], i: usize, p: usize) -> bool
     requires { ⌜ (length (now s) ≡ serverLength) × (i < 8) × (p < 32) ⌝ }
     ensures { λ r. ⌜ r ≡ lockOnB (now (s .entry)) i p ⌝ }
 {
-    let whole = byte(s, WHOLE + p) == i + 1;
+    let whole = server_state::whole(s, p) as usize == i + 1;
     if le::get_u64(s, LOCK + p * OBJECTS) == 0 {
         return whole;
     }
@@ -100,11 +95,11 @@ fn bad_number(s: &[u8], i: usize, t: u32) -> bool
     ensures { λ r. ⌜ r ≡ badNumberB (now (s .entry)) i t ⌝ }
 {
     let n = server_state::latest(s, i);
-    let over = s[UNFINISHED + i] == 0;
+    let over = server_state::unfinished(s, i) == 0;
     (t < n)
         | ((t == n) & over)
         | ((n < t) & !over & server_state::locking(s, i))
-        | (s[WANT + i] != 0)
+        | (server_state::want(s, i) != 0)
 }
 
 // Whether write k of the record is to an object that i has not locked.
@@ -116,7 +111,7 @@ fn unlocked_at(s: &[u8], i: usize, m: &[u8], k: usize) -> bool
         m,
         message::record_at(m) + record::HEADER + message::sent_reads(m) + k,
     );
-    (byte(s, LOCK + a) != i + 1) & (byte(s, WHOLE + a / 8) != i + 1)
+    (server_state::lock(s, a) as usize != i + 1) & (server_state::whole(s, a / 8) as usize != i + 1)
 }
 
 // Whether i is locking and writes an object that it has not locked.
@@ -163,7 +158,7 @@ fn above_open(s: &[u8], i: usize, t: u32) -> bool
     requires { ⌜ (length (now s) ≡ serverLength) × (i < 8) ⌝ }
     ensures { λ r. ⌜ r ≡ aboveOpenB (now (s .entry)) i t ⌝ }
 {
-    (server_state::latest(s, i) < t) & (s[UNFINISHED + i] != 0)
+    (server_state::latest(s, i) < t) & (server_state::unfinished(s, i) != 0)
 }
 
 // Number 6 of a message that numbers 2 to 5 let pass.
@@ -171,17 +166,17 @@ pub fn unexpected(s: &[u8], m: &[u8]) -> bool
     requires { ⌜ (length (now s) ≡ serverLength) × (messageLength ≤ length (now m)) × (stationOf (now m) < 8) × ForServer (now m) × (kindOf (now m) ≡ 3 → (shortestCommit ≤ length (now m)) × (addressesAt (now m) + entriesOf (now m) ≤ length (now m))) × (kindOf (now m) ≡ 5 → pageOf (now m) < 32) ⌝ }
     ensures { λ r. ⌜ r ≡ unexpectedB (now (s .entry)) (now (m .entry)) ⌝ }
 {
-    let i = byte(m, message::STATION);
-    let t = le::get_u32(m, message::TRANSACTION);
+    let i = message::station(m) as usize;
+    let t = message::transaction(m);
     let validates = !server_state::locking(s, i);
-    match m[message::KIND] {
+    match message::kind(m) {
         1 => bad_number(s, i, t),
         2 => bad_number(s, i, t) | validates,
         3 => bad_number(s, i, t) | unlocked(s, i, m),
         4 => bad_number(s, i, t) | validates,
-        5 => lock_on(s, i, byte(m, message::PAGE)),
+        5 => lock_on(s, i, message::page(m) as usize),
         6 => validates,
-        7 => validates | drops_own(s, i, le::get_u32(m, message::PAGES)),
+        7 => validates | drops_own(s, i, message::pages(m)),
         8 => validates | (server_state::keeps(s, i) & above_open(s, i, t)),
         _ => true,
     }
@@ -192,7 +187,9 @@ pub fn open_call(s: &[u8], i: usize, r: usize, t: u32) -> bool
     requires { ⌜ (length (now s) ≡ serverLength) × (i < 8) × (r < 8) ⌝ }
     ensures { λ x. ⌜ x ≡ openCallB (now (s .entry)) i r t ⌝ }
 {
-    (s[WANT + r] != 0) & (t == server_state::latest(s, r)) & station_state::has_bit8(s[PEND + r], i)
+    (server_state::want(s, r) != 0)
+        & (t == server_state::latest(s, r))
+        & station_state::has_bit8(server_state::pend(s, r), i)
 }
 
 // Whether i owes an 8 for page p and transaction t.
@@ -200,10 +197,10 @@ pub fn open_ask(s: &[u8], i: usize, p: usize, t: u32) -> bool
     requires { ⌜ (length (now s) ≡ serverLength) × (i < 8) × (p < 32) ⌝ }
     ensures { λ r. ⌜ r ≡ openAskB (now (s .entry)) i p t ⌝ }
 {
-    (byte(s, WHOLE + p) == i + 1)
+    (server_state::whole(s, p) as usize == i + 1)
         & station_state::has_bit32(server_state::asked(s), p)
         & (server_state::keeps(s, i)
-            | ((s[UNFINISHED + i] != 0) & (t == server_state::latest(s, i))))
+            | ((server_state::unfinished(s, i) != 0) & (t == server_state::latest(s, i))))
 }
 
 // Whether the version that came for object o of page p, among those from `from`, is another than the object's.
@@ -219,9 +216,9 @@ fn stale_at(s: &[u8], i: usize, p: usize, o: usize) -> bool
     requires { ⌜ (length (now s) ≡ serverLength) × (i < 8) × (p < 32) × (o < 8) ⌝ }
     ensures { λ r. ⌜ r ≡ staleAtB (now (s .entry)) i p o ⌝ }
 {
-    (station_state::has_bit8(s[READ_SET + i * SET_ROW + p], o)
+    (station_state::has_bit8(server_state::read_set(s, i, p), o)
         & other_version(s, READ_VERSION + i * VERSION_ROW, p, o))
-        | (station_state::has_bit8(s[WRITTEN_SET + i * SET_ROW + p], o)
+        | (station_state::has_bit8(server_state::written_set(s, i, p), o)
             & other_version(s, WRITTEN_VERSION + i * VERSION_ROW, p, o))
 }
 
@@ -277,8 +274,8 @@ fn locked_at(s: &[u8], i: usize, p: usize, o: usize) -> bool
     requires { ⌜ (length (now s) ≡ serverLength) × (i < 8) × (p < 32) × (o < 8) ⌝ }
     ensures { λ r. ⌜ r ≡ lockedAtB (now (s .entry)) i p o ⌝ }
 {
-    station_state::has_bit8(s[WRITTEN_SET + i * SET_ROW + p], o)
-        & server_state::other(s[LOCK + (p * OBJECTS + o)], i)
+    station_state::has_bit8(server_state::written_set(s, i, p), o)
+        & server_state::other(server_state::lock(s, p * OBJECTS + o), i)
 }
 
 // The objects that are written are looked at, lowest first.
@@ -286,7 +283,7 @@ fn locked_on(s: &[u8], i: usize, p: usize) -> bool
     requires { ⌜ (length (now s) ≡ serverLength) × (i < 8) × (p < 32) ⌝ }
     ensures { λ r. ⌜ r ≡ lockedOnB (now (s .entry)) i p ⌝ }
 {
-    let mut x = s[WRITTEN_SET + i * SET_ROW + p];
+    let mut x = server_state::written_set(s, i, p);
     let mut r = false;
     while x != 0 {
         r |= locked_at(s, i, p, station_state::lowest8(x));
@@ -348,7 +345,7 @@ fn earlier(s: &[u8], j: usize, i: usize) -> bool
     requires { ⌜ (length (now s) ≡ serverLength) × (j < 8) × (i < 8) ⌝ }
     ensures { λ r. ⌜ r ≡ earlierB (now (s .entry)) j i ⌝ }
 {
-    (s[WANT + j] != 0) & (server_state::arrival(s, j) < server_state::arrival(s, i))
+    (server_state::want(s, j) != 0) & (server_state::arrival(s, j) < server_state::arrival(s, i))
 }
 
 // The objects of page p that i and j want and one of the two writes.
@@ -358,7 +355,7 @@ fn meet_on(s: &[u8], i: usize, j: usize, p: usize) -> u8
 {
     wanted(s, i, p)
         & wanted(s, j, p)
-        & (s[WRITTEN_SET + j * SET_ROW + p] | s[WRITTEN_SET + i * SET_ROW + p])
+        & (server_state::written_set(s, j, p) | server_state::written_set(s, i, p))
 }
 
 // Those of all pages, laid over each other.
@@ -404,9 +401,9 @@ fn holder_at(s: &[u8], i: usize, p: usize, o: usize) -> u8
     requires { ⌜ (length (now s) ≡ serverLength) × (i < 8) × (p < 32) × (o < 8) ⌝ }
     ensures { λ r. ⌜ r ≡ holderAt (now (s .entry)) i p o ⌝ }
 {
-    let h = s[LOCK + (p * OBJECTS + o)];
+    let h = server_state::lock(s, p * OBJECTS + o);
     let held = station_state::has_bit8(wanted(s, i, p), o) & server_state::other(h, i) & (h <= 8);
-    bit_if(held, (byte(s, LOCK + (p * OBJECTS + o)) + 7) % 8)
+    bit_if(held, (h as usize + 7) % 8)
 }
 
 // Most pages are without locks or not wanted, and cost a test; of the others the objects that are wanted are looked at, lowest first.
@@ -490,7 +487,7 @@ pub fn page_alone(s: &[u8], i: usize) -> usize
     requires { ⌜ (length (now s) ≡ serverLength) × (i < 8) ⌝ }
     ensures { λ r. ⌜ r ≡ aloneB (now (s .entry)) i ⌝ }
 {
-    let p = byte(s, REQUEST + i) / OBJECTS;
+    let p = server_state::request(s, i) as usize / OBJECTS;
     if elsewhere(s, i, p) {
         return 32;
     }
@@ -502,7 +499,7 @@ fn ahead_at(s: &[u8], i: usize, p: usize, j: usize) -> bool
     requires { ⌜ (length (now s) ≡ serverLength) × (i < 8) × (p < 32) × (j < 8) ⌝ }
     ensures { λ r. ⌜ r ≡ aheadAt (now (s .entry)) i p j ⌝ }
 {
-    if s[WANT + j] == 0 {
+    if server_state::want(s, j) == 0 {
         return false;
     }
     if server_state::arrival(s, j) >= server_state::arrival(s, i) {
@@ -540,7 +537,7 @@ pub fn shut(s: &[u8], i: usize, p: usize) -> bool
     requires { ⌜ (length (now s) ≡ serverLength) × (i < 8) × (p < 32) ⌝ }
     ensures { λ r. ⌜ r ≡ shutB (now (s .entry)) i p ⌝ }
 {
-    (wanted(s, i, p) != 0) & server_state::other(s[WHOLE + p], i)
+    (wanted(s, i, p) != 0) & server_state::other(server_state::whole(s, p), i)
 }
 
 // Whether page p's 19 is due to another than i; kept, only if it keeps.
@@ -551,7 +548,7 @@ pub fn due(s: &[u8], i: usize, p: usize, kept: bool) -> bool
     if !shut(s, i, p) {
         return false;
     }
-    let h = s[WHOLE + p] as usize - 1;
+    let h = server_state::whole(s, p) as usize - 1;
     (!kept | server_state::keeps(s, h)) & !station_state::has_bit32(server_state::asked(s), p)
 }
 
@@ -587,7 +584,7 @@ fn written_by(s: &[u8], i: usize, p: usize, j: usize) -> u8
     if j == i {
         return 0;
     }
-    s[WRITTEN_SET + j * SET_ROW + p]
+    server_state::written_set(s, j, p)
 }
 
 // The objects of page p that others than i wait to write.
@@ -609,7 +606,7 @@ fn unavailable_at(s: &[u8], i: usize, a: usize, w: u8, o: usize) -> bool
     requires { ⌜ (length (now s) ≡ serverLength) × (i < 8) × (a < 256) × (o < 8) × (w ≡ joinTo (writtenBy (now s) i (a / 8)) 8) ⌝ }
     ensures { λ r. ⌜ r ≡ unavailableAt (now (s .entry)) i a o ⌝ }
 {
-    let other = server_state::other(s[LOCK + (a / OBJECTS * OBJECTS + o)], i);
+    let other = server_state::other(server_state::lock(s, a / OBJECTS * OBJECTS + o), i);
     !station_state::has_bit8(wanted(s, i, a / OBJECTS), o) & (other | station_state::has_bit8(w, o))
 }
 

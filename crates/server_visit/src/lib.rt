@@ -14,19 +14,14 @@ ghost use Rattle.server_visit.specs.Visits.{visitCommitB};
 use message::LENGTH as MESSAGE;
 use server_actions::Counts;
 use server_state::CALLED;
-use server_state::REQUEST;
-use server_state::WANT;
-use server_state::WHOLE;
-use server_state::WRITTEN_SET;
 use station_state::OBJECTS;
-use station_state::SET_ROW;
 
 // The address that i's entry requests.
 fn request(s: &[u8], i: usize) -> usize
     requires { ⌜ (length (now s) ≡ serverLength) × (i < 8) ⌝ }
     ensures { λ r. ⌜ (r ≡ requestOf (now (s .entry)) i) × (r < 256) ⌝ }
 {
-    s[REQUEST + i] as usize
+    server_state::request(s, i) as usize
 }
 
 // The station that has locked page p whole.
@@ -34,7 +29,7 @@ fn whole_holder(s: &[u8], p: usize) -> usize
     requires { ⌜ (length (now s) ≡ serverLength) × (p < 32) × (1 ≤ wholeOf (now s) p) × (wholeOf (now s) p ≤ 8) ⌝ }
     ensures { λ r. ⌜ (r ≡ wholeOf (now (s .entry)) p - 1) × (r < 8) ⌝ }
 {
-    s[WHOLE + p] as usize - 1
+    server_state::whole(s, p) as usize - 1
 }
 
 // 19 to the station that has locked page p whole, once; kept, only if it keeps.
@@ -151,7 +146,7 @@ fn grant_object(s: &mut [u8], o: &mut [u8], q: &mut [u8], c: Counts, i: usize) -
 {
     let a = request(s, i);
     let u = server_tests::unavailable(s, i, a);
-    let x = s[WRITTEN_SET + i * SET_ROW + a / OBJECTS];
+    let x = server_state::written_set(s, i, a / OBJECTS);
     server_changes::leave(s, i);
     server_changes::lock_set(s, i, a / OBJECTS, x);
     server_actions::send_page(s, o, q, c, 17, i, a, u)
@@ -173,7 +168,7 @@ fn after_calls(s: &mut [u8], o: &mut [u8], q: &mut [u8], c: Counts, i: usize, w:
     requires { ⌜ (length (now s) ≡ serverLength) × (i < 8) × (w ≢ 2 → lastOf (now s) < 4294967295) × Room (now o) (now q) c (afterCallsB w i (from (now s))) ⌝ }
     ensures { λ r. ⌜ posted (now (s .exit)) (now (o .exit)) (now (q .exit)) r ≡ post (now (o .entry)) (now (q .entry)) c (afterCallsB w i (from (now (s .entry)))) ⌝ }
 {
-    if server_sets::owes_set(s, i) != 0 {
+    if server_state::pend(s, i) != 0 {
         return c;
     }
     if w == 2 {
@@ -294,7 +289,7 @@ pub fn visit(
     requires { ⌜ (length (now s) ≡ serverLength) × (i < 8) × Held (now s) × (wantOf (now s) i ≤ 3) × (b ≡ blockersB (now s) i) × (x ≡ shutOutB (now s) i) × Room (now o) (now q) c (visitB i (from (now s))) ⌝ }
     ensures { λ r. ⌜ posted (now (s .exit)) (now (o .exit)) (now (q .exit)) r ≡ post (now (o .entry)) (now (q .entry)) c (visitB i (from (now (s .entry)))) ⌝ }
 {
-    let w = s[WANT + i];
+    let w = server_state::want(s, i);
     if w == 0 {
         return c;
     }

@@ -6,18 +6,17 @@ ghost use Rattle.station_owner.specs.Owner.{called};
 ghost use Rattle.station.specs.Station.{checkStepB, stationStepB};
 ghost use Rattle.station_state.specs.Layout.{stateLength};
 use station_answer::Said;
-use station_state::STATION;
 
 // The number of a message at this state: 2, 3 and 4, then 6.
 fn check_step(m: &[u8], s: &[u8]) -> u32
     requires { ⌜ length (now s) ≡ stateLength ⌝ }
     ensures { λ r. ⌜ r ≡ checkStepB (now (m .entry)) (now (s .entry)) ⌝ }
 {
-    let n = message::down_check(le::wide(s[STATION]), m);
+    let n = message::down_check(le::wide(station_state::station(s)), m);
     if n != 0 {
         return n;
     }
-    if m[message::STATION] != s[STATION] {
+    if message::station(m) != station_state::station(s) {
         return 6;
     }
     if !station_delivery::fits(m, s) {

@@ -7,10 +7,7 @@ ghost use Rattle.station_callbacks.specs.Callbacks.{setsAt, notKeptB, un
 ghost use Rattle.station_state.specs.Layout.{setRow, stateLength};
 ghost use Rattle.message.specs.Layout.{messageLength};
 ghost use Rattle.message.specs.Commit.{stationRoom};
-use station_state::KEPT;
-use station_state::KIND;
 use station_state::NAMED;
-use station_state::NUMBER_WIDTH;
 use station_state::SET_ROW;
 use station_state::WRITTEN_SET;
 
@@ -42,7 +39,7 @@ fn not_kept(i: u8, r: u8, s: &[u8]) -> bool
     requires { ⌜ (length (now s) ≡ stateLength) × (r < 8) ⌝ }
     ensures { λ k. ⌜ k ≡ notKeptB i r (now (s .entry)) ⌝ }
 {
-    (le::get_u32(s, KEPT + r as usize * NUMBER_WIDTH) == 0) | (r == i)
+    (station_state::kept(s, r as usize) == 0) | (r == i)
 }
 
 // Does the callback kept for requester r, if there is one.
@@ -53,7 +50,7 @@ fn do_kept(s: &mut [u8], o: &mut [u8], n: usize, i: u8, r: u8) -> usize
     if not_kept(i, r, s) {
         return n;
     }
-    let t = le::get_u32(s, KEPT + r as usize * NUMBER_WIDTH);
+    let t = station_state::kept(s, r as usize);
     let x = sets_at(s, NAMED + r as usize * SET_ROW);
     station_state::unkeep(s, r as usize);
     do_callback(s, o, n, i, r, t, &x)
@@ -88,7 +85,7 @@ pub fn undo(s: &mut [u8])
     requires { ⌜ length (now s) ≡ stateLength ⌝ }
     ensures { λ _. ⌜ now (s .exit) ≡ undoB (now (s .entry)) ⌝ }
 {
-    if kinds::locking(s[KIND]) {
+    if station_state::locking(s) {
         let x = sets_at(s, WRITTEN_SET);
         station_pages::mark(s, &x);
         return;

@@ -8,12 +8,10 @@ ghost use Rattle.station_state.specs.Layout.{stateLength};
 ghost use Rattle.message.specs.Layout.{versionWidth};
 ghost use Rattle.message.specs.Commit.{versionsAt};
 use set_record::ADDRESSES;
-use station_state::KIND;
 use station_state::NUMBER_WIDTH;
 use station_state::READ_SET;
 use station_state::READ_VALUES;
 use station_state::SEEN;
-use station_state::STATION;
 use station_state::WRITTEN_SET;
 use station_state::WRITTEN_VALUES;
 
@@ -22,7 +20,7 @@ fn version_sent(s: &[u8], a: usize) -> u32
     requires { ⌜ (length (now s) ≡ stateLength) × (a < 256) ⌝ }
     ensures { λ r. ⌜ r ≡ versionSent (now (s .entry)) a ⌝ }
 {
-    if kinds::locking(s[KIND]) {
+    if station_state::locking(s) {
         return 0;
     }
     le::get_u32(s, SEEN + a * NUMBER_WIDTH)
@@ -65,7 +63,7 @@ pub fn put_commit(s: &[u8], c: &mut [u8]) -> usize
         c,
         0,
         3,
-        s[STATION],
+        station_state::station(s),
         0,
         0,
         t,
@@ -73,8 +71,8 @@ pub fn put_commit(s: &[u8], c: &mut [u8]) -> usize
         0,
     );
     let k = put_versions(c, s);
-    let station = le::wide(s[STATION]);
-    let kind = le::wide(s[KIND]);
+    let station = le::wide(station_state::station(s));
+    let kind = le::wide(station_state::kind(s));
     let at = message::VERSIONS + k * message::VERSION_WIDTH;
     at
         + set_record::put_record(

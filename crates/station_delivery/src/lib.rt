@@ -10,24 +10,15 @@ ghost use Rattle.message.specs.Layout.{messageLength, pageOf};
 ghost use Rattle.message.specs.Commit.{stationRoom};
 use station_answer::Answer;
 use station_answer::Said;
-use station_state::ADDRESS;
-use station_state::COPY;
-use station_state::KIND;
 use station_state::OBJECTS;
-use station_state::OPEN;
-use station_state::STATION;
-use station_state::VALUE_WIDTH;
-use station_state::WAIT;
-use station_state::WAITING_SET;
 use station_state::WHOLE;
-use station_state::WRITTEN_SET;
 
 // Whether t is the open transaction.
 fn live(s: &[u8], t: u32) -> bool
     requires { ⌜ length (now s) ≡ stateLength ⌝ }
     ensures { λ r. ⌜ r ≡ liveB (now (s .entry)) t ⌝ }
 {
-    (s[OPEN] != 0) & (t == station_state::number(s))
+    (station_state::opened(s) != 0) & (t == station_state::number(s))
 }
 
 // Whether t is a validating transaction that has ended.
@@ -35,14 +26,14 @@ fn ended(s: &[u8], t: u32) -> bool
     requires { ⌜ length (now s) ≡ stateLength ⌝ }
     ensures { λ r. ⌜ r ≡ endedB (now (s .entry)) t ⌝ }
 {
-    !kinds::locking(s[KIND]) & !live(s, t) & !(station_state::number(s) < t)
+    !station_state::locking(s) & !live(s, t) & !(station_state::number(s) < t)
 }
 
 fn for_read_of(s: &[u8], a: usize) -> bool
     requires { ⌜ length (now s) ≡ stateLength ⌝ }
     ensures { λ r. ⌜ r ≡ forReadOf (now (s .entry)) a ⌝ }
 {
-    (s[WAIT] == 1) & (a == s[ADDRESS] as usize)
+    (station_state::wait(s) == 1) & (a == station_state::address(s) as usize)
 }
 
 // Whether a write on page p is out.
@@ -50,7 +41,7 @@ fn for_write_on(s: &[u8], p: usize) -> bool
     requires { ⌜ length (now s) ≡ stateLength ⌝ }
     ensures { λ r. ⌜ r ≡ forWriteOn (now (s .entry)) p ⌝ }
 {
-    (s[WAIT] == 2) & (p == (s[ADDRESS] / 8) as usize)
+    (station_state::wait(s) == 2) & (p == (station_state::address(s) / 8) as usize)
 }
 
 // Whether a write that is out will write a.
@@ -58,7 +49,7 @@ fn for_write_of(s: &[u8], a: usize) -> bool
     requires { ⌜ length (now s) ≡ stateLength ⌝ }
     ensures { λ r. ⌜ r ≡ forWriteOf (now (s .entry)) a ⌝ }
 {
-    for_write_on(s, a / 8) & station_state::has_bit8(s[WAITING_SET], a % 8)
+    for_write_on(s, a / 8) & station_state::has_bit8(station_state::waiting_set(s), a % 8)
 }
 
 // Whether a 16 fits what is out, or comes for an ended transaction.
@@ -66,10 +57,10 @@ fn fits_page(m: &[u8], s: &[u8]) -> bool
     requires { ⌜ (length (now s) ≡ stateLength) × (messageLength ≤ length (now m)) ⌝ }
     ensures { λ r. ⌜ r ≡ fitsPageB (now (m .entry)) (now (s .entry)) ⌝ }
 {
-    let t = le::get_u32(m, message::TRANSACTION);
-    let a = m[message::PAGE] as usize * OBJECTS + m[message::OBJECT] as usize;
+    let t = message::transaction(m);
+    let a = message::page(m) as usize * OBJECTS + message::object(m) as usize;
     ended(s, t)
-        | (live(s, t) & (for_read_of(s, a) | (!kinds::locking(s[KIND]) & for_write_of(s, a))))
+        | (live(s, t) & (for_read_of(s, a) | (!station_state::locking(s) & for_write_of(s, a))))
 }
 
 // Whether a 17 or 18 fits what is out.
@@ -77,23 +68,23 @@ fn fits_lock(m: &[u8], s: &[u8]) -> bool
     requires { ⌜ (length (now s) ≡ stateLength) × (messageLength ≤ length (now m)) ⌝ }
     ensures { λ r. ⌜ r ≡ fitsLockB (now (m .entry)) (now (s .entry)) ⌝ }
 {
-    kinds::locking(s[KIND])
-        & live(s, le::get_u32(m, message::TRANSACTION))
-        & for_write_on(s, m[message::PAGE] as usize)
+    station_state::locking(s)
+        & live(s, message::transaction(m))
+        & for_write_on(s, message::page(m) as usize)
 }
 
 fn fits_committed(m: &[u8], s: &[u8]) -> bool
     requires { ⌜ (length (now s) ≡ stateLength) × (messageLength ≤ length (now m)) ⌝ }
     ensures { λ r. ⌜ r ≡ fitsCommittedB (now (m .entry)) (now (s .entry)) ⌝ }
 {
-    live(s, le::get_u32(m, message::TRANSACTION)) & (s[WAIT] == 3)
+    live(s, message::transaction(m)) & (station_state::wait(s) == 3)
 }
 
 fn fits_aborted(m: &[u8], s: &[u8]) -> bool
     requires { ⌜ (length (now s) ≡ stateLength) × (messageLength ≤ length (now m)) ⌝ }
     ensures { λ r. ⌜ r ≡ fitsAbortedB (now (m .entry)) (now (s .entry)) ⌝ }
 {
-    live(s, le::get_u32(m, message::TRANSACTION)) & !(s[WAIT] == 0)
+    live(s, message::transaction(m)) & !(station_state::wait(s) == 0)
 }
 
 // Whether a message fits the station's kind and what is out.
@@ -101,15 +92,15 @@ pub fn fits(m: &[u8], s: &[u8]) -> bool
     requires { ⌜ (length (now s) ≡ stateLength) × (messageLength ≤ length (now m)) × ForStations (now m) ⌝ }
     ensures { λ r. ⌜ r ≡ fitsB (now (m .entry)) (now (s .entry)) ⌝ }
 {
-    match m[message::KIND] {
+    match message::kind(m) {
         16 => fits_page(m, s),
         17 => fits_lock(m, s),
         18 => fits_lock(m, s),
-        19 => kinds::locking(s[KIND]),
-        20 => kinds::locking(s[KIND]),
+        19 => station_state::locking(s),
+        20 => station_state::locking(s),
         21 => fits_committed(m, s),
         22 => fits_aborted(m, s),
-        23 => !kinds::locking(s[KIND]),
+        23 => !station_state::locking(s),
         _ => false,
     }
 }
@@ -119,12 +110,12 @@ fn take_lock(s: &mut [u8], m: &[u8])
     requires { ⌜ (length (now s) ≡ stateLength) × (messageLength ≤ length (now m)) × (pageOf (now m) < 32) ⌝ }
     ensures { λ _. ⌜ now (s .exit) ≡ takeLockB (now (m .entry)) (now (s .entry)) ⌝ }
 {
-    let p = m[message::PAGE] as usize;
-    if m[message::KIND] == 17 {
+    let p = message::page(m) as usize;
+    if message::kind(m) == 17 {
         station_state::lock_waiting(s, p);
         return;
     }
-    if m[message::KIND] == 18 {
+    if message::kind(m) == 18 {
         station_state::page_on(s, WHOLE, p);
         return;
     }
@@ -136,7 +127,7 @@ fn arrived(s: &mut [u8], m: &[u8])
     ensures { λ _. ⌜ now (s .exit) ≡ arrivedB (now (m .entry)) (now (s .entry)) ⌝ }
 {
     take_lock(s, m);
-    station_pages::arrive(s, m, m[message::PAGE] as usize);
+    station_pages::arrive(s, m, message::page(m) as usize);
     station_state::idle(s);
 }
 
@@ -146,7 +137,7 @@ fn answer_wait(s: &mut [u8], o: &mut [u8], w: u8, a: usize, x: u8, values: &[u64
     ensures { λ r. ⌜ delivered (now (s .exit)) (now (o .exit)) r ≡ handed (now (o .entry)) (answerWaitB w a x (now (values .entry)) (now (s .entry))) ⌝ }
 {
     if w == 1 {
-        let v = le::get_u64(s, COPY + a * VALUE_WIDTH);
+        let v = station_state::copy(s, a);
         station_state::record_read(s, a);
         return station_answer::say(Answer::Value(v), 0);
     }
@@ -162,12 +153,12 @@ fn on_page(s: &mut [u8], m: &[u8], o: &mut [u8]) -> Said
     requires { ⌜ (length (now s) ≡ stateLength) × (messageLength ≤ length (now m)) × (pageOf (now m) < 32) ⌝ }
     ensures { λ r. ⌜ delivered (now (s .exit)) (now (o .exit)) r ≡ handed (now (o .entry)) (onPageB (now (m .entry)) (now (s .entry))) ⌝ }
 {
-    if ended(s, le::get_u32(m, message::TRANSACTION)) {
+    if ended(s, message::transaction(m)) {
         return station_answer::say(Answer::Nothing, 0);
     }
-    let w = s[WAIT];
-    let a = s[ADDRESS] as usize;
-    let x = s[WAITING_SET];
+    let w = station_state::wait(s);
+    let a = station_state::address(s) as usize;
+    let x = station_state::waiting_set(s);
     let values = station_state::waiting_values(s);
     arrived(s, m);
     answer_wait(s, o, w, a, x, &values)
@@ -178,10 +169,10 @@ fn answers_for(m: &[u8], s: &[u8]) -> u32
     requires { ⌜ (length (now s) ≡ stateLength) × (messageLength ≤ length (now m)) ⌝ }
     ensures { λ r. ⌜ r ≡ answersForB (now (m .entry)) (now (s .entry)) ⌝ }
 {
-    if kinds::keeps(s[KIND]) & !(s[OPEN] == 0) {
+    if station_state::keeps(s) & !(station_state::opened(s) == 0) {
         return station_state::number(s);
     }
-    le::get_u32(m, message::TRANSACTION)
+    message::transaction(m)
 }
 
 // The objects that it wrote on the page that 19 names.
@@ -190,7 +181,7 @@ fn written_on(m: &[u8], s: &[u8]) -> u8
     ensures { λ r. ⌜ r ≡ writtenOnB (now (m .entry)) (now (s .entry)) ⌝ }
 {
     if live(s, answers_for(m, s)) {
-        return s[WRITTEN_SET + m[message::PAGE] as usize];
+        return station_state::written_set(s, message::page(m) as usize);
     }
     0
 }
@@ -200,8 +191,8 @@ fn gives_up(m: &[u8], s: &[u8]) -> bool
     requires { ⌜ (length (now s) ≡ stateLength) × (messageLength ≤ length (now m)) × (pageOf (now m) < 32) ⌝ }
     ensures { λ r. ⌜ r ≡ givesUpB (now (m .entry)) (now (s .entry)) ⌝ }
 {
-    let p = m[message::PAGE] as usize;
-    (kinds::keeps(s[KIND]) | live(s, le::get_u32(m, message::TRANSACTION)))
+    let p = message::page(m) as usize;
+    (station_state::keeps(s) | live(s, message::transaction(m)))
         & station_state::has_bit32(station_state::whole(s), p)
 }
 
@@ -211,7 +202,7 @@ fn loosened(s: &mut [u8], m: &[u8], x: u8)
     ensures { λ _. ⌜ now (s .exit) ≡ loosenedB (now (m .entry)) (now (s .entry)) ⌝ }
 {
     if gives_up(m, s) {
-        station_state::loosen(s, m[message::PAGE] as usize, x);
+        station_state::loosen(s, message::page(m) as usize, x);
         return;
     }
 }
@@ -226,8 +217,8 @@ fn on_deescalate(s: &mut [u8], m: &[u8], o: &mut [u8]) -> Said
         o,
         0,
         8,
-        s[STATION],
-        m[message::PAGE],
+        station_state::station(s),
+        message::page(m),
         0,
         answers_for(m, s),
         0,
@@ -242,15 +233,25 @@ fn on_callback(s: &mut [u8], m: &[u8], o: &mut [u8]) -> Said
     requires { ⌜ (length (now s) ≡ stateLength) × (messageLength ≤ length (now m)) × (stationRoom ≤ length (now o)) × (pageOf (now m) < 8) ⌝ }
     ensures { λ r. ⌜ delivered (now (s .exit)) (now (o .exit)) r ≡ handed (now (o .entry)) (onCallbackB (now (m .entry)) (now (s .entry))) ⌝ }
 {
-    let t = le::get_u32(m, message::TRANSACTION);
+    let t = message::transaction(m);
     let x = &m[message::SETS..message::VALUES];
     if station_pages::in_use(x, s) {
-        message::put_up(o, 0, 6, s[STATION], m[message::PAGE], 0, t, 0, 0);
-        station_state::keep(s, m[message::PAGE] as usize, t, x);
+        message::put_up(
+            o,
+            0,
+            6,
+            station_state::station(s),
+            message::page(m),
+            0,
+            t,
+            0,
+            0,
+        );
+        station_state::keep(s, message::page(m) as usize, t, x);
         return station_answer::say(Answer::Nothing, 1);
     }
-    let i = s[STATION];
-    let n = station_callbacks::do_callback(s, o, 0, i, m[message::PAGE], t, x);
+    let i = station_state::station(s);
+    let n = station_callbacks::do_callback(s, o, 0, i, message::page(m), t, x);
     station_answer::say(Answer::Nothing, n)
 }
 
@@ -259,7 +260,7 @@ fn on_committed(s: &mut [u8], m: &[u8], o: &mut [u8]) -> Said
     requires { ⌜ (length (now s) ≡ stateLength) × (messageLength ≤ length (now m)) × (stationRoom ≤ length (now o)) × (Layout·station (now s) ≤ 7) ⌝ }
     ensures { λ r. ⌜ delivered (now (s .exit)) (now (o .exit)) r ≡ handed (now (o .entry)) (onCommittedB (now (m .entry)) (now (s .entry))) ⌝ }
 {
-    let i = s[STATION];
+    let i = station_state::station(s);
     let n = le::get_u32(m, message::VERSION);
     station_pages::versions(s, n);
     let k = station_callbacks::close(s, o, 0, i);
@@ -271,10 +272,10 @@ fn on_aborted(s: &mut [u8], m: &[u8], o: &mut [u8]) -> Said
     requires { ⌜ (length (now s) ≡ stateLength) × (messageLength ≤ length (now m)) × (stationRoom ≤ length (now o)) × (Layout·station (now s) ≤ 7) ⌝ }
     ensures { λ r. ⌜ delivered (now (s .exit)) (now (o .exit)) r ≡ handed (now (o .entry)) (onAbortedB (now (m .entry)) (now (s .entry))) ⌝ }
 {
-    let i = s[STATION];
+    let i = station_state::station(s);
     station_callbacks::undo(s);
     let k = station_callbacks::close(s, o, 0, i);
-    station_answer::say(Answer::Aborted(le::wide(m[message::OBJECT])), k)
+    station_answer::say(Answer::Aborted(le::wide(message::object(m))), k)
 }
 
 // On 23.
@@ -282,9 +283,9 @@ fn on_invalidate(s: &mut [u8], m: &[u8], o: &mut [u8]) -> Said
     requires { ⌜ (length (now s) ≡ stateLength) × (messageLength ≤ length (now m)) × (stationRoom ≤ length (now o)) × (Layout·station (now s) ≤ 7) ⌝ }
     ensures { λ r. ⌜ delivered (now (s .exit)) (now (o .exit)) r ≡ handed (now (o .entry)) (onInvalidateB (now (m .entry)) (now (s .entry))) ⌝ }
 {
-    let i = s[STATION];
+    let i = station_state::station(s);
     let x = &m[message::SETS..message::VALUES];
-    let ends = station_pages::in_use(x, s) & !(s[WAIT] == 3);
+    let ends = station_pages::in_use(x, s) & !(station_state::wait(s) == 3);
     station_pages::mark(s, x);
     if ends {
         station_callbacks::undo(s);
@@ -299,7 +300,7 @@ pub fn on_down(s: &mut [u8], m: &[u8], o: &mut [u8]) -> Said
     requires { ⌜ (length (now s) ≡ stateLength) × (messageLength ≤ length (now m)) × (stationRoom ≤ length (now o)) × (Layout·station (now s) ≤ 7) × Named (now m) ⌝ }
     ensures { λ r. ⌜ delivered (now (s .exit)) (now (o .exit)) r ≡ handed (now (o .entry)) (onDownB (now (m .entry)) (now (s .entry))) ⌝ }
 {
-    match m[message::KIND] {
+    match message::kind(m) {
         16 => on_page(s, m, o),
         17 => on_page(s, m, o),
         18 => on_page(s, m, o),

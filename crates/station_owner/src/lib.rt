@@ -11,16 +11,10 @@ ghost use Rattle.station_state.specs.Layout.{stateLength};
 ghost use Rattle.message.specs.Commit.{stationRoom};
 use station_answer::Answer;
 use station_answer::Said;
-use station_state::COPY;
-use station_state::KIND;
-use station_state::LOCKS;
-use station_state::OPEN;
 use station_state::READ_SET;
 use station_state::READ_VALUES;
-use station_state::STATION;
 use station_state::UNAVAILABLE;
 use station_state::VALUE_WIDTH;
-use station_state::WAIT;
 use station_state::WRITTEN_SET;
 use station_state::WRITTEN_VALUES;
 
@@ -52,7 +46,7 @@ fn no_begin(s: &[u8], o: &[u8], c: &[u8]) -> u32
     if !ready(s, o, c) {
         return 1;
     }
-    if s[WAIT] == 0 {
+    if station_state::wait(s) == 0 {
         return 9;
     }
     7
@@ -62,10 +56,10 @@ fn check_open(s: &[u8]) -> u32
     requires { ⌜ length (now s) ≡ stateLength ⌝ }
     ensures { λ r. ⌜ r ≡ checkOpenB (now (s .entry)) ⌝ }
 {
-    if s[WAIT] != 0 {
+    if station_state::wait(s) != 0 {
         return 7;
     }
-    if s[OPEN] == 0 {
+    if station_state::opened(s) == 0 {
         return 8;
     }
     0
@@ -104,7 +98,7 @@ fn bad_set(p: u32, x: u32, s: &[u8]) -> bool
     requires { ⌜ length (now s) ≡ stateLength ⌝ }
     ensures { λ r. ⌜ r ≡ badSetB p x (now (s .entry)) ⌝ }
 {
-    (p > 31) | (x == 0) | (x > 255) | (!kinds::locking(s[KIND]) & (u32::count_ones(x) > 1))
+    (p > 31) | (x == 0) | (x > 255) | (!station_state::locking(s) & (u32::count_ones(x) > 1))
 }
 
 fn check_write(p: u32, x: u32, s: &[u8]) -> u32
@@ -175,7 +169,7 @@ fn request(a: usize, s: &[u8], o: &mut [u8])
         o,
         0,
         1,
-        s[STATION],
+        station_state::station(s),
         (a / 8) as u8,
         (a % 8) as u8,
         station_state::number(s),
@@ -190,7 +184,7 @@ fn read_here(a: usize, s: &mut [u8], o: &mut [u8]) -> Said
     ensures { λ r. ⌜ delivered (now (s .exit)) (now (o .exit)) r ≡ handed (now (o .entry)) (readHereB a (now (s .entry))) ⌝ }
 {
     if shown(a, s) {
-        let x = le::get_u64(s, COPY + a * VALUE_WIDTH);
+        let x = station_state::copy(s, a);
         station_state::record_read(s, a);
         return station_answer::say(Answer::Value(x), 0);
     }
@@ -238,11 +232,11 @@ fn at_hand(p: usize, s: &[u8]) -> u8
     requires { ⌜ (length (now s) ≡ stateLength) × (p < 32) ⌝ }
     ensures { λ r. ⌜ r ≡ atHandB p (now (s .entry)) ⌝ }
 {
-    if kinds::locking(s[KIND]) {
+    if station_state::locking(s) {
         if station_state::has_bit32(station_state::whole(s), p) {
             return 255;
         }
-        return s[LOCKS + p];
+        return station_state::locks(s, p);
     }
     if station_state::has_bit32(station_state::cached(s), p) {
         return !s[UNAVAILABLE + p];
@@ -263,12 +257,12 @@ fn ask(p: usize, x: u8, s: &[u8], o: &mut [u8])
     requires { ⌜ (length (now s) ≡ stateLength) × (stationRoom ≤ length (now o)) × (p < 32) × (x ≢ 0) ⌝ }
     ensures { λ _. ⌜ now (o .exit) ≡ sets (now (o .entry)) 0 (askB p x (now (s .entry))) ⌝ }
 {
-    if kinds::locking(s[KIND]) {
+    if station_state::locking(s) {
         message::put_up(
             o,
             0,
             2,
-            s[STATION],
+            station_state::station(s),
             p as u8,
             0,
             station_state::number(s),
@@ -366,8 +360,18 @@ fn tell_abort(s: &[u8], o: &mut [u8]) -> usize
     requires { ⌜ (length (now s) ≡ stateLength) × (stationRoom ≤ length (now o)) ⌝ }
     ensures { λ k. ⌜ posted (now (s .entry)) (now (o .exit)) k ≡ post (now (o .entry)) (sends (now (s .entry)) (abortsB (now (s .entry)))) ⌝ }
 {
-    if kinds::locking(s[KIND]) {
-        message::put_up(o, 0, 4, s[STATION], 0, 0, station_state::number(s), 0, 0);
+    if station_state::locking(s) {
+        message::put_up(
+            o,
+            0,
+            4,
+            station_state::station(s),
+            0,
+            0,
+            station_state::number(s),
+            0,
+            0,
+        );
         return 1;
     }
     0
@@ -384,7 +388,7 @@ pub fn abort(s: &mut [u8], o: &mut [u8], c: &mut [u8]) -> Said
     if n != 0 {
         return refuse(n);
     }
-    let i = s[STATION];
+    let i = station_state::station(s);
     let k = tell_abort(s, o);
     station_callbacks::undo(s);
     let sent = station_callbacks::close(s, o, k, i);
@@ -402,7 +406,7 @@ pub fn purge(page: u32, s: &mut [u8], o: &mut [u8], c: &mut [u8]) -> Said
     if n != 0 {
         return refuse(n);
     }
-    message::put_up(o, 0, 5, s[STATION], page as u8, 0, 0, 0, 0);
+    message::put_up(o, 0, 5, station_state::station(s), page as u8, 0, 0, 0, 0);
     station_pages::drop_pages(s, station_state::bit32(page as usize));
     station_answer::say(Answer::Purged, 1)
 }

@@ -13,7 +13,6 @@ use station_state::COPY;
 use station_state::GROUP;
 use station_state::NUMBER_WIDTH;
 use station_state::OBJECTS;
-use station_state::READ_SET;
 use station_state::UNAVAILABLE;
 use station_state::VALUE_WIDTH;
 use station_state::VERSIONS;
@@ -35,14 +34,14 @@ pub fn used_page(s: &[u8], p: usize) -> bool
     requires { ⌜ (length (now s) ≡ stateLength) × (p < 32) ⌝ }
     ensures { λ r. ⌜ r ≡ usedPageB (now (s .entry)) p ⌝ }
 {
-    (s[READ_SET + p] | s[WRITTEN_SET + p]) != 0
+    (station_state::read_set(s, p) | station_state::written_set(s, p)) != 0
 }
 
 fn wrote_page(s: &[u8], p: usize) -> bool
     requires { ⌜ (length (now s) ≡ stateLength) × (p < 32) ⌝ }
     ensures { λ r. ⌜ r ≡ wrotePageB (now (s .entry)) p ⌝ }
 {
-    s[WRITTEN_SET + p] != 0
+    station_state::written_set(s, p) != 0
 }
 
 // The pages on which the transaction has read or written.
@@ -76,7 +75,7 @@ fn uses(sets: &[u8], s: &[u8], p: usize) -> bool
     requires { ⌜ (length (now s) ≡ stateLength) × (setRow ≤ length (now sets)) × (p < 32) ⌝ }
     ensures { λ r. ⌜ r ≡ usesB (now (sets .entry)) (now (s .entry)) p ⌝ }
 {
-    sets[p] & (s[READ_SET + p] | s[WRITTEN_SET + p]) != 0
+    sets[p] & (station_state::read_set(s, p) | station_state::written_set(s, p)) != 0
 }
 
 // Whether the transaction has read or written an object of these sets.
@@ -225,7 +224,7 @@ fn arrives(m: &[u8], s: &[u8], p: usize, o: usize) -> u64
     requires { ⌜ (length (now s) ≡ stateLength) × (messageLength ≤ length (now m)) × (p < 32) × (o < 8) ⌝ }
     ensures { λ r. ⌜ r ≡ arrivesB (now (m .entry)) (now (s .entry)) p o ⌝ }
 {
-    if station_state::has_bit8(s[WRITTEN_SET + p], o) {
+    if station_state::has_bit8(station_state::written_set(s, p), o) {
         return le::get_u64(s, WRITTEN_VALUES + (p * OBJECTS + o) * VALUE_WIDTH);
     }
     le::get_u64(m, message::VALUES + o * record::VALUE)
@@ -270,7 +269,7 @@ fn version_one(s: &mut [u8], n: u32, p: usize, o: usize)
     requires { ⌜ (length (now s) ≡ stateLength) × (p < 32) × (o < 8) ⌝ }
     ensures { λ _. ⌜ now (s .exit) ≡ versionOneB n (now (s .entry)) p o ⌝ }
 {
-    if station_state::has_bit8(s[WRITTEN_SET + p], o) {
+    if station_state::has_bit8(station_state::written_set(s, p), o) {
         le::put_u32(s, VERSIONS + (p * OBJECTS + o) * NUMBER_WIDTH, n);
         return;
     }

@@ -6,7 +6,7 @@ ghost use Prim.Native.Nat.{_+_, _^_, _≤_, _<_};
 ghost use lib.ListN.{length, replicate};
 ghost use lib.Count.{ones, trailingZeros};
 ghost use Rattle.le.specs.Le.{u64At};
-ghost use Rattle.station_state.specs.Layout.{pageSetWidth, setRow, stateLength, station as Layout·station, opened, hasBit, member as Layout·member, passingWhole, keptWholeB, countIn, writtenWith, noneIn, requestedB, number as Layout·number, cached as Layout·cached, whole as Layout·whole};
+ghost use Rattle.station_state.specs.Layout.{pageSetWidth, setRow, stateLength, copyOf, keptOf, readSet, writtenSet, locks as Layout·locks, station as Layout·station, kind as Layout·kind, lockingB, keepsB, opened as Layout·opened, wait as Layout·wait, address as Layout·address, waitingSet, hasBit, member as Layout·member, passingWhole, keptWholeB, countIn, writtenWith, noneIn, requestedB, number as Layout·number, cached as Layout·cached, whole as Layout·whole};
 ghost use Rattle.station_state.specs.Valid.{fieldsOk, ownKept, firstOk, setOk, outOk, fewIn, fewWritten, limitedOk, worksOk, locklessOk, holdsOk, valid as Valid·valid, freshened, freshOf, restsOk};
 ghost use Rattle.station_state.specs.Changes.{addTo, pageOn, pageOff, clearTo, copyTo, beginB, recordReadB, usedB, firstUseB, writeLocalB, writeObjectB, writeAllB, idleB, forReadB, waitObjectB, waitAllB, forWriteB, waitingValues, forCommitB, lockWaitingB, loosenB, keepB, unkeepB, unwholeB, closedB};
 ghost use Rattle.station_state.specs.Sets.{joined as Sets·joined, over as Sets·over};
@@ -99,6 +99,107 @@ pub fn whole(s: &[u8]) -> u32
     ensures { λ r. ⌜ r ≡ Layout·whole (now (s .entry)) ⌝ }
 {
     le::get_u32(s, WHOLE)
+}
+
+// The copy at address a.
+pub fn copy(s: &[u8], a: usize) -> u64
+    requires { ⌜ (length (now s) ≡ stateLength) × (a < 256) ⌝ }
+    ensures { λ r. ⌜ r ≡ copyOf (now (s .entry)) a ⌝ }
+{
+    le::get_u64(s, COPY + a * VALUE_WIDTH)
+}
+
+// The transaction of the callback kept of requester r, 0 for none.
+pub fn kept(s: &[u8], r: usize) -> u32
+    requires { ⌜ (length (now s) ≡ stateLength) × (r < 8) ⌝ }
+    ensures { λ t. ⌜ t ≡ keptOf (now (s .entry)) r ⌝ }
+{
+    le::get_u32(s, KEPT + r * NUMBER_WIDTH)
+}
+
+// The objects of page p that the transaction has read, and written.
+pub fn read_set(s: &[u8], p: usize) -> u8
+    requires { ⌜ (length (now s) ≡ stateLength) × (p < 32) ⌝ }
+    ensures { λ r. ⌜ r ≡ readSet (now (s .entry)) p ⌝ }
+{
+    s[READ_SET + p]
+}
+
+pub fn written_set(s: &[u8], p: usize) -> u8
+    requires { ⌜ (length (now s) ≡ stateLength) × (p < 32) ⌝ }
+    ensures { λ r. ⌜ r ≡ writtenSet (now (s .entry)) p ⌝ }
+{
+    s[WRITTEN_SET + p]
+}
+
+// Those that it has locked.
+pub fn locks(s: &[u8], p: usize) -> u8
+    requires { ⌜ (length (now s) ≡ stateLength) × (p < 32) ⌝ }
+    ensures { λ r. ⌜ r ≡ Layout·locks (now (s .entry)) p ⌝ }
+{
+    s[LOCKS + p]
+}
+
+// The station itself, and its kind.
+pub fn station(s: &[u8]) -> u8
+    requires { ⌜ length (now s) ≡ stateLength ⌝ }
+    ensures { λ r. ⌜ r ≡ Layout·station (now (s .entry)) ⌝ }
+{
+    s[STATION]
+}
+
+pub fn kind(s: &[u8]) -> u8
+    requires { ⌜ length (now s) ≡ stateLength ⌝ }
+    ensures { λ r. ⌜ r ≡ Layout·kind (now (s .entry)) ⌝ }
+{
+    s[KIND]
+}
+
+// Whose rules the kind has.
+pub fn locking(s: &[u8]) -> bool
+    requires { ⌜ length (now s) ≡ stateLength ⌝ }
+    ensures { λ r. ⌜ r ≡ lockingB (now (s .entry)) ⌝ }
+{
+    kinds::locking(s[KIND])
+}
+
+pub fn keeps(s: &[u8]) -> bool
+    requires { ⌜ length (now s) ≡ stateLength ⌝ }
+    ensures { λ r. ⌜ r ≡ keepsB (now (s .entry)) ⌝ }
+{
+    kinds::keeps(s[KIND])
+}
+
+// 1 while a transaction is open.
+pub fn opened(s: &[u8]) -> u8
+    requires { ⌜ length (now s) ≡ stateLength ⌝ }
+    ensures { λ r. ⌜ r ≡ Layout·opened (now (s .entry)) ⌝ }
+{
+    s[OPEN]
+}
+
+// What is out: 0 nothing, 1 a read, 2 a write, 3 a commit.
+pub fn wait(s: &[u8]) -> u8
+    requires { ⌜ length (now s) ≡ stateLength ⌝ }
+    ensures { λ r. ⌜ r ≡ Layout·wait (now (s .entry)) ⌝ }
+{
+    s[WAIT]
+}
+
+// The address of a read that is out; of a write that is out, that of its page's object 0.
+pub fn address(s: &[u8]) -> u8
+    requires { ⌜ length (now s) ≡ stateLength ⌝ }
+    ensures { λ r. ⌜ r ≡ Layout·address (now (s .entry)) ⌝ }
+{
+    s[ADDRESS]
+}
+
+// The objects that it will write.
+pub fn waiting_set(s: &[u8]) -> u8
+    requires { ⌜ length (now s) ≡ stateLength ⌝ }
+    ensures { λ r. ⌜ r ≡ waitingSet (now (s .entry)) ⌝ }
+{
+    s[WAITING_SET]
 }
 
 pub fn bit8(k: usize) -> u8
@@ -211,7 +312,7 @@ pub fn written_with(s: &[u8], p: usize, x: u8) -> u32
     requires { ⌜ (length (now s) ≡ stateLength) × (p < 32) ⌝ }
     ensures { λ r. ⌜ r ≡ writtenWith (now (s .entry)) p x ⌝ }
 {
-    let y = s[WRITTEN_SET + p];
+    let y = written_set(s, p);
     count_in(s, WRITTEN_SET) + u8::count_ones(x & !y)
 }
 
@@ -220,7 +321,7 @@ pub fn kept_whole(s: &[u8], p: usize) -> bool
     requires { ⌜ (length (now s) ≡ stateLength) × (p < 32) ⌝ }
     ensures { λ r. ⌜ r ≡ keptWholeB (now (s .entry)) p ⌝ }
 {
-    kinds::keeps(s[KIND]) & has_bit32(whole(s), p)
+    keeps(s) & has_bit32(whole(s), p)
 }
 
 // Whether a read or a write of an object of page p is out.
@@ -228,7 +329,7 @@ pub fn requested(s: &[u8], p: usize) -> bool
     requires { ⌜ length (now s) ≡ stateLength ⌝ }
     ensures { λ r. ⌜ r ≡ requestedB (now (s .entry)) p ⌝ }
 {
-    ((s[WAIT] == 1) | (s[WAIT] == 2)) & (p == (s[ADDRESS] / 8) as usize)
+    ((wait(s) == 1) | (wait(s) == 2)) & (p == (address(s) / 8) as usize)
 }
 
 // Whether the fields other than the station's number are in range.
@@ -236,7 +337,10 @@ pub fn fields_ok(s: &[u8]) -> bool
     requires { ⌜ length (now s) ≡ stateLength ⌝ }
     ensures { λ r. ⌜ r ≡ fieldsOk (now (s .entry)) ⌝ }
 {
-    (s[KIND] <= kinds::MOST) & (s[OPEN] <= 1) & (s[WAIT] <= 3) & ((s[OPEN] == 0) | (number(s) != 0))
+    (kind(s) <= kinds::MOST)
+        & (opened(s) <= 1)
+        & (wait(s) <= 3)
+        & ((opened(s) == 0) | (number(s) != 0))
 }
 
 // Whether a callback from the station itself is kept.
@@ -244,8 +348,8 @@ pub fn own_kept(s: &[u8]) -> bool
     requires { ⌜ (length (now s) ≡ stateLength) × (Layout·station (now s) ≤ 7) ⌝ }
     ensures { λ r. ⌜ r ≡ ownKept (now (s .entry)) ⌝ }
 {
-    let st = s[STATION] as usize;
-    le::get_u32(s, KEPT + st * NUMBER_WIDTH) != 0
+    let st = station(s) as usize;
+    kept(s, st) != 0
 }
 
 // Whether the object of the read that is out was neither read nor written.
@@ -253,7 +357,7 @@ fn first_ok(s: &[u8]) -> bool
     requires { ⌜ length (now s) ≡ stateLength ⌝ }
     ensures { λ r. ⌜ r ≡ firstOk (now (s .entry)) ⌝ }
 {
-    let a = s[ADDRESS] as usize;
+    let a = address(s) as usize;
     !member(s, READ_SET, a) & !member(s, WRITTEN_SET, a)
 }
 
@@ -262,7 +366,7 @@ fn set_ok(s: &[u8]) -> bool
     requires { ⌜ length (now s) ≡ stateLength ⌝ }
     ensures { λ r. ⌜ r ≡ setOk (now (s .entry)) ⌝ }
 {
-    (s[ADDRESS] % 8 == 0) & (s[WAITING_SET] != 0)
+    (address(s) % 8 == 0) & (waiting_set(s) != 0)
 }
 
 // Whether what is out can be.
@@ -270,10 +374,10 @@ fn out_ok(s: &[u8]) -> bool
     requires { ⌜ length (now s) ≡ stateLength ⌝ }
     ensures { λ r. ⌜ r ≡ outOk (now (s .entry)) ⌝ }
 {
-    if s[WAIT] == 1 {
+    if wait(s) == 1 {
         return first_ok(s);
     }
-    if s[WAIT] == 2 {
+    if wait(s) == 2 {
         return set_ok(s);
     }
     true
@@ -284,7 +388,7 @@ fn few_in(s: &[u8], at: usize, out: bool) -> bool
     requires { ⌜ (length (now s) ≡ stateLength) × (at + setRow ≤ length (now s)) ⌝ }
     ensures { λ r. ⌜ r ≡ fewIn (now (s .entry)) at out ⌝ }
 {
-    let a = s[ADDRESS] as usize;
+    let a = address(s) as usize;
     if out & !member(s, at, a) {
         return count_in(s, at) < limits::LIMIT;
     }
@@ -296,9 +400,9 @@ fn few_written(s: &[u8]) -> bool
     requires { ⌜ length (now s) ≡ stateLength ⌝ }
     ensures { λ r. ⌜ r ≡ fewWritten (now (s .entry)) ⌝ }
 {
-    if s[WAIT] == 2 {
-        let p = (s[ADDRESS] / 8) as usize;
-        return written_with(s, p, s[WAITING_SET]) <= limits::LIMIT;
+    if wait(s) == 2 {
+        let p = (address(s) / 8) as usize;
+        return written_with(s, p, waiting_set(s)) <= limits::LIMIT;
     }
     count_in(s, WRITTEN_SET) <= limits::LIMIT
 }
@@ -308,12 +412,12 @@ fn limited_ok(s: &[u8]) -> bool
     requires { ⌜ length (now s) ≡ stateLength ⌝ }
     ensures { λ r. ⌜ r ≡ limitedOk (now (s .entry)) ⌝ }
 {
-    few_in(s, READ_SET, s[WAIT] == 1) & few_written(s)
+    few_in(s, READ_SET, wait(s) == 1) & few_written(s)
 }
 
 // Of an open transaction.
 fn works_ok(s: &[u8]) -> bool
-    requires { ⌜ (length (now s) ≡ stateLength) × (opened (now s) ≢ 0) ⌝ }
+    requires { ⌜ (length (now s) ≡ stateLength) × (Layout·opened (now s) ≢ 0) ⌝ }
     ensures { λ r. ⌜ r ≡ worksOk (now (s .entry)) ⌝ }
 {
     out_ok(s) & limited_ok(s)
@@ -324,7 +428,7 @@ fn passing_whole(s: &[u8]) -> u32
     requires { ⌜ length (now s) ≡ stateLength ⌝ }
     ensures { λ r. ⌜ r ≡ passingWhole (now (s .entry)) ⌝ }
 {
-    if kinds::keeps(s[KIND]) {
+    if keeps(s) {
         return 0;
     }
     whole(s)
@@ -340,10 +444,10 @@ fn lockless_ok(s: &[u8]) -> bool
 
 // Of an open transaction.
 fn holds_ok(s: &[u8]) -> bool
-    requires { ⌜ (length (now s) ≡ stateLength) × (opened (now s) ≢ 0) ⌝ }
+    requires { ⌜ (length (now s) ≡ stateLength) × (Layout·opened (now s) ≢ 0) ⌝ }
     ensures { λ r. ⌜ r ≡ holdsOk (now (s .entry)) ⌝ }
 {
-    if kinds::locking(s[KIND]) {
+    if locking(s) {
         return true;
     }
     lockless_ok(s)
@@ -365,7 +469,7 @@ pub fn rests(s: &[u8]) -> bool
         | le::long(passing_whole(s))
         | joined(s, LOCKS)
         | joined(s, KEPT);
-    (s[STATION] <= 7) & (sets == 0)
+    (station(s) <= 7) & (sets == 0)
 }
 
 // False is number 1.
@@ -375,10 +479,10 @@ pub fn valid(s: &[u8]) -> bool
     if s.len() != LENGTH {
         return false;
     }
-    if s[STATION] > 7 {
+    if station(s) > 7 {
         return false;
     }
-    if s[OPEN] == 0 {
+    if opened(s) == 0 {
         return rests(s);
     }
     if !(fields_ok(s) & !own_kept(s)) {
@@ -483,7 +587,7 @@ pub fn record_read(s: &mut [u8], a: usize)
     requires { ⌜ (length (now s) ≡ stateLength) × (a < 256) ⌝ }
     ensures { λ _. ⌜ now (s .exit) ≡ recordReadB a (now (s .entry)) ⌝ }
 {
-    let v = le::get_u64(s, COPY + a * VALUE_WIDTH);
+    let v = copy(s, a);
     let n = le::get_u32(s, VERSIONS + a * NUMBER_WIDTH);
     add_to(s, READ_SET, a);
     le::put_u64(s, READ_VALUES + a * VALUE_WIDTH, v);
@@ -622,7 +726,7 @@ pub fn lock_waiting(s: &mut [u8], p: usize)
     requires { ⌜ (length (now s) ≡ stateLength) × (p < 32) ⌝ }
     ensures { λ _. ⌜ now (s .exit) ≡ lockWaitingB p (now (s .entry)) ⌝ }
 {
-    let x = s[LOCKS + p] | s[WAITING_SET];
+    let x = locks(s, p) | waiting_set(s);
     le::put_u8(s, LOCKS + p, x);
 }
 
@@ -631,7 +735,7 @@ pub fn loosen(s: &mut [u8], p: usize, x: u8)
     requires { ⌜ (length (now s) ≡ stateLength) × (p < 32) ⌝ }
     ensures { λ _. ⌜ now (s .exit) ≡ loosenB p x (now (s .entry)) ⌝ }
 {
-    let y = s[LOCKS + p] | x;
+    let y = locks(s, p) | x;
     le::put_u8(s, LOCKS + p, y);
     page_off(s, WHOLE, p);
 }
@@ -658,7 +762,7 @@ fn unwhole(s: &mut [u8])
     requires { ⌜ length (now s) ≡ stateLength ⌝ }
     ensures { λ _. ⌜ now (s .exit) ≡ unwholeB (now (s .entry)) ⌝ }
 {
-    if kinds::keeps(s[KIND]) {
+    if keeps(s) {
         return;
     }
     le::put_u32(s, WHOLE, 0);

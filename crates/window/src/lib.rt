@@ -8,7 +8,6 @@ ghost use Rattle.window_state.specs.Layout.{registers};
 ghost use Rattle.window.specs.Window.{accessed, readyW, refusalOf, notedAbort, notedValue, notedCommit, noted, performed, takenAs, takenSaid, shown as Window·shown, commandOf, writeOf, stepOf};
 use station_answer::Answer;
 use station_answer::Said;
-use station_state::KIND;
 use window_state::ABORTED_FLAG;
 use window_state::COMMAND;
 use window_state::COMMIT;
@@ -24,7 +23,7 @@ fn ready(r: &[u8], s: &[u8], o: &[u8], c: &[u8]) -> bool
     if !station_owner::ready(s, o, c) {
         return false;
     }
-    (s[KIND] == 1) & window_state::registers_ok(r)
+    (station_state::kind(s) == 1) & window_state::registers_ok(r)
 }
 
 // The number of a refusal, 0 for every other answer.

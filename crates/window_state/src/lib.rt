@@ -7,11 +7,8 @@ ghost use lib.ListN.{length};
 ghost use Rattle.station_state.specs.Layout.{stateLength};
 ghost use Rattle.window_state.specs.Layout.{registers};
 ghost use Rattle.window_state.specs.Registers.{registersOk, valid as Registers·valid, flagIf, flagsOf, registerOf, up as Registers·up, reading, readOf, interruptOf, addressOf, stores as Registers·stores, storedOf, raise as Registers·raise};
-use station_state::KIND;
 use station_state::NUMBER_WIDTH;
-use station_state::OPEN;
 use station_state::VALUE_WIDTH;
-use station_state::WAIT;
 
 // Places, each behind the register before it.
 pub const PAGE: usize = 0;
@@ -68,7 +65,7 @@ pub fn valid(r: &[u8], s: &[u8]) -> bool
     if !station_state::valid(s) {
         return false;
     }
-    (s[KIND] == 1) & registers_ok(r)
+    (station_state::kind(s) == 1) & registers_ok(r)
 }
 
 fn flag_if(x: u8, flag: u8) -> u8
@@ -84,7 +81,9 @@ pub fn flags(r: &[u8], s: &[u8]) -> u8
     requires { ⌜ (length (now r) ≡ registers) × (length (now s) ≡ stateLength) ⌝ }
     ensures { λ x. ⌜ x ≡ flagsOf (now (r .entry)) (now (s .entry)) ⌝ }
 {
-    flag_if(s[OPEN], OPEN_FLAG) | flag_if(s[WAIT], WAITING_FLAG) | r[FLAGS]
+    flag_if(station_state::opened(s), OPEN_FLAG)
+        | flag_if(station_state::wait(s), WAITING_FLAG)
+        | r[FLAGS]
 }
 
 fn register(r: &[u8], s: &[u8], k: usize) -> u8

@@ -7,15 +7,15 @@ use Rattle.message.proofs.abort_ok.Tie as tie
 zeros-requires : tie.Need-zeros-requires
 zeros-requires c κs = search needs
 
-get-u32-requires : tie.Need-get-u32-requires
-get-u32-requires c κs = search needs
+transaction-requires : tie.Need-transaction-requires
+transaction-requires c κs = search needs
 
 zeros-requires-2 : tie.Need-zeros-requires-2
 zeros-requires-2 c κs = search needs
 
 returns : tie.Need-returns
 unfolding abortOk
-returns c = rw (c .before .before .zeros .ensures, c .before .get-u32 .ensures, c .zeros2 .ensures)
+returns c = cc
 
 pub abort-ok-spec : {M : Type 1} → statement M
-abort-ok-spec = tie.close (tie.spec zeros-requires get-u32-requires zeros-requires-2 returns)
+abort-ok-spec = tie.close (tie.spec zeros-requires transaction-requires zeros-requires-2 returns)

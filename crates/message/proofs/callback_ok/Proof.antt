@@ -4,11 +4,11 @@ use borrow.Author.Needs.{needs}
 use Rattle.message.proofs.callback_ok.Statement.{statement}
 use Rattle.message.proofs.callback_ok.Tie as tie
 
-shared-slice-read-result : tie.Need-shared-slice-read-result
-shared-slice-read-result c = search needs
+page-requires : tie.Need-page-requires
+page-requires c κs = search needs
 
-shared-slice-read-wide : tie.Need-shared-slice-read-wide
-shared-slice-read-wide c = search needs
+page-requires-2 : tie.Need-page-requires-2
+page-requires-2 c κs = search needs
 
 wide-requires : tie.Need-wide-requires
 wide-requires c κs = search needs
@@ -16,8 +16,8 @@ wide-requires c κs = search needs
 zeros-requires : tie.Need-zeros-requires
 zeros-requires c κs = search needs
 
-get-u32-requires : tie.Need-get-u32-requires
-get-u32-requires c κs = search needs
+transaction-requires : tie.Need-transaction-requires
+transaction-requires c κs = search needs
 
 zeros-requires-2 : tie.Need-zeros-requires-2
 zeros-requires-2 c κs = search needs
@@ -27,17 +27,17 @@ zeros-requires-3 c κs = search needs
 
 returns : tie.Need-returns
 unfolding callbackOk
-returns c = rw (c .before .before .before .before .wide .ensures .0, c .before .before .before .zeros .ensures, c .before .before .get-u32 .ensures, c .before .zeros2 .ensures, c .zeros3 .ensures)
+returns c = cc
 
 pub callback-ok-spec : {M : Type 1} → statement M
 callback-ok-spec =
     tie.close
     (tie.spec
-    shared-slice-read-result
-    shared-slice-read-wide
+    page-requires
+    page-requires-2
     wide-requires
     zeros-requires
-    get-u32-requires
+    transaction-requires
     zeros-requires-2
     zeros-requires-3
     returns)

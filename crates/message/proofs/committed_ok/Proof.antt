@@ -7,29 +7,29 @@ use Rattle.message.proofs.committed_ok.Tie as tie
 zeros-requires : tie.Need-zeros-requires
 zeros-requires c κs = search needs
 
-get-u32-requires : tie.Need-get-u32-requires
-get-u32-requires c κs = search needs
+transaction-requires : tie.Need-transaction-requires
+transaction-requires c κs = search needs
 
 zeros-requires-2 : tie.Need-zeros-requires-2
 zeros-requires-2 c κs = search needs
 
-get-u32-requires-2 : tie.Need-get-u32-requires-2
-get-u32-requires-2 c κs = search needs
+get-u32-requires : tie.Need-get-u32-requires
+get-u32-requires c κs = search needs
 
 zeros-requires-3 : tie.Need-zeros-requires-3
 zeros-requires-3 c κs = search needs
 
 returns : tie.Need-returns
 unfolding committedOk
-returns c = rw (c .before .before .before .before .zeros .ensures, c .before .before .before .get-u32 .ensures, c .before .before .zeros2 .ensures, c .before .get-u322 .ensures, c .zeros3 .ensures)
+returns c = cc
 
 pub committed-ok-spec : {M : Type 1} → statement M
 committed-ok-spec =
     tie.close
     (tie.spec
     zeros-requires
-    get-u32-requires
+    transaction-requires
     zeros-requires-2
-    get-u32-requires-2
+    get-u32-requires
     zeros-requires-3
     returns)

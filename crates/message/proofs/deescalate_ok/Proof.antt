@@ -4,23 +4,22 @@ use borrow.Author.Needs.{needs}
 use Rattle.message.proofs.deescalate_ok.Statement.{statement}
 use Rattle.message.proofs.deescalate_ok.Tie as tie
 
-shared-slice-read-result : tie.Need-shared-slice-read-result
-shared-slice-read-result c = search needs
+page-requires : tie.Need-page-requires
+page-requires c κs = search needs
 
 zeros-requires : tie.Need-zeros-requires
 zeros-requires c κs = search needs
 
-get-u32-requires : tie.Need-get-u32-requires
-get-u32-requires c κs = search needs
+transaction-requires : tie.Need-transaction-requires
+transaction-requires c κs = search needs
 
 zeros-requires-2 : tie.Need-zeros-requires-2
 zeros-requires-2 c κs = search needs
 
 returns : tie.Need-returns
 unfolding deescalateOk
-returns c = rw (c .before .before .zeros .ensures, c .before .get-u32 .ensures, c .zeros2 .ensures)
+returns c = cc
 
 pub deescalate-ok-spec : {M : Type 1} → statement M
 deescalate-ok-spec =
-    tie.close
-    (tie.spec shared-slice-read-result zeros-requires get-u32-requires zeros-requires-2 returns)
+    tie.close (tie.spec page-requires zeros-requires transaction-requires zeros-requires-2 returns)

@@ -8,11 +8,11 @@ use borrow.Author.Needs.{needs}
 use Rattle.message.proofs.down_range.Statement.{statement}
 use Rattle.message.proofs.down_range.Tie as tie
 
-shared-slice-read-if1 : tie.Need-shared-slice-read-if1
-shared-slice-read-if1 c = search needs
+kind-requires : tie.Need-kind-requires
+kind-requires c κs = search needs
 
-shared-slice-read-range-number : tie.Need-shared-slice-read-range-number
-shared-slice-read-range-number c = search needs
+station-requires : tie.Need-station-requires
+station-requires c κs = search needs
 
 down-fields-requires : tie.Need-down-fields-requires
 down-fields-requires c κs = search needs
@@ -26,7 +26,7 @@ returns c = let k = kindOf (c .before .before .before .before .args .m .now) in 
 
 returns-2 : tie.Need-returns-2
 unfolding downRange
-returns-2 c = let k = kindOf (c .before .before .before .before .before .before .before .before .before .args .m .now) in simp (le-leb 16 k (omega arith), le-leb k 23 (omega arith), sym (c .before .down-fields .ensures)) (c .range-number .ensures)
+returns-2 c = let k = kindOf (c .before .before .before .before .before .before .before .before .before .args .m .now) in simp (le-leb 16 k (omega arith), le-leb k 23 (omega arith), sym (c .before .before .station .ensures), sym (c .before .down-fields .ensures)) (c .range-number .ensures)
 
 returns-3 : tie.Need-returns-3
 unfolding downRange
@@ -44,8 +44,8 @@ pub down-range-spec : {M : Type 1} → statement M
 down-range-spec =
     tie.close
     (tie.spec
-    shared-slice-read-if1
-    shared-slice-read-range-number
+    kind-requires
+    station-requires
     down-fields-requires
     range-number-requires
     returns

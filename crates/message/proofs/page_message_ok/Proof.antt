@@ -4,14 +4,14 @@ use borrow.Author.Needs.{needs}
 use Rattle.message.proofs.page_message_ok.Statement.{statement}
 use Rattle.message.proofs.page_message_ok.Tie as tie
 
-shared-slice-read-result : tie.Need-shared-slice-read-result
-shared-slice-read-result c = search needs
+page-requires : tie.Need-page-requires
+page-requires c κs = search needs
 
-shared-slice-read-result-2 : tie.Need-shared-slice-read-result-2
-shared-slice-read-result-2 c = search needs
+object-requires : tie.Need-object-requires
+object-requires c κs = search needs
 
-get-u32-requires : tie.Need-get-u32-requires
-get-u32-requires c κs = search needs
+transaction-requires : tie.Need-transaction-requires
+transaction-requires c κs = search needs
 
 zeros-requires : tie.Need-zeros-requires
 zeros-requires c κs = search needs
@@ -21,15 +21,15 @@ zeros-requires-2 c κs = search needs
 
 returns : tie.Need-returns
 unfolding pageMessageOk
-returns c = rw (c .before .before .get-u32 .ensures, c .before .zeros .ensures, c .zeros2 .ensures)
+returns c = cc
 
 pub page-message-ok-spec : {M : Type 1} → statement M
 page-message-ok-spec =
     tie.close
     (tie.spec
-    shared-slice-read-result
-    shared-slice-read-result-2
-    get-u32-requires
+    page-requires
+    object-requires
+    transaction-requires
     zeros-requires
     zeros-requires-2
     returns)

@@ -4,15 +4,15 @@ use borrow.Author.Needs.{needs}
 use Rattle.message.proofs.purge_ok.Statement.{statement}
 use Rattle.message.proofs.purge_ok.Tie as tie
 
-shared-slice-read-result : tie.Need-shared-slice-read-result
-shared-slice-read-result c = search needs
+page-requires : tie.Need-page-requires
+page-requires c κs = search needs
 
 zeros-requires : tie.Need-zeros-requires
 zeros-requires c κs = search needs
 
 returns : tie.Need-returns
 unfolding purgeOk
-returns c = rw (c .zeros .ensures)
+returns c = cc
 
 pub purge-ok-spec : {M : Type 1} → statement M
-purge-ok-spec = tie.close (tie.spec shared-slice-read-result zeros-requires returns)
+purge-ok-spec = tie.close (tie.spec page-requires zeros-requires returns)

@@ -28,8 +28,8 @@ add-get-u32-2 c = search needs
 get-u32-requires-2 : tie.Need-get-u32-requires-2
 get-u32-requires-2 c κs = search needs
 
-get-u32-requires-3 : tie.Need-get-u32-requires-3
-get-u32-requires-3 c κs = search needs
+transaction-requires : tie.Need-transaction-requires
+transaction-requires c κs = search needs
 
 add-result : tie.Need-add-result
 add-result c = search needs
@@ -37,14 +37,14 @@ add-result c = search needs
 shared-slice-read-result : tie.Need-shared-slice-read-result
 shared-slice-read-result c = search needs
 
-shared-slice-read-result-2 : tie.Need-shared-slice-read-result-2
-shared-slice-read-result-2 c = search needs
+station-requires : tie.Need-station-requires
+station-requires c κs = search needs
 
 add-result-2 : tie.Need-add-result-2
 add-result-2 c = search needs
 
-shared-slice-read-result-3 : tie.Need-shared-slice-read-result-3
-shared-slice-read-result-3 c = search needs
+shared-slice-read-result-2 : tie.Need-shared-slice-read-result-2
+shared-slice-read-result-2 c = search needs
 
 versions-ok-requires : tie.Need-versions-ok-requires
 versions-ok-requires c κs = search needs
@@ -55,12 +55,12 @@ add-pages-of c = search needs
 pages-of-requires : tie.Need-pages-of-requires
 pages-of-requires c κs = search needs
 
-get-u32-requires-4 : tie.Need-get-u32-requires-4
-get-u32-requires-4 c κs = search needs
+pages-requires : tie.Need-pages-requires
+pages-requires c κs = search needs
 
 returns : tie.Need-returns
 unfolding recordAgrees
-returns c = rw (c .before .pages-of .ensures, c .before .before .versions-ok .ensures, c .before .before .before .before .before .before .before .before .get-u32 .ensures, c .before .before .before .before .before .before .before .get-u322 .ensures, c .before .before .before .before .before .before .get-u323 .ensures, c .get-u324 .ensures, c .before .before .before .before .before .before .before .before .before .before .sent-reads .ensures .0, c .before .before .before .before .before .before .before .before .before .sent-writes .ensures .0, c .before .before .before .before .before .before .before .before .before .before .before .record-at .ensures .0)
+returns c = rw (c .before .pages-of .ensures, c .before .before .versions-ok .ensures, c .before .before .before .before .before .before .before .before .get-u32 .ensures, c .before .before .before .before .before .before .before .get-u322 .ensures, c .before .before .before .before .before .before .transaction .ensures, c .before .before .before .before .station .ensures, c .pages .ensures, c .before .before .before .before .before .before .before .before .before .before .sent-reads .ensures .0, c .before .before .before .before .before .before .before .before .before .sent-writes .ensures .0, c .before .before .before .before .before .before .before .before .before .before .before .record-at .ensures .0)
 
 pub record-agrees-spec : {M : Type 1} → statement M
 record-agrees-spec =
@@ -74,14 +74,14 @@ record-agrees-spec =
     get-u32-requires
     add-get-u32-2
     get-u32-requires-2
-    get-u32-requires-3
+    transaction-requires
     add-result
     shared-slice-read-result
-    shared-slice-read-result-2
+    station-requires
     add-result-2
-    shared-slice-read-result-3
+    shared-slice-read-result-2
     versions-ok-requires
     add-pages-of
     pages-of-requires
-    get-u32-requires-4
+    pages-requires
     returns)

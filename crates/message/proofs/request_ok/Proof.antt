@@ -4,28 +4,22 @@ use borrow.Author.Needs.{needs}
 use Rattle.message.proofs.request_ok.Statement.{statement}
 use Rattle.message.proofs.request_ok.Tie as tie
 
-shared-slice-read-result : tie.Need-shared-slice-read-result
-shared-slice-read-result c = search needs
+page-requires : tie.Need-page-requires
+page-requires c κs = search needs
 
-shared-slice-read-result-2 : tie.Need-shared-slice-read-result-2
-shared-slice-read-result-2 c = search needs
+object-requires : tie.Need-object-requires
+object-requires c κs = search needs
 
-get-u32-requires : tie.Need-get-u32-requires
-get-u32-requires c κs = search needs
+transaction-requires : tie.Need-transaction-requires
+transaction-requires c κs = search needs
 
 zeros-requires : tie.Need-zeros-requires
 zeros-requires c κs = search needs
 
 returns : tie.Need-returns
 unfolding requestOk
-returns c = rw (c .before .get-u32 .ensures, c .zeros .ensures)
+returns c = cc
 
 pub request-ok-spec : {M : Type 1} → statement M
 request-ok-spec =
-    tie.close
-    (tie.spec
-    shared-slice-read-result
-    shared-slice-read-result-2
-    get-u32-requires
-    zeros-requires
-    returns)
+    tie.close (tie.spec page-requires object-requires transaction-requires zeros-requires returns)

@@ -1,6 +1,5 @@
 -- `message::up_check` meets its contract.
 use Rattle.message.specs.Number.{upNumber}
-use Rattle.message.specs.Layout.{kindOf}
 use Rattle.message.specs.Commit.{commitNumber}
 use Rattle.message.specs.Facts.{message-there, kinds-there, station-there, commit-there}
 use borrow.Author.Tests.{eq-eqb, ne-eqb, not-true, not-false}
@@ -33,15 +32,15 @@ returns-3 : tie.Need-returns-3
 unfolding upNumber
 returns-3 c = simp (sym (c .before .before .before .before .before .kinds-ok .ensures), not-false (c .before .before .before .before .before .kinds-ok .result) (c .before .before .before .before .if1 .left), sym (c .before .before .before .length-ok .ensures), not-false (c .before .before .before .length-ok .result) (c .before .before .if2 .left), sym (c .before .up-range .ensures), ne-eqb _ _ (c .if3 .taken))
 
-shared-slice-read-if4 : tie.Need-shared-slice-read-if4
-shared-slice-read-if4 c = omega (arith, message-there (c .before .before .before .before .before .before .before .before .before .args .m .now) (sym (c .before .before .before .before .length-ok .ensures) ∙ not-false (c .before .before .before .before .length-ok .result) (c .before .before .before .if2 .left)))
+kind-requires : tie.Need-kind-requires
+kind-requires c κs = message-there _ (sym (c .before .before .before .length-ok .ensures) ∙ not-false (c .before .before .before .length-ok .result) (c .before .before .if2 .left))
 
 returns-4 : tie.Need-returns-4
 unfolding upNumber
-returns-4 c = let m = c .before .before .before .before .before .before .before .before .before .before .args .m .now in simp (sym (c .before .before .before .before .before .before .before .kinds-ok .ensures), not-false (c .before .before .before .before .before .before .before .kinds-ok .result) (c .before .before .before .before .before .before .if1 .left), sym (c .before .before .before .before .before .length-ok .ensures), not-false (c .before .before .before .before .before .length-ok .result) (c .before .before .before .before .if2 .left), sym (c .before .before .before .up-range .ensures), eq-eqb _ _ (c .before .before .if3 .left), ne-eqb (kindOf m) 3 (c .if4 .taken))
+returns-4 c = simp (sym (c .before .before .before .before .before .before .before .kinds-ok .ensures), not-false (c .before .before .before .before .before .before .before .kinds-ok .result) (c .before .before .before .before .before .before .if1 .left), sym (c .before .before .before .before .before .length-ok .ensures), not-false (c .before .before .before .before .before .length-ok .result) (c .before .before .before .before .if2 .left), sym (c .before .before .before .up-range .ensures), eq-eqb _ _ (c .before .before .if3 .left), sym (c .before .kind .ensures), ne-eqb _ _ (c .if4 .taken))
 
-shared-slice-read-wide : tie.Need-shared-slice-read-wide
-shared-slice-read-wide c = omega (arith, message-there (c .before .before .before .before .before .before .before .before .before .before .before .args .m .now) (sym (c .before .before .before .before .before .before .length-ok .ensures) ∙ not-false (c .before .before .before .before .before .before .length-ok .result) (c .before .before .before .before .before .if2 .left)))
+station-requires : tie.Need-station-requires
+station-requires c κs = message-there _ (sym (c .before .before .before .before .before .length-ok .ensures) ∙ not-false (c .before .before .before .before .before .length-ok .result) (c .before .before .before .before .if2 .left))
 
 wide-requires : tie.Need-wide-requires
 wide-requires c κs = search needs
@@ -53,11 +52,11 @@ shared-slice-read-commit-number : tie.Need-shared-slice-read-commit-number
 shared-slice-read-commit-number c = omega (arith, kinds-there (c .before .before .before .before .before .before .before .before .before .before .before .before .before .before .args .kinds .now) (sym (c .before .before .before .before .before .before .before .before .before .before .before .kinds-ok .ensures) ∙ not-false (c .before .before .before .before .before .before .before .before .before .before .before .kinds-ok .result) (c .before .before .before .before .before .before .before .before .before .before .if1 .left)), station-there (c .before .before .before .before .before .before .before .before .before .before .before .before .before .before .args .m .now) (sym (c .before .before .before .before .before .before .before .up-range .ensures) ∙ c .before .before .before .before .before .before .if3 .left))
 
 commit-number-requires : tie.Need-commit-number-requires
-commit-number-requires c κs = let t = commit-there (c .before .before .before .before .before .before .before .before .before .before .before .before .before .before .args .m .now) (sym (c .before .before .before .before .before .before .before .before .before .length-ok .ensures) ∙ not-false (c .before .before .before .before .before .before .before .before .before .length-ok .result) (c .before .before .before .before .before .before .before .before .if2 .left)) (c .before .before .before .before .if4 .left) in (omega (arith, t .whole, t .versions), omega (arith, t .whole, t .versions), omega (arith, t .whole, t .versions))
+commit-number-requires c κs = let t = commit-there (c .before .before .before .before .before .before .before .before .before .before .before .before .before .before .args .m .now) (sym (c .before .before .before .before .before .before .before .before .before .length-ok .ensures) ∙ not-false (c .before .before .before .before .before .before .before .before .before .length-ok .result) (c .before .before .before .before .before .before .before .before .if2 .left)) (sym (c .before .before .before .before .before .kind .ensures) ∙ c .before .before .before .before .if4 .left) in (omega (arith, t .whole, t .versions), omega (arith, t .whole, t .versions), omega (arith, t .whole, t .versions))
 
 returns-5 : tie.Need-returns-5
 unfolding upNumber
-returns-5 c = let m = c .before .before .before .before .before .before .before .before .before .before .before .before .before .before .before .args .m .now in let kinds = c .before .before .before .before .before .before .before .before .before .before .before .before .before .before .before .args .kinds .now in simp (sym (c .before .before .before .before .before .before .before .before .before .before .before .before .kinds-ok .ensures), not-false (c .before .before .before .before .before .before .before .before .before .before .before .before .kinds-ok .result) (c .before .before .before .before .before .before .before .before .before .before .before .if1 .left), sym (c .before .before .before .before .before .before .before .before .before .before .length-ok .ensures), not-false (c .before .before .before .before .before .before .before .before .before .before .length-ok .result) (c .before .before .before .before .before .before .before .before .before .if2 .left), sym (c .before .before .before .before .before .before .before .before .up-range .ensures), eq-eqb _ _ (c .before .before .before .before .before .before .before .if3 .left), eq-eqb (kindOf m) 3 (c .before .before .before .before .before .if4 .left)) (c .commit-number .ensures ∙ ap (λ (i : ℕ). commitNumber (getD kinds i 0) m) (c .before .before .index .ensures ∙ c .before .before .before .wide .ensures .0))
+returns-5 c = let m = c .before .before .before .before .before .before .before .before .before .before .before .before .before .before .before .args .m .now in let kinds = c .before .before .before .before .before .before .before .before .before .before .before .before .before .before .before .args .kinds .now in simp (sym (c .before .before .before .before .before .before .before .before .before .before .before .before .kinds-ok .ensures), not-false (c .before .before .before .before .before .before .before .before .before .before .before .before .kinds-ok .result) (c .before .before .before .before .before .before .before .before .before .before .before .if1 .left), sym (c .before .before .before .before .before .before .before .before .before .before .length-ok .ensures), not-false (c .before .before .before .before .before .before .before .before .before .before .length-ok .result) (c .before .before .before .before .before .before .before .before .before .if2 .left), sym (c .before .before .before .before .before .before .before .before .up-range .ensures), eq-eqb _ _ (c .before .before .before .before .before .before .before .if3 .left), sym (c .before .before .before .before .before .before .kind .ensures), eq-eqb _ _ (c .before .before .before .before .before .if4 .left)) (c .commit-number .ensures ∙ ap (λ (i : ℕ). commitNumber (getD kinds i 0) m) (c .before .before .index .ensures ∙ c .before .before .before .wide .ensures .0 ∙ c .before .before .before .before .station .ensures))
 
 pub up-check-spec : {M : Type 1} → statement M
 up-check-spec =
@@ -69,9 +68,9 @@ up-check-spec =
     returns-2
     up-range-requires
     returns-3
-    shared-slice-read-if4
+    kind-requires
     returns-4
-    shared-slice-read-wide
+    station-requires
     wide-requires
     index-requires
     shared-slice-read-commit-number

@@ -8,11 +8,11 @@ use borrow.Author.Needs.{needs}
 use Rattle.message.proofs.up_range.Statement.{statement}
 use Rattle.message.proofs.up_range.Tie as tie
 
-shared-slice-read-if1 : tie.Need-shared-slice-read-if1
-shared-slice-read-if1 c = search needs
+kind-requires : tie.Need-kind-requires
+kind-requires c κs = search needs
 
-shared-slice-read-range-number : tie.Need-shared-slice-read-range-number
-shared-slice-read-range-number c = search needs
+station-requires : tie.Need-station-requires
+station-requires c κs = search needs
 
 up-fields-requires : tie.Need-up-fields-requires
 up-fields-requires c κs = search needs
@@ -22,7 +22,7 @@ range-number-requires c κs = search needs
 
 returns : tie.Need-returns
 unfolding upRange
-returns c = let k = kindOf (c .before .before .before .before .before .before .before .args .m .now) in simp (le-leb 1 k (omega arith), le-leb k 8 (omega arith), sym (c .before .up-fields .ensures)) (c .range-number .ensures)
+returns c = let k = kindOf (c .before .before .before .before .before .before .before .args .m .now) in simp (le-leb 1 k (omega arith), le-leb k 8 (omega arith), sym (c .before .before .station .ensures), sym (c .before .up-fields .ensures)) (c .range-number .ensures)
 
 returns-2 : tie.Need-returns-2
 unfolding upRange
@@ -44,8 +44,8 @@ pub up-range-spec : {M : Type 1} → statement M
 up-range-spec =
     tie.close
     (tie.spec
-    shared-slice-read-if1
-    shared-slice-read-range-number
+    kind-requires
+    station-requires
     up-fields-requires
     range-number-requires
     returns

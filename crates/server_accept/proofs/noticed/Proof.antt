@@ -6,8 +6,8 @@ use Rattle.server_accept.proofs.noticed.Tie as tie
 station-requires : tie.Need-station-requires
 station-requires c κs = search needs
 
-get-u32-requires : tie.Need-get-u32-requires
-get-u32-requires c κs = search needs
+transaction-requires : tie.Need-transaction-requires
+transaction-requires c κs = search needs
 
 notice-requires : tie.Need-notice-requires
 notice-requires c κs = search needs
@@ -20,4 +20,4 @@ returns c = cc
 
 pub noticed-spec : {M : Type 1} → statement M
 noticed-spec =
-    tie.close (tie.spec station-requires get-u32-requires notice-requires same-length returns)
+    tie.close (tie.spec station-requires transaction-requires notice-requires same-length returns)

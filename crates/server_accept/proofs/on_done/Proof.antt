@@ -10,14 +10,14 @@ station-requires c κs = search needs
 named-requires : tie.Need-named-requires
 named-requires c κs = search needs
 
-get-u32-requires : tie.Need-get-u32-requires
-get-u32-requires c κs = search needs
+transaction-requires : tie.Need-transaction-requires
+transaction-requires c κs = search needs
 
 open-call-requires : tie.Need-open-call-requires
 open-call-requires c κs = search needs
 
-get-u32-requires-2 : tie.Need-get-u32-requires-2
-get-u32-requires-2 c κs = search needs
+pages-requires : tie.Need-pages-requires
+pages-requires c κs = search needs
 
 unlist-requires : tie.Need-unlist-requires
 unlist-requires c κs = search needs
@@ -29,13 +29,13 @@ same-length : tie.Need-same-length
 same-length c = search needs
 
 returns : tie.Need-returns
-returns c = done-open _ _ (c .before .before .before .before .before .before .before .before .before .before .before .before .before .before .station .ensures) (c .before .before .before .before .before .before .before .before .before .before .before .before .before .named .ensures) (c .before .before .before .before .before .before .before .before .before .before .before .get-u32 .ensures) (c .before .before .before .before .before .before .before .before .before .before .open-call .ensures) (c .before .before .before .before .before .before .before .before .get-u322 .ensures) (c .before .before .before .before .if1 .taken) (c .before .before .before .before .before .before .before .unlist .ensures) (c .before .before .answered .ensures)
+returns c = done-open _ _ (c .before .before .before .before .before .before .before .before .before .before .before .before .before .before .station .ensures) (c .before .before .before .before .before .before .before .before .before .before .before .before .before .named .ensures) (c .before .before .before .before .before .before .before .before .before .before .before .transaction .ensures) (c .before .before .before .before .before .before .before .before .before .before .open-call .ensures) (c .before .before .before .before .before .before .before .before .pages .ensures) (c .before .before .before .before .if1 .taken) (c .before .before .before .before .before .before .before .unlist .ensures) (c .before .before .answered .ensures)
 
 same-length-2 : tie.Need-same-length-2
 same-length-2 c = search needs
 
 returns-2 : tie.Need-returns-2
-returns-2 c = done-late _ _ (c .before .before .before .before .before .before .before .before .before .before .station .ensures) (c .before .before .before .before .before .before .before .before .before .named .ensures) (c .before .before .before .before .before .before .before .get-u32 .ensures) (c .before .before .before .before .before .before .open-call .ensures) (c .before .before .before .before .get-u322 .ensures) (c .if1 .left) (c .before .before .before .unlist .ensures)
+returns-2 c = done-late _ _ (c .before .before .before .before .before .before .before .before .before .before .station .ensures) (c .before .before .before .before .before .before .before .before .before .named .ensures) (c .before .before .before .before .before .before .before .transaction .ensures) (c .before .before .before .before .before .before .open-call .ensures) (c .before .before .before .before .pages .ensures) (c .if1 .left) (c .before .before .before .unlist .ensures)
 
 pub on-done-spec : {M : Type 1} → statement M
 on-done-spec =
@@ -43,9 +43,9 @@ on-done-spec =
     (tie.spec
     station-requires
     named-requires
-    get-u32-requires
+    transaction-requires
     open-call-requires
-    get-u32-requires-2
+    pages-requires
     unlist-requires
     answered-requires
     same-length

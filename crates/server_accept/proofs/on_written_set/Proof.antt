@@ -10,8 +10,8 @@ station-requires c κs = search needs
 named-requires : tie.Need-named-requires
 named-requires c κs = search needs
 
-get-u32-requires : tie.Need-get-u32-requires
-get-u32-requires c κs = search needs
+transaction-requires : tie.Need-transaction-requires
+transaction-requires c κs = search needs
 
 open-ask-requires : tie.Need-open-ask-requires
 open-ask-requires c κs = search needs
@@ -26,13 +26,13 @@ same-length : tie.Need-same-length
 same-length c = search needs
 
 returns : tie.Need-returns
-returns c = set-open _ _ (c .before .before .before .before .before .before .before .before .before .before .station .ensures) (c .before .before .before .before .before .before .before .before .before .named .ensures) (c .before .before .before .before .before .before .before .before .get-u32 .ensures) (c .before .before .before .before .before .before .open-ask .ensures) (c .before .before .before .before .before .if1 .taken) (c .before .before .heed .ensures)
+returns c = set-open _ _ (c .before .before .before .before .before .before .before .before .before .before .station .ensures) (c .before .before .before .before .before .before .before .before .before .named .ensures) (c .before .before .before .before .before .before .before .before .transaction .ensures) (c .before .before .before .before .before .before .open-ask .ensures) (c .before .before .before .before .before .if1 .taken) (c .before .before .heed .ensures)
 
 same-length-2 : tie.Need-same-length-2
 same-length-2 c = search needs
 
 returns-2 : tie.Need-returns-2
-returns-2 c = set-late _ _ (c .before .before .before .before .before .station .ensures) (c .before .before .before .before .named .ensures) (c .before .before .before .get-u32 .ensures) (c .before .open-ask .ensures) (c .if1 .left)
+returns-2 c = set-late _ _ (c .before .before .before .before .before .station .ensures) (c .before .before .before .before .named .ensures) (c .before .before .before .transaction .ensures) (c .before .open-ask .ensures) (c .if1 .left)
 
 pub on-written-set-spec : {M : Type 1} → statement M
 on-written-set-spec =
@@ -40,7 +40,7 @@ on-written-set-spec =
     (tie.spec
     station-requires
     named-requires
-    get-u32-requires
+    transaction-requires
     open-ask-requires
     shared-slice-read-heed
     heed-requires

@@ -10,14 +10,8 @@ use borrow.Author.Needs.{needs}
 use Rattle.server_actions.proofs.put_installed.Statement.{statement}
 use Rattle.server_actions.proofs.put_installed.Tie as tie
 
-mul-get-u32 : tie.Need-mul-get-u32
-mul-get-u32 c = search needs
-
-add-get-u32 : tie.Need-add-get-u32
-add-get-u32 c = search needs
-
-get-u32-requires : tie.Need-get-u32-requires
-get-u32-requires c κs = search needs
+work-requires : tie.Need-work-requires
+work-requires c κs = search needs
 
 write-requires : tie.Need-write-requires
 write-requires c κs = search needs
@@ -56,15 +50,13 @@ same-length-3 : tie.Need-same-length-3
 same-length-3 c = search needs
 
 returns : tie.Need-returns
-returns c = installed-chain _ _ _ _ _ (c .before .before .before .before .before .before .before .before .before .before .before .before .before .before .before .before .before .before .before .before .before .before .before .before .before .get-u32 .ensures) (c .before .before .before .before .before .before .before .before .before .before .before .before .before .before .before .before .before .before .before .before .before .before .before .write .ensures) (c .before .before .before .before .before .before .before .before .before .before .before .before .before .before .before .before .before .before .archive .ensures) (c .before .before .before .before .before .before .before .before .before .before .before .before .before .before .leave .ensures) (c .before .before .before .before .before .before .before .before .before .before .finish .ensures) (c .before .before .before .before .before .before .last .ensures) (c .before .before .before .put-message .ensures) (c .one-more .ensures)
+returns c = installed-chain _ _ _ _ _ (c .before .before .before .before .before .before .before .before .before .before .before .before .before .before .before .before .before .before .before .before .before .before .before .before .before .work .ensures) (c .before .before .before .before .before .before .before .before .before .before .before .before .before .before .before .before .before .before .before .before .before .before .before .write .ensures) (c .before .before .before .before .before .before .before .before .before .before .before .before .before .before .before .before .before .before .archive .ensures) (c .before .before .before .before .before .before .before .before .before .before .before .before .before .before .leave .ensures) (c .before .before .before .before .before .before .before .before .before .before .finish .ensures) (c .before .before .before .before .before .before .last .ensures) (c .before .before .before .put-message .ensures) (c .one-more .ensures)
 
 pub put-installed-spec : {M : Type 1} → statement M
 put-installed-spec =
     tie.close
     (tie.spec
-    mul-get-u32
-    add-get-u32
-    get-u32-requires
+    work-requires
     write-requires
     archive-requires
     leave-requires

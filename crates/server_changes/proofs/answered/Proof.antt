@@ -7,17 +7,11 @@ use Rattle.server_changes.proofs.answered.Tie as tie
 bit8-requires : tie.Need-bit8-requires
 bit8-requires c κs = search needs
 
-add-busy : tie.Need-add-busy
-add-busy c = search needs
+busy-requires : tie.Need-busy-requires
+busy-requires c κs = search needs
 
-slice-read-busy : tie.Need-slice-read-busy
-slice-read-busy c = search needs
-
-add-pend : tie.Need-add-pend
-add-pend c = search needs
-
-slice-read-pend : tie.Need-slice-read-pend
-slice-read-pend c = search needs
+pend-requires : tie.Need-pend-requires
+pend-requires c κs = search needs
 
 add-put-u8 : tie.Need-add-put-u8
 add-put-u8 c = search needs
@@ -43,10 +37,8 @@ answered-spec =
     tie.close
     (tie.spec
     bit8-requires
-    add-busy
-    slice-read-busy
-    add-pend
-    slice-read-pend
+    busy-requires
+    pend-requires
     add-put-u8
     put-u8-requires
     add-put-u8-2

@@ -5,29 +5,19 @@ use borrow.Author.Needs.{needs}
 use Rattle.server_changes.proofs.heeded.Statement.{statement}
 use Rattle.server_changes.proofs.heeded.Tie as tie
 
-add-if1 : tie.Need-add-if1
-add-if1 c = search needs
-
-shared-slice-read-if1 : tie.Need-shared-slice-read-if1
-shared-slice-read-if1 c = search needs
+unfinished-requires : tie.Need-unfinished-requires
+unfinished-requires c κs = search needs
 
 latest-requires : tie.Need-latest-requires
 latest-requires c κs = search needs
 
 returns : tie.Need-returns
 unfolding heededB
-returns c = simp (sym (c .before .latest .ensures), c .if1 .taken)
+returns c = simp (sym (c .before .before .unfinished .ensures), sym (c .before .latest .ensures), c .if1 .taken)
 
 returns-2 : tie.Need-returns-2
 unfolding heededB
-returns-2 c = simp (sym (c .before .latest .ensures), c .if1 .left)
+returns-2 c = simp (sym (c .before .before .unfinished .ensures), sym (c .before .latest .ensures), c .if1 .left)
 
 pub heeded-spec : {M : Type 1} → statement M
-heeded-spec =
-    tie.close
-    (tie.spec
-    add-if1
-    shared-slice-read-if1
-    latest-requires
-    returns
-    returns-2)
+heeded-spec = tie.close (tie.spec unfinished-requires latest-requires returns returns-2)

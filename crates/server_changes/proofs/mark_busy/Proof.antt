@@ -4,11 +4,8 @@ use borrow.Author.Needs.{needs}
 use Rattle.server_changes.proofs.mark_busy.Statement.{statement}
 use Rattle.server_changes.proofs.mark_busy.Tie as tie
 
-add-x : tie.Need-add-x
-add-x c = search needs
-
-slice-read-x : tie.Need-slice-read-x
-slice-read-x c = search needs
+busy-requires : tie.Need-busy-requires
+busy-requires c κs = search needs
 
 bit8-requires : tie.Need-bit8-requires
 bit8-requires c κs = search needs
@@ -28,5 +25,4 @@ returns c = cc
 
 pub mark-busy-spec : {M : Type 1} → statement M
 mark-busy-spec =
-    tie.close
-    (tie.spec add-x slice-read-x bit8-requires add-put-u8 put-u8-requires same-length returns)
+    tie.close (tie.spec busy-requires bit8-requires add-put-u8 put-u8-requires same-length returns)

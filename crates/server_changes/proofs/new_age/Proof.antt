@@ -4,8 +4,8 @@ use borrow.Author.Needs.{needs}
 use Rattle.server_changes.proofs.new_age.Statement.{statement}
 use Rattle.server_changes.proofs.new_age.Tie as tie
 
-get-u64-requires : tie.Need-get-u64-requires
-get-u64-requires c κs = search needs
+next-age-requires : tie.Need-next-age-requires
+next-age-requires c κs = search needs
 
 take-requires : tie.Need-take-requires
 take-requires c κs = search needs
@@ -26,13 +26,13 @@ same-length : tie.Need-same-length
 same-length c = search needs
 
 returns : tie.Need-returns
-returns c = age-stores _ _ (c .before .before .before .before .before .before .before .before .before .before .get-u64 .ensures) (c .before .before .before .before .before .before .before .before .before .take .ensures) (c .before .before .before .before .before .before .put-u64 .ensures) (c .before .before .put-u642 .ensures)
+returns c = age-stores _ _ (c .before .before .before .before .before .before .before .before .before .before .next-age .ensures) (c .before .before .before .before .before .before .before .before .before .take .ensures) (c .before .before .before .before .before .before .put-u64 .ensures) (c .before .before .put-u642 .ensures)
 
 pub new-age-spec : {M : Type 1} → statement M
 new-age-spec =
     tie.close
     (tie.spec
-    get-u64-requires
+    next-age-requires
     take-requires
     mul-put-u64
     add-put-u64

@@ -16,8 +16,8 @@ mul-put-u32 c = search needs
 add-put-u32 : tie.Need-add-put-u32
 add-put-u32 c = search needs
 
-get-u32-requires : tie.Need-get-u32-requires
-get-u32-requires c κs = search needs
+transaction-requires : tie.Need-transaction-requires
+transaction-requires c κs = search needs
 
 put-u32-requires : tie.Need-put-u32-requires
 put-u32-requires c κs = search needs
@@ -68,7 +68,7 @@ same-length : tie.Need-same-length
 same-length c = search needs
 
 returns : tie.Need-returns
-returns c = unpack-stores _ _ _ (c .before .before .before .before .before .before .before .before .before .before .before .before .before .before .sent-reads .ensures .0) (c .before .before .before .before .before .before .before .before .before .before .before .before .before .sent-writes .ensures .0) (c .before .before .before .before .before .before .before .before .before .before .before .get-u32 .ensures) (c .before .before .before .before .before .before .before .before .before .before .put-u32 .ensures) (c .before .before .before .before .before .before .unpack .ensures) (c .before .before .unpack2 .ensures)
+returns c = unpack-stores _ _ _ (c .before .before .before .before .before .before .before .before .before .before .before .before .before .before .sent-reads .ensures .0) (c .before .before .before .before .before .before .before .before .before .before .before .before .before .sent-writes .ensures .0) (c .before .before .before .before .before .before .before .before .before .before .before .transaction .ensures) (c .before .before .before .before .before .before .before .before .before .before .put-u32 .ensures) (c .before .before .before .before .before .before .unpack .ensures) (c .before .before .unpack2 .ensures)
 
 pub unpack-commit-spec : {M : Type 1} → statement M
 unpack-commit-spec =
@@ -78,7 +78,7 @@ unpack-commit-spec =
     sent-writes-requires
     mul-put-u32
     add-put-u32
-    get-u32-requires
+    transaction-requires
     put-u32-requires
     mul-unpack
     add-unpack

@@ -17,20 +17,14 @@ Inv-loop s₀ i n p o₀ s o = (o ≤ 8) × (length s ≡ length s₀) × (s ≡
 abbrev μ-loop : tie.MeasureT-loop
 μ-loop s₀ i n p o₀ s o = 8 - o
 
-mul-if1 : tie.Need-mul-if1 Inv-loop μ-loop
-mul-if1 c = search needs
+written-set-requires : tie.Need-written-set-requires Inv-loop μ-loop
+written-set-requires c κs = search needs
 
-add-if1 : tie.Need-add-if1 Inv-loop μ-loop
-add-if1 c = search needs
-
-add-if1-2 : tie.Need-add-if1-2 Inv-loop μ-loop
-add-if1-2 c = search needs
-
-slice-read-if1 : tie.Need-slice-read-if1 Inv-loop μ-loop
-slice-read-if1 c = search needs
+same-length : tie.Need-same-length Inv-loop μ-loop
+same-length c = search needs
 
 returns : tie.Need-returns Inv-loop μ-loop
-returns c = page-unwritten _ _ _ _ (c .if1 .taken)
+returns c = page-unwritten _ _ _ _ (sym (c .before .written-set .ensures) ∙ c .if1 .taken)
 
 loop-holds : tie.Need-loop-holds Inv-loop μ-loop
 unfolding run
@@ -55,8 +49,8 @@ loop-again : tie.Need-loop-again Inv-loop μ-loop
 unfolding run
 loop-again c = (search needs, search needs, rw (add-one (c .before .before .before .before .before .loop .o)) (cc))
 
-same-length : tie.Need-same-length Inv-loop μ-loop
-same-length c = search needs
+same-length-2 : tie.Need-same-length-2 Inv-loop μ-loop
+same-length-2 c = search needs
 
 returns-2 : tie.Need-returns-2 Inv-loop μ-loop
 returns-2 c = c .before .loop .inv .2 ∙ ap (run _ _ _) (omega arith)
@@ -67,10 +61,8 @@ values-on-spec =
     (tie.spec
     Inv-loop
     μ-loop
-    mul-if1
-    add-if1
-    add-if1-2
-    slice-read-if1
+    written-set-requires
+    same-length
     returns
     loop-holds
     mul-value-one
@@ -79,5 +71,5 @@ values-on-spec =
     add-o
     loop-less
     loop-again
-    same-length
+    same-length-2
     returns-2)

@@ -13,11 +13,8 @@ add-get-u64 c = search needs
 get-u64-requires : tie.Need-get-u64-requires
 get-u64-requires c κs = search needs
 
-add-result : tie.Need-add-result
-add-result c = search needs
-
-shared-slice-read-result : tie.Need-shared-slice-read-result
-shared-slice-read-result c = search needs
+whole-requires : tie.Need-whole-requires
+whole-requires c κs = search needs
 
 returns : tie.Need-returns
 unfolding anyLockB
@@ -25,5 +22,4 @@ returns c = cc
 
 pub any-lock-spec : {M : Type 1} → statement M
 any-lock-spec =
-    tie.close
-    (tie.spec mul-get-u64 add-get-u64 get-u64-requires add-result shared-slice-read-result returns)
+    tie.close (tie.spec mul-get-u64 add-get-u64 get-u64-requires whole-requires returns)

@@ -6,14 +6,11 @@ use borrow.Author.Needs.{needs}
 use Rattle.server_sets.proofs.edge_set.Statement.{statement}
 use Rattle.server_sets.proofs.edge_set.Tie as tie
 
-add-if1 : tie.Need-add-if1
-add-if1 c = search needs
-
-shared-slice-read-if1 : tie.Need-shared-slice-read-if1
-shared-slice-read-if1 c = search needs
+want-requires : tie.Need-want-requires
+want-requires c κs = search needs
 
 returns : tie.Need-returns
-returns c = let a = c .before .before .before .args in rw (edges-are (a .s .now) (λ k. omega (arith, c .before .before .shared-slice-known .given k)) (a .i), eq-eqb _ _ (c .if1 .taken))
+returns c = let a = c .before .before .before .args in rw (edges-are (a .s .now) (λ k. omega (arith, c .before .before .shared-slice-known .given k)) (a .i), ← c .before .want .ensures, eq-eqb _ _ (c .if1 .taken))
 
 blockers-requires : tie.Need-blockers-requires
 blockers-requires c κs = search needs
@@ -26,11 +23,4 @@ returns-2 c = search needs
 
 pub edge-set-spec : {M : Type 1} → statement M
 edge-set-spec =
-    tie.close
-    (tie.spec
-    add-if1
-    shared-slice-read-if1
-    returns
-    blockers-requires
-    edges-by-requires
-    returns-2)
+    tie.close (tie.spec want-requires returns blockers-requires edges-by-requires returns-2)

@@ -4,23 +4,19 @@ use borrow.Author.Needs.{needs}
 use Rattle.server_state.proofs.ageless_at.Statement.{statement}
 use Rattle.server_state.proofs.ageless_at.Tie as tie
 
+unfinished-requires : tie.Need-unfinished-requires
+unfinished-requires c κs = search needs
+
 add-result : tie.Need-add-result
 add-result c = search needs
 
 shared-slice-read-result : tie.Need-shared-slice-read-result
 shared-slice-read-result c = search needs
 
-add-result-2 : tie.Need-add-result-2
-add-result-2 c = search needs
-
-shared-slice-read-result-2 : tie.Need-shared-slice-read-result-2
-shared-slice-read-result-2 c = search needs
-
 returns : tie.Need-returns
 unfolding ageless
-returns c = search needs
+returns c = cc
 
 pub ageless-at-spec : {M : Type 1} → statement M
 ageless-at-spec =
-    tie.close
-    (tie.spec add-result shared-slice-read-result add-result-2 shared-slice-read-result-2 returns)
+    tie.close (tie.spec unfinished-requires add-result shared-slice-read-result returns)

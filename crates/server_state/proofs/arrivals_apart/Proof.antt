@@ -15,14 +15,11 @@ Inv-loop s i ok₀ j₀ ok j = (j ≤ i) × (ok ≡ allTo (arrivalsAt s i) j)
 abbrev μ-loop : tie.MeasureT-loop
 μ-loop s i ok₀ j₀ ok j = i - j
 
-add-if1 : tie.Need-add-if1 Inv-loop μ-loop
-add-if1 c = search needs
-
-shared-slice-read-if1 : tie.Need-shared-slice-read-if1 Inv-loop μ-loop
-shared-slice-read-if1 c = search needs
+want-requires : tie.Need-want-requires Inv-loop μ-loop
+want-requires c κs = search needs
 
 returns : tie.Need-returns Inv-loop μ-loop
-returns c = arrivals-idle _ _ (c .if1 .taken)
+returns c = arrivals-idle _ _ (sym (c .before .want .ensures) ∙ c .if1 .taken)
 
 loop-holds : tie.Need-loop-holds Inv-loop μ-loop
 unfolding allTo
@@ -50,8 +47,7 @@ arrivals-apart-spec =
     (tie.spec
     Inv-loop
     μ-loop
-    add-if1
-    shared-slice-read-if1
+    want-requires
     returns
     loop-holds
     arrivals-at-requires

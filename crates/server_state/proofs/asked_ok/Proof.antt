@@ -16,11 +16,11 @@ Inv-loop s ok₀ p₀ ok p = (p ≤ 32) × (ok ≡ allTo (askedAt s) p)
 abbrev μ-loop : tie.MeasureT-loop
 μ-loop s ok₀ p₀ ok p = 32 - p
 
-get-u32-requires : tie.Need-get-u32-requires Inv-loop μ-loop
-get-u32-requires c κs = search needs
+asked-requires : tie.Need-asked-requires Inv-loop μ-loop
+asked-requires c κs = search needs
 
 returns : tie.Need-returns Inv-loop μ-loop
-returns c = none-asked _ (sym (c .before .get-u32 .ensures) ∙ c .if1 .taken)
+returns c = none-asked _ (sym (c .before .asked .ensures) ∙ c .if1 .taken)
 
 loop-holds : tie.Need-loop-holds Inv-loop μ-loop
 unfolding allTo
@@ -48,7 +48,7 @@ asked-ok-spec =
     (tie.spec
     Inv-loop
     μ-loop
-    get-u32-requires
+    asked-requires
     returns
     loop-holds
     asked-at-requires

@@ -4,52 +4,40 @@ use borrow.Author.Needs.{needs}
 use Rattle.server_state.proofs.beside_at.Statement.{statement}
 use Rattle.server_state.proofs.beside_at.Tie as tie
 
-mul-result : tie.Need-mul-result
-mul-result c = search needs
+mul-lock : tie.Need-mul-lock
+mul-lock c = search needs
 
-add-result : tie.Need-add-result
-add-result c = search needs
+add-lock : tie.Need-add-lock
+add-lock c = search needs
 
-add-result-2 : tie.Need-add-result-2
-add-result-2 c = search needs
+lock-requires : tie.Need-lock-requires
+lock-requires c κs = search needs
 
-shared-slice-read-result : tie.Need-shared-slice-read-result
-shared-slice-read-result c = search needs
+mul-lock-2 : tie.Need-mul-lock-2
+mul-lock-2 c = search needs
 
-mul-result-2 : tie.Need-mul-result-2
-mul-result-2 c = search needs
+add-lock-2 : tie.Need-add-lock-2
+add-lock-2 c = search needs
 
-add-result-3 : tie.Need-add-result-3
-add-result-3 c = search needs
+lock-requires-2 : tie.Need-lock-requires-2
+lock-requires-2 c κs = search needs
 
-add-result-4 : tie.Need-add-result-4
-add-result-4 c = search needs
-
-shared-slice-read-result-2 : tie.Need-shared-slice-read-result-2
-shared-slice-read-result-2 c = search needs
-
-add-result-5 : tie.Need-add-result-5
-add-result-5 c = search needs
-
-shared-slice-read-result-3 : tie.Need-shared-slice-read-result-3
-shared-slice-read-result-3 c = search needs
+whole-requires : tie.Need-whole-requires
+whole-requires c κs = search needs
 
 returns : tie.Need-returns
 unfolding besideAt
-returns c = search needs
+returns c = cc
 
 pub beside-at-spec : {M : Type 1} → statement M
 beside-at-spec =
     tie.close
     (tie.spec
-    mul-result
-    add-result
-    add-result-2
-    shared-slice-read-result
-    mul-result-2
-    add-result-3
-    add-result-4
-    shared-slice-read-result-2
-    add-result-5
-    shared-slice-read-result-3
+    mul-lock
+    add-lock
+    lock-requires
+    mul-lock-2
+    add-lock-2
+    lock-requires-2
+    whole-requires
     returns)

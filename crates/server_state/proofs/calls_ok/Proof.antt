@@ -1,5 +1,4 @@
 -- `server_state::calls_ok` meets its contract.
-use mathlib.Core.Path.{sym}
 use borrow.Author.Tests.{eq-eqb, ne-eqb}
 use Rattle.server_state.specs.Valid.{callsOk}
 use borrow.Author.Needs.{needs}
@@ -12,52 +11,34 @@ add-if1 c = search needs
 shared-slice-read-if1 : tie.Need-shared-slice-read-if1
 shared-slice-read-if1 c = search needs
 
-add-result : tie.Need-add-result
-add-result c = search needs
+pend-requires : tie.Need-pend-requires
+pend-requires c κs = search needs
 
-shared-slice-read-result : tie.Need-shared-slice-read-result
-shared-slice-read-result c = search needs
-
-add-result-2 : tie.Need-add-result-2
-add-result-2 c = search needs
-
-shared-slice-read-result-2 : tie.Need-shared-slice-read-result-2
-shared-slice-read-result-2 c = search needs
+busy-requires : tie.Need-busy-requires
+busy-requires c κs = search needs
 
 returns : tie.Need-returns
 unfolding callsOk
-returns c = simp (eq-eqb _ _ (c .before .before .if1 .taken))
+returns c = simp (eq-eqb _ _ (c .before .before .if1 .taken), c .before .pend .ensures, c .busy .ensures)
 
-add-result-3 : tie.Need-add-result-3
-add-result-3 c = search needs
+want-requires : tie.Need-want-requires
+want-requires c κs = search needs
 
-shared-slice-read-result-3 : tie.Need-shared-slice-read-result-3
-shared-slice-read-result-3 c = search needs
+busy-requires-2 : tie.Need-busy-requires-2
+busy-requires-2 c κs = search needs
 
-add-result-4 : tie.Need-add-result-4
-add-result-4 c = search needs
+pend-requires-2 : tie.Need-pend-requires-2
+pend-requires-2 c κs = search needs
 
-shared-slice-read-result-4 : tie.Need-shared-slice-read-result-4
-shared-slice-read-result-4 c = search needs
-
-add-result-5 : tie.Need-add-result-5
-add-result-5 c = search needs
-
-shared-slice-read-result-5 : tie.Need-shared-slice-read-result-5
-shared-slice-read-result-5 c = search needs
-
-add-result-6 : tie.Need-add-result-6
-add-result-6 c = search needs
-
-shared-slice-read-result-6 : tie.Need-shared-slice-read-result-6
-shared-slice-read-result-6 c = search needs
+pend-requires-3 : tie.Need-pend-requires-3
+pend-requires-3 c κs = search needs
 
 owes-ok-requires : tie.Need-owes-ok-requires
 owes-ok-requires c κs = search needs
 
 returns-2 : tie.Need-returns-2
 unfolding callsOk
-returns-2 c = simp (ne-eqb _ _ (c .before .before .before .before .before .if1 .left), sym (c .owes-ok .ensures))
+returns-2 c = simp (ne-eqb _ _ (c .before .before .before .before .before .if1 .left), c .before .before .before .before .want .ensures, c .before .before .before .busy2 .ensures, c .before .before .pend2 .ensures, c .before .pend3 .ensures, c .owes-ok .ensures)
 
 pub calls-ok-spec : {M : Type 1} → statement M
 calls-ok-spec =
@@ -65,18 +46,12 @@ calls-ok-spec =
     (tie.spec
     add-if1
     shared-slice-read-if1
-    add-result
-    shared-slice-read-result
-    add-result-2
-    shared-slice-read-result-2
+    pend-requires
+    busy-requires
     returns
-    add-result-3
-    shared-slice-read-result-3
-    add-result-4
-    shared-slice-read-result-4
-    add-result-5
-    shared-slice-read-result-5
-    add-result-6
-    shared-slice-read-result-6
+    want-requires
+    busy-requires-2
+    pend-requires-2
+    pend-requires-3
     owes-ok-requires
     returns-2)

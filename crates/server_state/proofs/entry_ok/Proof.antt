@@ -6,27 +6,23 @@ use borrow.Author.Needs.{needs}
 use Rattle.server_state.proofs.entry_ok.Statement.{statement}
 use Rattle.server_state.proofs.entry_ok.Tie as tie
 
-add-if1 : tie.Need-add-if1
-add-if1 c = search needs
-
-shared-slice-read-if1 : tie.Need-shared-slice-read-if1
-shared-slice-read-if1 c = search needs
+want-requires : tie.Need-want-requires
+want-requires c κs = search needs
 
 blank-ok-requires : tie.Need-blank-ok-requires
 blank-ok-requires c κs = search needs
 
 returns : tie.Need-returns
 unfolding entryOk
-returns c = simp (eq-eqb _ _ (c .before .if1 .taken), sym (c .blank-ok .ensures))
+returns c = simp (sym (c .before .before .want .ensures), eq-eqb _ _ (c .before .if1 .taken), sym (c .blank-ok .ensures))
 
 waiter-ok-requires : tie.Need-waiter-ok-requires
 waiter-ok-requires c κs = search needs
 
 returns-2 : tie.Need-returns-2
 unfolding entryOk
-returns-2 c = simp (ne-eqb _ _ (c .before .if1 .left), sym (c .waiter-ok .ensures))
+returns-2 c = simp (sym (c .before .before .want .ensures), ne-eqb _ _ (c .before .if1 .left), sym (c .waiter-ok .ensures))
 
 pub entry-ok-spec : {M : Type 1} → statement M
 entry-ok-spec =
-    tie.close
-    (tie.spec add-if1 shared-slice-read-if1 blank-ok-requires returns waiter-ok-requires returns-2)
+    tie.close (tie.spec want-requires blank-ok-requires returns waiter-ok-requires returns-2)

@@ -20,18 +20,15 @@ returns-2 : tie.Need-returns-2
 unfolding givenOk
 returns-2 c = simp (ne-eqb _ _ (c .before .before .before .if1 .left), sym (c .before .before .keeps .ensures), c .before .if2 .taken, sym (c .latest .ensures))
 
-add-result : tie.Need-add-result
-add-result c = search needs
-
-shared-slice-read-result : tie.Need-shared-slice-read-result
-shared-slice-read-result c = search needs
+unfinished-requires : tie.Need-unfinished-requires
+unfinished-requires c κs = search needs
 
 latest-requires-2 : tie.Need-latest-requires-2
 latest-requires-2 c κs = search needs
 
 returns-3 : tie.Need-returns-3
 unfolding givenOk
-returns-3 c = simp (ne-eqb _ _ (c .before .before .before .before .if1 .left), sym (c .before .before .before .keeps .ensures), c .before .before .if2 .left, sym (c .latest2 .ensures))
+returns-3 c = simp (ne-eqb _ _ (c .before .before .before .before .if1 .left), sym (c .before .before .before .keeps .ensures), c .before .before .if2 .left, sym (c .before .unfinished .ensures), sym (c .latest2 .ensures))
 
 pub given-ok-spec : {M : Type 1} → statement M
 given-ok-spec =
@@ -41,7 +38,6 @@ given-ok-spec =
     keeps-requires
     latest-requires
     returns-2
-    add-result
-    shared-slice-read-result
+    unfinished-requires
     latest-requires-2
     returns-3)

@@ -20,24 +20,13 @@ sub-i c = search needs
 locking-requires : tie.Need-locking-requires
 locking-requires c κs = search needs
 
-add-result : tie.Need-add-result
-add-result c = search needs
-
-shared-slice-read-result : tie.Need-shared-slice-read-result
-shared-slice-read-result c = search needs
+unfinished-requires : tie.Need-unfinished-requires
+unfinished-requires c κs = search needs
 
 returns-3 : tie.Need-returns-3
 unfolding holderOk
-returns-3 c = simp (ne-eqb _ _ (c .before .before .before .if1 .left), le-leb _ _ (c .before .before .if2 .left), sym (c .before .locking .ensures))
+returns-3 c = simp (ne-eqb _ _ (c .before .before .before .if1 .left), le-leb _ _ (c .before .before .if2 .left), sym (c .before .locking .ensures), sym (c .unfinished .ensures))
 
 pub holder-ok-spec : {M : Type 1} → statement M
 holder-ok-spec =
-    tie.close
-    (tie.spec
-    returns
-    returns-2
-    sub-i
-    locking-requires
-    add-result
-    shared-slice-read-result
-    returns-3)
+    tie.close (tie.spec returns returns-2 sub-i locking-requires unfinished-requires returns-3)

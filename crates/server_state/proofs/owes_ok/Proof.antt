@@ -1,11 +1,11 @@
 -- `server_state::owes_ok` meets its contract. The loop's invariant: all below the lowest of x are looked at, and x is the set from there on.
-use Prim.Native.Nat.{_+_, _<_}
-use mathlib.Core.Path.{_≡_, refl}
+use Prim.Native.Nat.{_<_}
+use mathlib.Core.Path.{_≡_}
 use native.Mathlib.Omega.{arith}
 use lib.Count.{trailingZeros}
 use borrow.Author.Needs.{needs}
 use Rattle.lists.specs.Tests.{allTo}
-use Rattle.server_state.specs.Layout.{pendFrom, pendOf}
+use Rattle.server_state.specs.Layout.{pendOf}
 use Rattle.server_state.specs.Valid.{owesAt}
 use Rattle.cells.specs.Lowest.{rest-less}
 use Rattle.server_state.specs.Members.{From, owes-first, owes-next, owes-last}
@@ -18,14 +18,11 @@ Inv-loop s i ok₀ x₀ ok x = (x < 256) × (ok ≡ allTo (owesAt s i) (trailing
 abbrev μ-loop : tie.MeasureT-loop
 μ-loop s i ok₀ x₀ ok x = x
 
-add-x : tie.Need-add-x Inv-loop μ-loop
-add-x c = search needs
-
-shared-slice-read-x : tie.Need-shared-slice-read-x Inv-loop μ-loop
-shared-slice-read-x c = search needs
+pend-requires : tie.Need-pend-requires Inv-loop μ-loop
+pend-requires c κs = search needs
 
 loop-holds : tie.Need-loop-holds Inv-loop μ-loop
-loop-holds c = (omega (arith, c .shared-slice-known2 .given (pendFrom + c .before .before .args .i)), owes-first _ _, λ k l. refl)
+loop-holds c = (omega arith, rw (c .pend .ensures) (owes-first _ _), λ k l. rw (c .pend .ensures))
 
 lowest8-requires : tie.Need-lowest8-requires Inv-loop μ-loop
 lowest8-requires c κs = search needs
@@ -51,8 +48,7 @@ owes-ok-spec =
     (tie.spec
     Inv-loop
     μ-loop
-    add-x
-    shared-slice-read-x
+    pend-requires
     loop-holds
     lowest8-requires
     owes-at-requires

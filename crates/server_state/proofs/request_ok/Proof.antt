@@ -13,17 +13,11 @@ returns : tie.Need-returns
 unfolding requestOk
 returns c = simp (sym (c .before .locking .ensures), not-true (c .before .locking .result) (c .if1 .taken))
 
-add-if2 : tie.Need-add-if2
-add-if2 c = search needs
+want-requires : tie.Need-want-requires
+want-requires c κs = search needs
 
-shared-slice-read-if2 : tie.Need-shared-slice-read-if2
-shared-slice-read-if2 c = search needs
-
-add-a : tie.Need-add-a
-add-a c = search needs
-
-shared-slice-read-a : tie.Need-shared-slice-read-a
-shared-slice-read-a c = search needs
+request-requires : tie.Need-request-requires
+request-requires c κs = search needs
 
 mul-only-in : tie.Need-mul-only-in
 mul-only-in c = search needs
@@ -45,14 +39,14 @@ none-in-requires c κs = search needs
 
 returns-2 : tie.Need-returns-2
 unfolding requestOk
-returns-2 c = simp (sym (c .before .before .before .before .before .before .locking .ensures), not-false (c .before .before .before .before .before .before .locking .result) (c .before .before .before .before .before .if1 .left), eq-eqb _ _ (c .before .before .before .if2 .taken), sym (c .before .only-in .ensures), sym (c .none-in .ensures))
+returns-2 c = simp (sym (c .before .before .before .before .before .before .locking .ensures), not-false (c .before .before .before .before .before .before .locking .result) (c .before .before .before .before .before .if1 .left), sym (c .before .before .before .before .want .ensures), eq-eqb _ _ (c .before .before .before .if2 .taken), sym (c .before .before .request .ensures), sym (c .before .only-in .ensures), sym (c .none-in .ensures))
 
 write-ok-requires : tie.Need-write-ok-requires
 write-ok-requires c κs = search needs
 
 returns-3 : tie.Need-returns-3
 unfolding requestOk
-returns-3 c = simp (sym (c .before .before .before .before .locking .ensures), not-false (c .before .before .before .before .locking .result) (c .before .before .before .if1 .left), ne-eqb _ _ (c .before .if2 .left)) (c .write-ok .ensures)
+returns-3 c = simp (sym (c .before .before .before .before .locking .ensures), not-false (c .before .before .before .before .locking .result) (c .before .before .before .if1 .left), sym (c .before .before .want .ensures), ne-eqb _ _ (c .before .if2 .left)) (c .write-ok .ensures)
 
 pub request-ok-spec : {M : Type 1} → statement M
 request-ok-spec =
@@ -60,10 +54,8 @@ request-ok-spec =
     (tie.spec
     locking-requires
     returns
-    add-if2
-    shared-slice-read-if2
-    add-a
-    shared-slice-read-a
+    want-requires
+    request-requires
     mul-only-in
     add-only-in
     only-in-requires

@@ -6,22 +6,19 @@ use borrow.Author.Needs.{needs}
 use Rattle.server_state.proofs.whole_ok.Statement.{statement}
 use Rattle.server_state.proofs.whole_ok.Tie as tie
 
-add-h : tie.Need-add-h
-add-h c = search needs
-
-shared-slice-read-h : tie.Need-shared-slice-read-h
-shared-slice-read-h c = search needs
+whole-requires : tie.Need-whole-requires
+whole-requires c κs = search needs
 
 whole-for-requires : tie.Need-whole-for-requires
 whole-for-requires c κs = search needs
 
 returns : tie.Need-returns
 unfolding wholeOk
-returns c = simp (eq-eqb _ _ (c .if1 .taken), sym (c .before .whole-for .ensures))
+returns c = simp (sym (c .before .before .whole .ensures), eq-eqb _ _ (c .if1 .taken), sym (c .before .whole-for .ensures))
 
 returns-2 : tie.Need-returns-2
 unfolding wholeOk
-returns-2 c = simp (ne-eqb _ _ (c .before .if1 .left), lt-leb _ _ (c .if2 .taken))
+returns-2 c = simp (sym (c .before .before .before .whole .ensures), ne-eqb _ _ (c .before .if1 .left), lt-leb _ _ (c .if2 .taken))
 
 cast-i : tie.Need-cast-i
 cast-i c = search needs
@@ -40,14 +37,13 @@ besides-ok-requires c κs = search needs
 
 returns-3 : tie.Need-returns-3
 unfolding wholeOk
-returns-3 c = simp (ne-eqb _ _ (c .before .before .before .before .if1 .left), le-leb _ _ (c .before .before .before .if2 .left), sym (c .before .before .locking .ensures), sym (c .before .before .before .before .before .whole-for .ensures), sym (c .before .given-ok .ensures), sym (c .besides-ok .ensures))
+returns-3 c = simp (sym (c .before .before .before .before .before .before .whole .ensures), ne-eqb _ _ (c .before .before .before .before .if1 .left), le-leb _ _ (c .before .before .before .if2 .left), sym (c .before .before .locking .ensures), sym (c .before .before .before .before .before .whole-for .ensures), sym (c .before .given-ok .ensures), sym (c .besides-ok .ensures))
 
 pub whole-ok-spec : {M : Type 1} → statement M
 whole-ok-spec =
     tie.close
     (tie.spec
-    add-h
-    shared-slice-read-h
+    whole-requires
     whole-for-requires
     returns
     returns-2

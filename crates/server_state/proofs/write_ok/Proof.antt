@@ -4,11 +4,8 @@ use borrow.Author.Needs.{needs}
 use Rattle.server_state.proofs.write_ok.Statement.{statement}
 use Rattle.server_state.proofs.write_ok.Tie as tie
 
-add-wide : tie.Need-add-wide
-add-wide c = search needs
-
-shared-slice-read-wide : tie.Need-shared-slice-read-wide
-shared-slice-read-wide c = search needs
+request-requires : tie.Need-request-requires
+request-requires c κs = search needs
 
 wide-requires : tie.Need-wide-requires
 wide-requires c κs = search needs
@@ -42,8 +39,7 @@ pub write-ok-spec : {M : Type 1} → statement M
 write-ok-spec =
     tie.close
     (tie.spec
-    add-wide
-    shared-slice-read-wide
+    request-requires
     wide-requires
     index-requires
     mul-page-only

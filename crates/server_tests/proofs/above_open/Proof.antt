@@ -7,15 +7,12 @@ use Rattle.server_tests.proofs.above_open.Tie as tie
 latest-requires : tie.Need-latest-requires
 latest-requires c κs = search needs
 
-add-result : tie.Need-add-result
-add-result c = search needs
-
-shared-slice-read-result : tie.Need-shared-slice-read-result
-shared-slice-read-result c = search needs
+unfinished-requires : tie.Need-unfinished-requires
+unfinished-requires c κs = search needs
 
 returns : tie.Need-returns
 unfolding aboveOpenB
 returns c = cc
 
 pub above-open-spec : {M : Type 1} → statement M
-above-open-spec = tie.close (tie.spec latest-requires add-result shared-slice-read-result returns)
+above-open-spec = tie.close (tie.spec latest-requires unfinished-requires returns)

@@ -7,15 +7,12 @@ use borrow.Author.Needs.{needs}
 use Rattle.server_tests.proofs.ahead_at.Statement.{statement}
 use Rattle.server_tests.proofs.ahead_at.Tie as tie
 
-add-if1 : tie.Need-add-if1
-add-if1 c = search needs
-
-shared-slice-read-if1 : tie.Need-shared-slice-read-if1
-shared-slice-read-if1 c = search needs
+want-requires : tie.Need-want-requires
+want-requires c κs = search needs
 
 returns : tie.Need-returns
 unfolding aheadAt earlierB
-returns c = simp (eq-eqb _ _ (c .if1 .taken))
+returns c = simp (sym (c .before .want .ensures), eq-eqb _ _ (c .if1 .taken))
 
 arrival-requires : tie.Need-arrival-requires
 arrival-requires c κs = search needs
@@ -25,21 +22,20 @@ arrival-requires-2 c κs = search needs
 
 returns-2 : tie.Need-returns-2
 unfolding aheadAt earlierB
-returns-2 c = simp (ne-eqb _ _ (c .before .before .before .if1 .left), sym (c .before .before .arrival .ensures), sym (c .before .arrival2 .ensures), le-ltb _ _ (c .if2 .taken))
+returns-2 c = simp (sym (c .before .before .before .before .want .ensures), ne-eqb _ _ (c .before .before .before .if1 .left), sym (c .before .before .arrival .ensures), sym (c .before .arrival2 .ensures), le-ltb _ _ (c .if2 .taken))
 
 meet-on-requires : tie.Need-meet-on-requires
 meet-on-requires c κs = search needs
 
 returns-3 : tie.Need-returns-3
 unfolding aheadAt earlierB
-returns-3 c = simp (ne-eqb _ _ (c .before .before .before .before .if1 .left), sym (c .before .before .before .arrival .ensures), sym (c .before .before .arrival2 .ensures), lt-ltb _ _ (c .before .if2 .left), sym (c .meet-on .ensures))
+returns-3 c = simp (sym (c .before .before .before .before .before .want .ensures), ne-eqb _ _ (c .before .before .before .before .if1 .left), sym (c .before .before .before .arrival .ensures), sym (c .before .before .arrival2 .ensures), lt-ltb _ _ (c .before .if2 .left), sym (c .meet-on .ensures))
 
 pub ahead-at-spec : {M : Type 1} → statement M
 ahead-at-spec =
     tie.close
     (tie.spec
-    add-if1
-    shared-slice-read-if1
+    want-requires
     returns
     arrival-requires
     arrival-requires-2

@@ -7,20 +7,14 @@ use Rattle.server_tests.proofs.bad_number.Tie as tie
 latest-requires : tie.Need-latest-requires
 latest-requires c κs = search needs
 
-add-over : tie.Need-add-over
-add-over c = search needs
-
-shared-slice-read-over : tie.Need-shared-slice-read-over
-shared-slice-read-over c = search needs
+unfinished-requires : tie.Need-unfinished-requires
+unfinished-requires c κs = search needs
 
 locking-requires : tie.Need-locking-requires
 locking-requires c κs = search needs
 
-add-result : tie.Need-add-result
-add-result c = search needs
-
-shared-slice-read-result : tie.Need-shared-slice-read-result
-shared-slice-read-result c = search needs
+want-requires : tie.Need-want-requires
+want-requires c κs = search needs
 
 returns : tie.Need-returns
 unfolding badNumberB
@@ -28,12 +22,4 @@ returns c = cc
 
 pub bad-number-spec : {M : Type 1} → statement M
 bad-number-spec =
-    tie.close
-    (tie.spec
-    latest-requires
-    add-over
-    shared-slice-read-over
-    locking-requires
-    add-result
-    shared-slice-read-result
-    returns)
+    tie.close (tie.spec latest-requires unfinished-requires locking-requires want-requires returns)

@@ -15,17 +15,14 @@ returns : tie.Need-returns
 unfolding dueB
 returns c = simp (sym (c .before .shut .ensures), not-true (c .before .shut .result) (c .if1 .taken))
 
-add-h : tie.Need-add-h
-add-h c = search needs
-
-shared-slice-read-h : tie.Need-shared-slice-read-h
-shared-slice-read-h c = search needs
+whole-requires : tie.Need-whole-requires
+whole-requires c κs = search needs
 
 cast-h : tie.Need-cast-h
 cast-h c = search needs
 
 sub-h : tie.Need-sub-h
-sub-h c = omega (arith, shut-held _ _ _ (sym (c .before .before .shut .ensures) ∙ not-false (c .before .before .shut .result) (c .before .if1 .left)))
+sub-h c = omega (arith, c .whole .ensures, shut-held _ _ _ (sym (c .before .before .shut .ensures) ∙ not-false (c .before .before .shut .result) (c .before .if1 .left)))
 
 keeps-requires : tie.Need-keeps-requires
 keeps-requires c κs = search needs
@@ -46,8 +43,7 @@ due-spec =
     (tie.spec
     shut-requires
     returns
-    add-h
-    shared-slice-read-h
+    whole-requires
     cast-h
     sub-h
     keeps-requires

@@ -4,11 +4,8 @@ use borrow.Author.Needs.{needs}
 use Rattle.server_tests.proofs.earlier.Statement.{statement}
 use Rattle.server_tests.proofs.earlier.Tie as tie
 
-add-result : tie.Need-add-result
-add-result c = search needs
-
-shared-slice-read-result : tie.Need-shared-slice-read-result
-shared-slice-read-result c = search needs
+want-requires : tie.Need-want-requires
+want-requires c κs = search needs
 
 arrival-requires : tie.Need-arrival-requires
 arrival-requires c κs = search needs
@@ -21,11 +18,4 @@ unfolding earlierB
 returns c = cc
 
 pub earlier-spec : {M : Type 1} → statement M
-earlier-spec =
-    tie.close
-    (tie.spec
-    add-result
-    shared-slice-read-result
-    arrival-requires
-    arrival-requires-2
-    returns)
+earlier-spec = tie.close (tie.spec want-requires arrival-requires arrival-requires-2 returns)

@@ -4,17 +4,17 @@ use borrow.Author.Needs.{needs}
 use Rattle.server_tests.proofs.lock_at.Statement.{statement}
 use Rattle.server_tests.proofs.lock_at.Tie as tie
 
-mul-byte : tie.Need-mul-byte
-mul-byte c = search needs
+mul-lock : tie.Need-mul-lock
+mul-lock c = search needs
 
-add-byte : tie.Need-add-byte
-add-byte c = search needs
+add-lock : tie.Need-add-lock
+add-lock c = search needs
 
-add-byte-2 : tie.Need-add-byte-2
-add-byte-2 c = search needs
+lock-requires : tie.Need-lock-requires
+lock-requires c κs = search needs
 
-byte-requires : tie.Need-byte-requires
-byte-requires c κs = search needs
+cast-result : tie.Need-cast-result
+cast-result c = search needs
 
 add-result : tie.Need-add-result
 add-result c = search needs
@@ -24,4 +24,4 @@ unfolding lockAtB
 returns c = cc
 
 pub lock-at-spec : {M : Type 1} → statement M
-lock-at-spec = tie.close (tie.spec mul-byte add-byte add-byte-2 byte-requires add-result returns)
+lock-at-spec = tie.close (tie.spec mul-lock add-lock lock-requires cast-result add-result returns)

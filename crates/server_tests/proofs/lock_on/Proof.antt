@@ -16,11 +16,11 @@ Inv-loop s i p whole r₀ o₀ r o = (o ≤ 8) × (r ≡ anyTo (lockAtB s i p) o
 abbrev μ-loop : tie.MeasureT-loop
 μ-loop s i p whole r₀ o₀ r o = 8 - o
 
-add-byte : tie.Need-add-byte Inv-loop μ-loop
-add-byte c = search needs
+whole-requires : tie.Need-whole-requires Inv-loop μ-loop
+whole-requires c κs = search needs
 
-byte-requires : tie.Need-byte-requires Inv-loop μ-loop
-byte-requires c κs = search needs
+cast-whole : tie.Need-cast-whole Inv-loop μ-loop
+cast-whole c = search needs
 
 add-whole : tie.Need-add-whole Inv-loop μ-loop
 add-whole c = search needs
@@ -64,8 +64,8 @@ lock-on-spec =
     (tie.spec
     Inv-loop
     μ-loop
-    add-byte
-    byte-requires
+    whole-requires
+    cast-whole
     add-whole
     mul-get-u64
     add-get-u64

@@ -4,32 +4,20 @@ use borrow.Author.Needs.{needs}
 use Rattle.server_tests.proofs.locked_at.Statement.{statement}
 use Rattle.server_tests.proofs.locked_at.Tie as tie
 
-mul-has-bit8 : tie.Need-mul-has-bit8
-mul-has-bit8 c = search needs
-
-add-has-bit8 : tie.Need-add-has-bit8
-add-has-bit8 c = search needs
-
-add-has-bit8-2 : tie.Need-add-has-bit8-2
-add-has-bit8-2 c = search needs
-
-shared-slice-read-has-bit8 : tie.Need-shared-slice-read-has-bit8
-shared-slice-read-has-bit8 c = search needs
+written-set-requires : tie.Need-written-set-requires
+written-set-requires c κs = search needs
 
 has-bit8-requires : tie.Need-has-bit8-requires
 has-bit8-requires c κs = search needs
 
-mul-other : tie.Need-mul-other
-mul-other c = search needs
+mul-lock : tie.Need-mul-lock
+mul-lock c = search needs
 
-add-other : tie.Need-add-other
-add-other c = search needs
+add-lock : tie.Need-add-lock
+add-lock c = search needs
 
-add-other-2 : tie.Need-add-other-2
-add-other-2 c = search needs
-
-shared-slice-read-other : tie.Need-shared-slice-read-other
-shared-slice-read-other c = search needs
+lock-requires : tie.Need-lock-requires
+lock-requires c κs = search needs
 
 other-requires : tie.Need-other-requires
 other-requires c κs = search needs
@@ -42,14 +30,10 @@ pub locked-at-spec : {M : Type 1} → statement M
 locked-at-spec =
     tie.close
     (tie.spec
-    mul-has-bit8
-    add-has-bit8
-    add-has-bit8-2
-    shared-slice-read-has-bit8
+    written-set-requires
     has-bit8-requires
-    mul-other
-    add-other
-    add-other-2
-    shared-slice-read-other
+    mul-lock
+    add-lock
+    lock-requires
     other-requires
     returns)

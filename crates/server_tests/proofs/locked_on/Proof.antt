@@ -1,9 +1,6 @@
 -- `server_tests::locked_on` meets its contract. The loop's invariant: the answer tells of all objects but those that are left.
-use Prim.Native.Nat.{_+_, _<_}
-use mathlib.Core.Path.{refl}
-use native.Mathlib.Omega.{arith}
+use Prim.Native.Nat.{_<_}
 use borrow.Author.Needs.{needs}
-use Rattle.server_state.specs.Layout.{writtenSetFrom}
 use Rattle.cells.specs.Lowest.{rest-less}
 use Rattle.server_tests.specs.Tests.{lockedAtB}
 use Rattle.server_tests.specs.Members.{LeftB, tests-next, locked-first, locked-last}
@@ -16,20 +13,11 @@ Inv-loop s i p x₀ r₀ x r = (x < 256) × LeftB 8 (lockedAtB s i p) x r
 abbrev μ-loop : tie.MeasureT-loop
 μ-loop s i p x₀ r₀ x r = x
 
-mul-x : tie.Need-mul-x Inv-loop μ-loop
-mul-x c = search needs
-
-add-x : tie.Need-add-x Inv-loop μ-loop
-add-x c = search needs
-
-add-x-2 : tie.Need-add-x-2 Inv-loop μ-loop
-add-x-2 c = search needs
-
-shared-slice-read-x : tie.Need-shared-slice-read-x Inv-loop μ-loop
-shared-slice-read-x c = search needs
+written-set-requires : tie.Need-written-set-requires Inv-loop μ-loop
+written-set-requires c κs = search needs
 
 loop-holds : tie.Need-loop-holds Inv-loop μ-loop
-loop-holds c = (let a = c .before .before .args in omega (arith, c .before .shared-slice-known .given (writtenSetFrom (a .i) + a .p)), locked-first _ _ _ refl)
+loop-holds c = (search needs, locked-first _ _ _ (c .written-set .ensures))
 
 lowest8-requires : tie.Need-lowest8-requires Inv-loop μ-loop
 lowest8-requires c κs = search needs
@@ -55,10 +43,7 @@ locked-on-spec =
     (tie.spec
     Inv-loop
     μ-loop
-    mul-x
-    add-x
-    add-x-2
-    shared-slice-read-x
+    written-set-requires
     loop-holds
     lowest8-requires
     locked-at-requires

@@ -4,11 +4,11 @@ use borrow.Author.Needs.{needs}
 use Rattle.server_tests.proofs.open_ask.Statement.{statement}
 use Rattle.server_tests.proofs.open_ask.Tie as tie
 
-add-byte : tie.Need-add-byte
-add-byte c = search needs
+whole-requires : tie.Need-whole-requires
+whole-requires c κs = search needs
 
-byte-requires : tie.Need-byte-requires
-byte-requires c κs = search needs
+cast-result : tie.Need-cast-result
+cast-result c = search needs
 
 add-result : tie.Need-add-result
 add-result c = search needs
@@ -22,11 +22,8 @@ has-bit32-requires c κs = search needs
 keeps-requires : tie.Need-keeps-requires
 keeps-requires c κs = search needs
 
-add-result-2 : tie.Need-add-result-2
-add-result-2 c = search needs
-
-shared-slice-read-result : tie.Need-shared-slice-read-result
-shared-slice-read-result c = search needs
+unfinished-requires : tie.Need-unfinished-requires
+unfinished-requires c κs = search needs
 
 latest-requires : tie.Need-latest-requires
 latest-requires c κs = search needs
@@ -39,13 +36,12 @@ pub open-ask-spec : {M : Type 1} → statement M
 open-ask-spec =
     tie.close
     (tie.spec
-    add-byte
-    byte-requires
+    whole-requires
+    cast-result
     add-result
     asked-requires
     has-bit32-requires
     keeps-requires
-    add-result-2
-    shared-slice-read-result
+    unfinished-requires
     latest-requires
     returns)

@@ -4,20 +4,14 @@ use borrow.Author.Needs.{needs}
 use Rattle.server_tests.proofs.open_call.Statement.{statement}
 use Rattle.server_tests.proofs.open_call.Tie as tie
 
-add-result : tie.Need-add-result
-add-result c = search needs
-
-shared-slice-read-result : tie.Need-shared-slice-read-result
-shared-slice-read-result c = search needs
+want-requires : tie.Need-want-requires
+want-requires c κs = search needs
 
 latest-requires : tie.Need-latest-requires
 latest-requires c κs = search needs
 
-add-has-bit8 : tie.Need-add-has-bit8
-add-has-bit8 c = search needs
-
-shared-slice-read-has-bit8 : tie.Need-shared-slice-read-has-bit8
-shared-slice-read-has-bit8 c = search needs
+pend-requires : tie.Need-pend-requires
+pend-requires c κs = search needs
 
 has-bit8-requires : tie.Need-has-bit8-requires
 has-bit8-requires c κs = search needs
@@ -28,12 +22,4 @@ returns c = cc
 
 pub open-call-spec : {M : Type 1} → statement M
 open-call-spec =
-    tie.close
-    (tie.spec
-    add-result
-    shared-slice-read-result
-    latest-requires
-    add-has-bit8
-    shared-slice-read-has-bit8
-    has-bit8-requires
-    returns)
+    tie.close (tie.spec want-requires latest-requires pend-requires has-bit8-requires returns)

@@ -7,11 +7,8 @@ use Rattle.server_tests.proofs.shut.Tie as tie
 wanted-requires : tie.Need-wanted-requires
 wanted-requires c κs = search needs
 
-add-other : tie.Need-add-other
-add-other c = search needs
-
-shared-slice-read-other : tie.Need-shared-slice-read-other
-shared-slice-read-other c = search needs
+whole-requires : tie.Need-whole-requires
+whole-requires c κs = search needs
 
 other-requires : tie.Need-other-requires
 other-requires c κs = search needs
@@ -21,5 +18,4 @@ unfolding shutB
 returns c = cc
 
 pub shut-spec : {M : Type 1} → statement M
-shut-spec =
-    tie.close (tie.spec wanted-requires add-other shared-slice-read-other other-requires returns)
+shut-spec = tie.close (tie.spec wanted-requires whole-requires other-requires returns)

@@ -4,17 +4,8 @@ use borrow.Author.Needs.{needs}
 use Rattle.server_tests.proofs.stale_at.Statement.{statement}
 use Rattle.server_tests.proofs.stale_at.Tie as tie
 
-mul-has-bit8 : tie.Need-mul-has-bit8
-mul-has-bit8 c = search needs
-
-add-has-bit8 : tie.Need-add-has-bit8
-add-has-bit8 c = search needs
-
-add-has-bit8-2 : tie.Need-add-has-bit8-2
-add-has-bit8-2 c = search needs
-
-shared-slice-read-has-bit8 : tie.Need-shared-slice-read-has-bit8
-shared-slice-read-has-bit8 c = search needs
+read-set-requires : tie.Need-read-set-requires
+read-set-requires c κs = search needs
 
 has-bit8-requires : tie.Need-has-bit8-requires
 has-bit8-requires c κs = search needs
@@ -28,17 +19,8 @@ add-other-version c = search needs
 other-version-requires : tie.Need-other-version-requires
 other-version-requires c κs = search needs
 
-mul-has-bit8-2 : tie.Need-mul-has-bit8-2
-mul-has-bit8-2 c = search needs
-
-add-has-bit8-3 : tie.Need-add-has-bit8-3
-add-has-bit8-3 c = search needs
-
-add-has-bit8-4 : tie.Need-add-has-bit8-4
-add-has-bit8-4 c = search needs
-
-shared-slice-read-has-bit8-2 : tie.Need-shared-slice-read-has-bit8-2
-shared-slice-read-has-bit8-2 c = search needs
+written-set-requires : tie.Need-written-set-requires
+written-set-requires c κs = search needs
 
 has-bit8-requires-2 : tie.Need-has-bit8-requires-2
 has-bit8-requires-2 c κs = search needs
@@ -60,18 +42,12 @@ pub stale-at-spec : {M : Type 1} → statement M
 stale-at-spec =
     tie.close
     (tie.spec
-    mul-has-bit8
-    add-has-bit8
-    add-has-bit8-2
-    shared-slice-read-has-bit8
+    read-set-requires
     has-bit8-requires
     mul-other-version
     add-other-version
     other-version-requires
-    mul-has-bit8-2
-    add-has-bit8-3
-    add-has-bit8-4
-    shared-slice-read-has-bit8-2
+    written-set-requires
     has-bit8-requires-2
     mul-other-version-2
     add-other-version-2

@@ -5,17 +5,14 @@ use borrow.Author.Needs.{needs}
 use Rattle.server_tests.proofs.unavailable_at.Statement.{statement}
 use Rattle.server_tests.proofs.unavailable_at.Tie as tie
 
-mul-other : tie.Need-mul-other
-mul-other c = search needs
+mul-lock : tie.Need-mul-lock
+mul-lock c = search needs
 
-add-other : tie.Need-add-other
-add-other c = search needs
+add-lock : tie.Need-add-lock
+add-lock c = search needs
 
-add-other-2 : tie.Need-add-other-2
-add-other-2 c = search needs
-
-shared-slice-read-other : tie.Need-shared-slice-read-other
-shared-slice-read-other c = search needs
+lock-requires : tie.Need-lock-requires
+lock-requires c κs = search needs
 
 other-requires : tie.Need-other-requires
 other-requires c κs = search needs
@@ -37,10 +34,9 @@ pub unavailable-at-spec : {M : Type 1} → statement M
 unavailable-at-spec =
     tie.close
     (tie.spec
-    mul-other
-    add-other
-    add-other-2
-    shared-slice-read-other
+    mul-lock
+    add-lock
+    lock-requires
     other-requires
     wanted-requires
     has-bit8-requires

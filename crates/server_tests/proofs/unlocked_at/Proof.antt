@@ -23,20 +23,20 @@ add-byte-3 c = search needs
 byte-requires : tie.Need-byte-requires
 byte-requires c κs = search needs
 
-add-byte-4 : tie.Need-add-byte-4
-add-byte-4 c = omega (arith, c .byte .ensures .1)
+lock-requires : tie.Need-lock-requires
+lock-requires c κs = search needs
 
-byte-requires-2 : tie.Need-byte-requires-2
-byte-requires-2 c κs = omega (arith, c .byte .ensures .1)
+cast-result : tie.Need-cast-result
+cast-result c = search needs
 
 add-result : tie.Need-add-result
 add-result c = search needs
 
-add-byte-5 : tie.Need-add-byte-5
-add-byte-5 c = search needs
+whole-requires : tie.Need-whole-requires
+whole-requires c κs = search needs
 
-byte-requires-3 : tie.Need-byte-requires-3
-byte-requires-3 c κs = omega (arith, c .before .byte .ensures .1)
+cast-result-2 : tie.Need-cast-result-2
+cast-result-2 c = search needs
 
 add-result-2 : tie.Need-add-result-2
 add-result-2 c = search needs
@@ -55,10 +55,10 @@ unlocked-at-spec =
     add-byte-2
     add-byte-3
     byte-requires
-    add-byte-4
-    byte-requires-2
+    lock-requires
+    cast-result
     add-result
-    add-byte-5
-    byte-requires-3
+    whole-requires
+    cast-result-2
     add-result-2
     returns)

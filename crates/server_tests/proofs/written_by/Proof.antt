@@ -9,23 +9,12 @@ returns : tie.Need-returns
 unfolding writtenBy
 returns c = simp (eq-eqb _ _ (c .if1 .taken))
 
-mul-result : tie.Need-mul-result
-mul-result c = search needs
-
-add-result : tie.Need-add-result
-add-result c = search needs
-
-add-result-2 : tie.Need-add-result-2
-add-result-2 c = search needs
-
-shared-slice-read-result : tie.Need-shared-slice-read-result
-shared-slice-read-result c = search needs
+written-set-requires : tie.Need-written-set-requires
+written-set-requires c κs = search needs
 
 returns-2 : tie.Need-returns-2
 unfolding writtenBy
-returns-2 c = simp (ne-eqb _ _ (c .before .if1 .left))
+returns-2 c = simp (ne-eqb _ _ (c .before .if1 .left)) (c .written-set .ensures)
 
 pub written-by-spec : {M : Type 1} → statement M
-written-by-spec =
-    tie.close
-    (tie.spec returns mul-result add-result add-result-2 shared-slice-read-result returns-2)
+written-by-spec = tie.close (tie.spec returns written-set-requires returns-2)

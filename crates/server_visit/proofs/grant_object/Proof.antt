@@ -1,5 +1,5 @@
 -- `server_visit::grant_object` meets its contract.
-use mathlib.Core.Path.{refl, ap, _∙_}
+use mathlib.Core.Path.{ap, _∙_}
 use Rattle.server_actions.specs.Posting.{post}
 use Rattle.server_visit.specs.Visits.{object-is}
 use borrow.Author.Needs.{needs}
@@ -12,17 +12,8 @@ request-requires c κs = search needs
 unavailable-requires : tie.Need-unavailable-requires
 unavailable-requires c κs = search needs
 
-mul-x : tie.Need-mul-x
-mul-x c = search needs
-
-add-x : tie.Need-add-x
-add-x c = search needs
-
-add-x-2 : tie.Need-add-x-2
-add-x-2 c = search needs
-
-slice-read-x : tie.Need-slice-read-x
-slice-read-x c = search needs
+written-set-requires : tie.Need-written-set-requires
+written-set-requires c κs = search needs
 
 leave-requires : tie.Need-leave-requires
 leave-requires c κs = search needs
@@ -31,7 +22,7 @@ lock-set-requires : tie.Need-lock-set-requires
 lock-set-requires c κs = search needs
 
 send-page-requires : tie.Need-send-page-requires
-send-page-requires c κs = (search needs, search needs, c .before .before .before .before .before .before .before .before .before .before .before .before .before .before .request .ensures .1, rw (object-is _ _ (c .before .before .before .before .before .before .before .before .before .before .before .before .before .before .request .ensures .0) (c .before .before .before .before .before .before .before .before .before .before .before .before .unavailable .ensures) (c .before .before .before .before .before .before .before .before .before .leave .ensures) refl (c .before .before .before .before .before .lock-set .ensures)) (c .before .before .before .before .before .before .before .before .before .before .before .before .before .before .before .before .before .before .before .pre .2))
+send-page-requires c κs = (search needs, search needs, c .before .before .before .before .before .before .before .before .before .before .before .before .before .before .before .request .ensures .1, rw (object-is _ _ (c .before .before .before .before .before .before .before .before .before .before .before .before .before .before .before .request .ensures .0) (c .before .before .before .before .before .before .before .before .before .before .before .before .before .unavailable .ensures) (c .before .before .before .before .before .before .before .before .before .leave .ensures) (c .before .before .before .before .before .before .before .before .before .before .before .written-set .ensures) (c .before .before .before .before .before .lock-set .ensures)) (c .before .before .before .before .before .before .before .before .before .before .before .before .before .before .before .before .before .before .before .before .pre .2))
 
 same-length : tie.Need-same-length
 same-length c = search needs
@@ -43,7 +34,7 @@ same-length-3 : tie.Need-same-length-3
 same-length-3 c = search needs
 
 returns : tie.Need-returns
-returns c = c .before .before .before .before .before .before .send-page .ensures ∙ ap (post _ _ _) (object-is _ _ (c .before .before .before .before .before .before .before .before .before .before .before .before .before .before .before .before .before .before .before .before .before .request .ensures .0) (c .before .before .before .before .before .before .before .before .before .before .before .before .before .before .before .before .before .before .before .unavailable .ensures) (c .before .before .before .before .before .before .before .before .before .before .before .before .before .before .before .before .leave .ensures) refl (c .before .before .before .before .before .before .before .before .before .before .before .before .lock-set .ensures))
+returns c = c .before .before .before .before .before .before .send-page .ensures ∙ ap (post _ _ _) (object-is _ _ (c .before .before .before .before .before .before .before .before .before .before .before .before .before .before .before .before .before .before .before .before .before .before .request .ensures .0) (c .before .before .before .before .before .before .before .before .before .before .before .before .before .before .before .before .before .before .before .before .unavailable .ensures) (c .before .before .before .before .before .before .before .before .before .before .before .before .before .before .before .before .leave .ensures) (c .before .before .before .before .before .before .before .before .before .before .before .before .before .before .before .before .before .before .written-set .ensures) (c .before .before .before .before .before .before .before .before .before .before .before .before .lock-set .ensures))
 
 pub grant-object-spec : {M : Type 1} → statement M
 grant-object-spec =
@@ -51,10 +42,7 @@ grant-object-spec =
     (tie.spec
     request-requires
     unavailable-requires
-    mul-x
-    add-x
-    add-x-2
-    slice-read-x
+    written-set-requires
     leave-requires
     lock-set-requires
     send-page-requires

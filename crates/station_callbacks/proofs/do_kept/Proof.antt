@@ -16,14 +16,8 @@ returns : tie.Need-returns
 unfolding keptPosted
 returns c = simp (sym (c .before .not-kept .ensures), c .if1 .taken)
 
-mul-get-u32 : tie.Need-mul-get-u32
-mul-get-u32 c = search needs
-
-add-get-u32 : tie.Need-add-get-u32
-add-get-u32 c = search needs
-
-get-u32-requires : tie.Need-get-u32-requires
-get-u32-requires c κs = search needs
+kept-requires : tie.Need-kept-requires
+kept-requires c κs = search needs
 
 mul-sets-at : tie.Need-mul-sets-at
 mul-sets-at c = search needs
@@ -51,7 +45,7 @@ same-length-3 c = search needs
 
 returns-2 : tie.Need-returns-2
 unfolding keptPosted
-returns-2 c = simp (sym (c .before .before .before .before .before .before .before .before .before .before .before .before .before .before .before .before .before .not-kept .ensures), c .before .before .before .before .before .before .before .before .before .before .before .before .before .before .before .before .if1 .left, sym (c .before .before .before .before .before .before .before .before .before .before .before .before .before .before .get-u32 .ensures), sym (c .before .before .before .before .before .before .before .before .before .before .before .before .sets-at .ensures), sym (c .before .before .before .before .before .before .before .before .before .before .unkeep .ensures)) (c .before .before .before .before .do-callback .ensures)
+returns-2 c = simp (sym (c .before .before .before .before .before .before .before .before .before .before .before .before .before .before .before .before .before .not-kept .ensures), c .before .before .before .before .before .before .before .before .before .before .before .before .before .before .before .before .if1 .left, sym (c .before .before .before .before .before .before .before .before .before .before .before .before .before .before .kept .ensures), sym (c .before .before .before .before .before .before .before .before .before .before .before .before .sets-at .ensures), sym (c .before .before .before .before .before .before .before .before .before .before .unkeep .ensures)) (c .before .before .before .before .do-callback .ensures)
 
 pub do-kept-spec : {M : Type 1} → statement M
 do-kept-spec =
@@ -60,9 +54,7 @@ do-kept-spec =
     not-kept-requires
     same-length
     returns
-    mul-get-u32
-    add-get-u32
-    get-u32-requires
+    kept-requires
     mul-sets-at
     add-sets-at
     sets-at-requires

@@ -5,9 +5,6 @@ use borrow.Author.Needs.{needs}
 use Rattle.station_callbacks.proofs.undo.Statement.{statement}
 use Rattle.station_callbacks.proofs.undo.Tie as tie
 
-slice-read-locking : tie.Need-slice-read-locking
-slice-read-locking c = search needs
-
 locking-requires : tie.Need-locking-requires
 locking-requires c κs = search needs
 
@@ -44,7 +41,6 @@ pub undo-spec : {M : Type 1} → statement M
 undo-spec =
     tie.close
     (tie.spec
-    slice-read-locking
     locking-requires
     sets-at-requires
     slice-aggregate-mark

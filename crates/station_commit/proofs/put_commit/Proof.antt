@@ -1,4 +1,5 @@
 -- `station_commit::put_commit` meets its contract. Each call is a run of stores, and `commit-filled` joins them.
+use mathlib.Core.Path.{sym, _∙_}
 use native.Mathlib.Omega.{arith}
 use Rattle.station_commit.specs.Filled.{commit-filled, commit-parts, record-fits}
 use borrow.Author.Needs.{needs}
@@ -8,8 +9,8 @@ use Rattle.station_commit.proofs.put_commit.Tie as tie
 number-requires : tie.Need-number-requires
 number-requires c κs = search needs
 
-shared-slice-read-put-up : tie.Need-shared-slice-read-put-up
-shared-slice-read-put-up c = search needs
+station-requires : tie.Need-station-requires
+station-requires c κs = search needs
 
 used-pages-requires : tie.Need-used-pages-requires
 used-pages-requires c κs = search needs
@@ -20,14 +21,14 @@ put-up-requires c κs = let front = commit-parts (c .before .before .before .bef
 put-versions-requires : tie.Need-put-versions-requires
 put-versions-requires c κs = let front = commit-parts (c .before .before .before .before .before .before .before .before .before .before .args .s .now) _ (c .before .before .before .before .before .before .before .before .before .before .pre .1) in (search needs, omega (arith, front))
 
-shared-slice-read-wide : tie.Need-shared-slice-read-wide
-shared-slice-read-wide c = search needs
+station-requires-2 : tie.Need-station-requires-2
+station-requires-2 c κs = search needs
 
 wide-requires : tie.Need-wide-requires
 wide-requires c κs = search needs
 
-shared-slice-read-wide-2 : tie.Need-shared-slice-read-wide-2
-shared-slice-read-wide-2 c = search needs
+kind-requires : tie.Need-kind-requires
+kind-requires c κs = search needs
 
 wide-requires-2 : tie.Need-wide-requires-2
 wide-requires-2 c κs = search needs
@@ -39,7 +40,7 @@ add-at : tie.Need-add-at
 add-at c = let front = commit-parts (c .before .before .before .before .before .before .before .before .before .before .before .before .before .before .before .before .before .args .s .now) _ (c .before .before .before .before .before .before .before .before .before .before .before .before .before .before .before .before .before .pre .1) in omega (arith, front, c .before .before .before .before .before .before .put-versions .ensures .1)
 
 put-record-requires : tie.Need-put-record-requires
-put-record-requires c κs = let fits = record-fits _ _ (c .before .before .before .before .before .before .before .before .before .before .before .before .before .before .before .number .ensures) (c .before .before .before .wide .ensures .0) (c .before .wide2 .ensures .0) (c .before .before .before .before .before .before .before .put-versions .ensures .1) (c .before .before .before .before .before .before .before .before .before .before .before .before .before .before .before .before .before .before .pre .1) in (search needs, search needs, search needs, search needs, omega (arith, fits), search needs, search needs)
+put-record-requires c κs = let fits = record-fits _ _ (c .before .before .before .before .before .before .before .before .before .before .before .before .before .before .before .number .ensures) (c .before .before .before .wide .ensures .0 ∙ c .before .before .before .before .station2 .ensures) (c .before .wide2 .ensures .0 ∙ c .before .before .kind .ensures) (c .before .before .before .before .before .before .before .put-versions .ensures .1) (c .before .before .before .before .before .before .before .before .before .before .before .before .before .before .before .before .before .before .pre .1) in (search needs, search needs, search needs, search needs, omega (arith, fits), search needs, search needs)
 
 add-result : tie.Need-add-result
 add-result c = let front = commit-parts (c .before .before .before .before .before .before .before .before .before .before .before .before .before .before .before .before .before .before .before .before .before .args .s .now) _ (c .before .before .before .before .before .before .before .before .before .before .before .before .before .before .before .before .before .before .before .before .before .pre .1) in omega (arith, front, c .before .before .before .before .before .before .before .before .before .before .put-versions .ensures .1)
@@ -48,20 +49,20 @@ same-length : tie.Need-same-length
 same-length c = search needs
 
 returns : tie.Need-returns
-returns c = commit-filled _ _ (c .before .before .before .before .before .before .before .before .before .before .before .before .before .before .before .before .before .before .number .ensures) (c .before .before .before .before .before .before .before .before .before .before .before .before .before .before .before .used-pages .ensures) (c .before .before .before .before .before .before .wide .ensures .0) (c .before .before .before .before .wide2 .ensures .0) (c .before .before .before .before .before .before .before .before .before .before .before .before .before .before .put-up .ensures) (c .before .before .before .before .before .before .before .before .before .before .put-versions .ensures) (c .before .before .put-record .ensures .0)
+returns c = commit-filled _ _ (c .before .before .before .before .before .before .before .before .before .before .before .before .before .before .before .before .before .before .number .ensures) (c .before .before .before .before .before .before .before .before .before .before .before .before .before .before .before .used-pages .ensures) (c .before .before .before .before .before .before .wide .ensures .0 ∙ c .before .before .before .before .before .before .before .station2 .ensures) (c .before .before .before .before .wide2 .ensures .0 ∙ c .before .before .before .before .before .kind .ensures) (rw (sym (c .before .before .before .before .before .before .before .before .before .before .before .before .before .before .before .before .station .ensures)) (c .before .before .before .before .before .before .before .before .before .before .before .before .before .before .put-up .ensures)) (c .before .before .before .before .before .before .before .before .before .before .put-versions .ensures) (c .before .before .put-record .ensures .0)
 
 pub put-commit-spec : {M : Type 1} → statement M
 put-commit-spec =
     tie.close
     (tie.spec
     number-requires
-    shared-slice-read-put-up
+    station-requires
     used-pages-requires
     put-up-requires
     put-versions-requires
-    shared-slice-read-wide
+    station-requires-2
     wide-requires
-    shared-slice-read-wide-2
+    kind-requires
     wide-requires-2
     mul-at
     add-at

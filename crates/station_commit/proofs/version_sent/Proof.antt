@@ -5,9 +5,6 @@ use borrow.Author.Needs.{needs}
 use Rattle.station_commit.proofs.version_sent.Statement.{statement}
 use Rattle.station_commit.proofs.version_sent.Tie as tie
 
-shared-slice-read-locking : tie.Need-shared-slice-read-locking
-shared-slice-read-locking c = search needs
-
 locking-requires : tie.Need-locking-requires
 locking-requires c κs = search needs
 
@@ -31,11 +28,4 @@ returns-2 c = simp (sym (c .before .before .locking .ensures), c .before .if1 .l
 pub version-sent-spec : {M : Type 1} → statement M
 version-sent-spec =
     tie.close
-    (tie.spec
-    shared-slice-read-locking
-    locking-requires
-    returns
-    mul-get-u32
-    add-get-u32
-    get-u32-requires
-    returns-2)
+    (tie.spec locking-requires returns mul-get-u32 add-get-u32 get-u32-requires returns-2)

@@ -4,14 +4,8 @@ use borrow.Author.Needs.{needs}
 use Rattle.station_delivery.proofs.answer_wait.Statement.{statement}
 use Rattle.station_delivery.proofs.answer_wait.Tie as tie
 
-mul-get-u64 : tie.Need-mul-get-u64
-mul-get-u64 c = search needs
-
-add-get-u64 : tie.Need-add-get-u64
-add-get-u64 c = search needs
-
-get-u64-requires : tie.Need-get-u64-requires
-get-u64-requires c κs = search needs
+copy-requires : tie.Need-copy-requires
+copy-requires c κs = search needs
 
 record-read-requires : tie.Need-record-read-requires
 record-read-requires c κs = search needs
@@ -23,7 +17,7 @@ same-length : tie.Need-same-length
 same-length c = search needs
 
 returns : tie.Need-returns
-returns c = answer-read _ _ _ _ _ _ (c .before .before .before .before .before .before .before .if1 .taken) (c .before .before .before .before .before .get-u64 .ensures) (c .before .before .before .record-read .ensures) (c .say .ensures)
+returns c = answer-read _ _ _ _ _ _ (c .before .before .before .before .before .before .before .if1 .taken) (c .before .before .before .before .before .copy .ensures) (c .before .before .before .record-read .ensures) (c .say .ensures)
 
 write-all-requires : tie.Need-write-all-requires
 write-all-requires c κs = search needs
@@ -47,9 +41,7 @@ pub answer-wait-spec : {M : Type 1} → statement M
 answer-wait-spec =
     tie.close
     (tie.spec
-    mul-get-u64
-    add-get-u64
-    get-u64-requires
+    copy-requires
     record-read-requires
     say-requires
     same-length

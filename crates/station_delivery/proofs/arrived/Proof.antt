@@ -7,8 +7,8 @@ use Rattle.station_delivery.proofs.arrived.Tie as tie
 take-lock-requires : tie.Need-take-lock-requires
 take-lock-requires c κs = search needs
 
-shared-slice-read-arrive : tie.Need-shared-slice-read-arrive
-shared-slice-read-arrive c = search needs
+page-requires : tie.Need-page-requires
+page-requires c κs = search needs
 
 cast-arrive : tie.Need-cast-arrive
 cast-arrive c = search needs
@@ -31,7 +31,7 @@ arrived-spec =
     tie.close
     (tie.spec
     take-lock-requires
-    shared-slice-read-arrive
+    page-requires
     cast-arrive
     arrive-requires
     idle-requires

@@ -4,9 +4,6 @@ use borrow.Author.Needs.{needs}
 use Rattle.station_delivery.proofs.ended.Statement.{statement}
 use Rattle.station_delivery.proofs.ended.Tie as tie
 
-shared-slice-read-locking : tie.Need-shared-slice-read-locking
-shared-slice-read-locking c = search needs
-
 locking-requires : tie.Need-locking-requires
 locking-requires c κs = search needs
 
@@ -21,4 +18,4 @@ unfolding endedB
 returns c = cc
 
 pub ended-spec : {M : Type 1} → statement M
-ended-spec = tie.close (tie.spec shared-slice-read-locking locking-requires live-requires number-requires returns)
+ended-spec = tie.close (tie.spec locking-requires live-requires number-requires returns)

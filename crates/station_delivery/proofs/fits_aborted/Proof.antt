@@ -4,19 +4,18 @@ use borrow.Author.Needs.{needs}
 use Rattle.station_delivery.proofs.fits_aborted.Statement.{statement}
 use Rattle.station_delivery.proofs.fits_aborted.Tie as tie
 
-get-u32-requires : tie.Need-get-u32-requires
-get-u32-requires c κs = search needs
+transaction-requires : tie.Need-transaction-requires
+transaction-requires c κs = search needs
 
 live-requires : tie.Need-live-requires
 live-requires c κs = search needs
 
-shared-slice-read-result : tie.Need-shared-slice-read-result
-shared-slice-read-result c = search needs
+wait-requires : tie.Need-wait-requires
+wait-requires c κs = search needs
 
 returns : tie.Need-returns
 unfolding fitsAbortedB
 returns c = cc
 
 pub fits-aborted-spec : {M : Type 1} → statement M
-fits-aborted-spec =
-    tie.close (tie.spec get-u32-requires live-requires shared-slice-read-result returns)
+fits-aborted-spec = tie.close (tie.spec transaction-requires live-requires wait-requires returns)

@@ -1,30 +1,29 @@
 -- `station_delivery::fits_page` meets its contract.
 use Rattle.station_delivery.specs.Delivery.{fitsPageB}
-use native.Mathlib.Omega.{arith}
 use borrow.Author.Needs.{needs}
 use Rattle.station_delivery.proofs.fits_page.Statement.{statement}
 use Rattle.station_delivery.proofs.fits_page.Tie as tie
 
-get-u32-requires : tie.Need-get-u32-requires
-get-u32-requires c κs = search needs
+transaction-requires : tie.Need-transaction-requires
+transaction-requires c κs = search needs
 
-shared-slice-read-a : tie.Need-shared-slice-read-a
-shared-slice-read-a c = search needs
+page-requires : tie.Need-page-requires
+page-requires c κs = search needs
 
 cast-a : tie.Need-cast-a
-cast-a c = omega (arith, c .shared-slice-known3 .given 2)
+cast-a c = search needs
 
 mul-a : tie.Need-mul-a
-mul-a c = omega (arith, c .shared-slice-known3 .given 2)
+mul-a c = search needs
 
-shared-slice-read-a-2 : tie.Need-shared-slice-read-a-2
-shared-slice-read-a-2 c = search needs
+object-requires : tie.Need-object-requires
+object-requires c κs = search needs
 
 cast-a-2 : tie.Need-cast-a-2
-cast-a-2 c = omega (arith, c .shared-slice-known4 .given 3)
+cast-a-2 c = search needs
 
 add-a : tie.Need-add-a
-add-a c = omega (arith, c .before .shared-slice-known3 .given 2, c .shared-slice-known4 .given 3)
+add-a c = search needs
 
 ended-requires : tie.Need-ended-requires
 ended-requires c κs = search needs
@@ -34,9 +33,6 @@ live-requires c κs = search needs
 
 for-read-of-requires : tie.Need-for-read-of-requires
 for-read-of-requires c κs = search needs
-
-shared-slice-read-locking : tie.Need-shared-slice-read-locking
-shared-slice-read-locking c = search needs
 
 locking-requires : tie.Need-locking-requires
 locking-requires c κs = search needs
@@ -52,17 +48,16 @@ pub fits-page-spec : {M : Type 1} → statement M
 fits-page-spec =
     tie.close
     (tie.spec
-    get-u32-requires
-    shared-slice-read-a
+    transaction-requires
+    page-requires
     cast-a
     mul-a
-    shared-slice-read-a-2
+    object-requires
     cast-a-2
     add-a
     ended-requires
     live-requires
     for-read-of-requires
-    shared-slice-read-locking
     locking-requires
     for-write-of-requires
     returns)

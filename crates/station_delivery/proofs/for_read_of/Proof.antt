@@ -1,24 +1,21 @@
 -- `station_delivery::for_read_of` meets its contract.
 use Rattle.station_delivery.specs.Delivery.{forReadOf}
-use native.Mathlib.Omega.{arith}
 use borrow.Author.Needs.{needs}
 use Rattle.station_delivery.proofs.for_read_of.Statement.{statement}
 use Rattle.station_delivery.proofs.for_read_of.Tie as tie
-use Rattle.station_state.specs.Layout.{addressFrom}
 
-shared-slice-read-result : tie.Need-shared-slice-read-result
-shared-slice-read-result c = search needs
+wait-requires : tie.Need-wait-requires
+wait-requires c κs = search needs
 
-shared-slice-read-result-2 : tie.Need-shared-slice-read-result-2
-shared-slice-read-result-2 c = search needs
+address-requires : tie.Need-address-requires
+address-requires c κs = search needs
 
 cast-result : tie.Need-cast-result
-cast-result c = omega (arith, c .shared-slice-known2 .given addressFrom)
+cast-result c = search needs
 
 returns : tie.Need-returns
 unfolding forReadOf
-returns c = search needs
+returns c = cc
 
 pub for-read-of-spec : {M : Type 1} → statement M
-for-read-of-spec =
-    tie.close (tie.spec shared-slice-read-result shared-slice-read-result-2 cast-result returns)
+for-read-of-spec = tie.close (tie.spec wait-requires address-requires cast-result returns)

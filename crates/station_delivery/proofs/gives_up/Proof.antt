@@ -4,20 +4,17 @@ use borrow.Author.Needs.{needs}
 use Rattle.station_delivery.proofs.gives_up.Statement.{statement}
 use Rattle.station_delivery.proofs.gives_up.Tie as tie
 
-shared-slice-read-p : tie.Need-shared-slice-read-p
-shared-slice-read-p c = search needs
+page-requires : tie.Need-page-requires
+page-requires c κs = search needs
 
 cast-p : tie.Need-cast-p
 cast-p c = search needs
 
-shared-slice-read-keeps : tie.Need-shared-slice-read-keeps
-shared-slice-read-keeps c = search needs
-
 keeps-requires : tie.Need-keeps-requires
 keeps-requires c κs = search needs
 
-get-u32-requires : tie.Need-get-u32-requires
-get-u32-requires c κs = search needs
+transaction-requires : tie.Need-transaction-requires
+transaction-requires c κs = search needs
 
 live-requires : tie.Need-live-requires
 live-requires c κs = search needs
@@ -36,11 +33,10 @@ pub gives-up-spec : {M : Type 1} → statement M
 gives-up-spec =
     tie.close
     (tie.spec
-    shared-slice-read-p
+    page-requires
     cast-p
-    shared-slice-read-keeps
     keeps-requires
-    get-u32-requires
+    transaction-requires
     live-requires
     whole-requires
     has-bit32-requires

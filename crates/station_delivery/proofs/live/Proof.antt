@@ -4,8 +4,8 @@ use borrow.Author.Needs.{needs}
 use Rattle.station_delivery.proofs.live.Statement.{statement}
 use Rattle.station_delivery.proofs.live.Tie as tie
 
-shared-slice-read-result : tie.Need-shared-slice-read-result
-shared-slice-read-result c = search needs
+opened-requires : tie.Need-opened-requires
+opened-requires c κs = search needs
 
 number-requires : tie.Need-number-requires
 number-requires c κs = search needs
@@ -15,4 +15,4 @@ unfolding liveB
 returns c = cc
 
 pub live-spec : {M : Type 1} → statement M
-live-spec = tie.close (tie.spec shared-slice-read-result number-requires returns)
+live-spec = tie.close (tie.spec opened-requires number-requires returns)

@@ -8,8 +8,8 @@ use Rattle.station_delivery.proofs.loosened.Tie as tie
 gives-up-requires : tie.Need-gives-up-requires
 gives-up-requires c κs = search needs
 
-shared-slice-read-loosen : tie.Need-shared-slice-read-loosen
-shared-slice-read-loosen c = search needs
+page-requires : tie.Need-page-requires
+page-requires c κs = search needs
 
 cast-loosen : tie.Need-cast-loosen
 cast-loosen c = search needs
@@ -22,7 +22,7 @@ same-length c = search needs
 
 returns : tie.Need-returns
 unfolding loosenedB
-returns c = simp (sym (c .before .before .before .before .before .before .gives-up .ensures), c .before .before .before .before .before .if1 .taken, sym (c .before .before .before .before .before .before .before .before .before .before .pre .3)) (c .before .before .loosen .ensures)
+returns c = simp (sym (c .before .before .before .page .ensures), sym (c .before .before .before .before .before .before .gives-up .ensures), c .before .before .before .before .before .if1 .taken, sym (c .before .before .before .before .before .before .before .before .before .before .pre .3)) (c .before .before .loosen .ensures)
 
 same-length-2 : tie.Need-same-length-2
 same-length-2 c = search needs
@@ -36,7 +36,7 @@ loosened-spec =
     tie.close
     (tie.spec
     gives-up-requires
-    shared-slice-read-loosen
+    page-requires
     cast-loosen
     loosen-requires
     same-length

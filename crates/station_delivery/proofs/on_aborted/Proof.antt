@@ -1,11 +1,12 @@
 -- `station_delivery::on_aborted` meets its contract.
+use mathlib.Core.Path.{sym, _∙_}
 use Rattle.station_delivery.specs.Laws.{aborted-sent}
 use borrow.Author.Needs.{needs}
 use Rattle.station_delivery.proofs.on_aborted.Statement.{statement}
 use Rattle.station_delivery.proofs.on_aborted.Tie as tie
 
-slice-read-i : tie.Need-slice-read-i
-slice-read-i c = search needs
+station-requires : tie.Need-station-requires
+station-requires c κs = search needs
 
 undo-requires : tie.Need-undo-requires
 undo-requires c κs = search needs
@@ -13,8 +14,8 @@ undo-requires c κs = search needs
 close-requires : tie.Need-close-requires
 close-requires c κs = search needs
 
-shared-slice-read-wide : tie.Need-shared-slice-read-wide
-shared-slice-read-wide c = search needs
+object-requires : tie.Need-object-requires
+object-requires c κs = search needs
 
 wide-requires : tie.Need-wide-requires
 wide-requires c κs = search needs
@@ -29,16 +30,16 @@ same-length-2 : tie.Need-same-length-2
 same-length-2 c = search needs
 
 returns : tie.Need-returns
-returns c = aborted-sent _ _ _ _ _ _ (c .before .wide .ensures .0) (c .before .before .before .before .before .before .before .before .before .before .before .before .undo .ensures) (c .before .before .before .before .before .before .before .close .ensures) (c .say .ensures)
+returns c = aborted-sent _ _ _ _ _ _ (c .before .wide .ensures .0 ∙ c .before .before .object .ensures) (c .before .before .before .before .before .before .before .before .before .before .before .before .undo .ensures) (rw (sym (c .before .before .before .before .before .before .before .before .before .before .before .before .before .before .station .ensures)) (c .before .before .before .before .before .before .before .close .ensures)) (c .say .ensures)
 
 pub on-aborted-spec : {M : Type 1} → statement M
 on-aborted-spec =
     tie.close
     (tie.spec
-    slice-read-i
+    station-requires
     undo-requires
     close-requires
-    shared-slice-read-wide
+    object-requires
     wide-requires
     say-requires
     same-length

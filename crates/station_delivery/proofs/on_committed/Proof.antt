@@ -1,11 +1,12 @@
 -- `station_delivery::on_committed` meets its contract.
+use mathlib.Core.Path.{sym}
 use Rattle.station_delivery.specs.Laws.{committed-sent}
 use borrow.Author.Needs.{needs}
 use Rattle.station_delivery.proofs.on_committed.Statement.{statement}
 use Rattle.station_delivery.proofs.on_committed.Tie as tie
 
-slice-read-i : tie.Need-slice-read-i
-slice-read-i c = search needs
+station-requires : tie.Need-station-requires
+station-requires c κs = search needs
 
 get-u32-requires : tie.Need-get-u32-requires
 get-u32-requires c κs = search needs
@@ -26,13 +27,13 @@ same-length-2 : tie.Need-same-length-2
 same-length-2 c = search needs
 
 returns : tie.Need-returns
-returns c = committed-sent _ _ _ _ _ _ (c .before .before .before .before .before .before .before .before .before .before .before .before .get-u32 .ensures) (c .before .before .before .before .before .before .before .before .before .before .versions .ensures) (c .before .before .before .before .before .close .ensures) (c .say .ensures)
+returns c = committed-sent _ _ _ _ _ _ (c .before .before .before .before .before .before .before .before .before .before .before .before .get-u32 .ensures) (c .before .before .before .before .before .before .before .before .before .before .versions .ensures) (rw (sym (c .before .before .before .before .before .before .before .before .before .before .before .before .before .station .ensures)) (c .before .before .before .before .before .close .ensures)) (c .say .ensures)
 
 pub on-committed-spec : {M : Type 1} → statement M
 on-committed-spec =
     tie.close
     (tie.spec
-    slice-read-i
+    station-requires
     get-u32-requires
     versions-requires
     close-requires

@@ -1,4 +1,5 @@
 -- `station_delivery::on_down` meets its contract.
+use mathlib.Core.Path.{sym, _∙_}
 use Rattle.station_delivery.specs.Delivery.{onDownB}
 use Rattle.station_delivery.specs.Laws.{no-other}
 use native.Mathlib.Omega.{arith}
@@ -6,23 +7,23 @@ use borrow.Author.Needs.{needs}
 use Rattle.station_delivery.proofs.on_down.Statement.{statement}
 use Rattle.station_delivery.proofs.on_down.Tie as tie
 
-shared-slice-read-match : tie.Need-shared-slice-read-match
-shared-slice-read-match c = search needs
+kind-requires : tie.Need-kind-requires
+kind-requires c κs = search needs
 
 on-page-requires : tie.Need-on-page-requires
-on-page-requires c κs = (search needs, search needs, c .before .before .before .before .before .before .before .pre .4 .0 (λ e. omega (arith, c .before .before .match .keys1)))
+on-page-requires c κs = (search needs, search needs, c .before .before .before .before .before .before .before .pre .4 .0 (λ e. omega (arith, c .before .before .match .keys1, c .before .before .before .kind .ensures)))
 
 on-page-requires-2 : tie.Need-on-page-requires-2
-on-page-requires-2 c κs = (search needs, search needs, c .before .before .before .before .before .before .before .pre .4 .0 (λ e. omega (arith, c .before .before .match .keys2)))
+on-page-requires-2 c κs = (search needs, search needs, c .before .before .before .before .before .before .before .pre .4 .0 (λ e. omega (arith, c .before .before .match .keys2, c .before .before .before .kind .ensures)))
 
 on-page-requires-3 : tie.Need-on-page-requires-3
-on-page-requires-3 c κs = (search needs, search needs, c .before .before .before .before .before .before .before .pre .4 .0 (λ e. omega (arith, c .before .before .match .keys3)))
+on-page-requires-3 c κs = (search needs, search needs, c .before .before .before .before .before .before .before .pre .4 .0 (λ e. omega (arith, c .before .before .match .keys3, c .before .before .before .kind .ensures)))
 
 on-deescalate-requires : tie.Need-on-deescalate-requires
-on-deescalate-requires c κs = (search needs, search needs, search needs, c .before .before .before .before .before .before .before .pre .4 .0 (λ e. omega (arith, c .before .before .match .keys4)))
+on-deescalate-requires c κs = (search needs, search needs, search needs, c .before .before .before .before .before .before .before .pre .4 .0 (λ e. omega (arith, c .before .before .match .keys4, c .before .before .before .kind .ensures)))
 
 on-callback-requires : tie.Need-on-callback-requires
-on-callback-requires c κs = (search needs, search needs, search needs, c .before .before .before .before .before .before .before .pre .4 .1 (c .before .before .match .keys5))
+on-callback-requires c κs = (search needs, search needs, search needs, c .before .before .before .before .before .before .before .pre .4 .1 (sym (c .before .before .before .kind .ensures) ∙ c .before .before .match .keys5))
 
 on-committed-requires : tie.Need-on-committed-requires
 on-committed-requires c κs = search needs
@@ -44,7 +45,7 @@ same-length-2 c = search needs
 
 returns : tie.Need-returns
 unfolding onDownB
-returns c = rw (c .before .before .before .before .before .before .before .match .keys1) (c .before .before .before .before .on-page .ensures)
+returns c = rw (sym (c .before .before .before .before .before .before .before .before .kind .ensures), c .before .before .before .before .before .before .before .match .keys1) (c .before .before .before .before .on-page .ensures)
 
 same-length-3 : tie.Need-same-length-3
 same-length-3 c = search needs
@@ -54,7 +55,7 @@ same-length-4 c = search needs
 
 returns-2 : tie.Need-returns-2
 unfolding onDownB
-returns-2 c = rw (c .before .before .before .before .before .before .before .match .keys2) (c .before .before .before .before .on-page2 .ensures)
+returns-2 c = rw (sym (c .before .before .before .before .before .before .before .before .kind .ensures), c .before .before .before .before .before .before .before .match .keys2) (c .before .before .before .before .on-page2 .ensures)
 
 same-length-5 : tie.Need-same-length-5
 same-length-5 c = search needs
@@ -64,7 +65,7 @@ same-length-6 c = search needs
 
 returns-3 : tie.Need-returns-3
 unfolding onDownB
-returns-3 c = rw (c .before .before .before .before .before .before .before .match .keys3) (c .before .before .before .before .on-page3 .ensures)
+returns-3 c = rw (sym (c .before .before .before .before .before .before .before .before .kind .ensures), c .before .before .before .before .before .before .before .match .keys3) (c .before .before .before .before .on-page3 .ensures)
 
 same-length-7 : tie.Need-same-length-7
 same-length-7 c = search needs
@@ -74,7 +75,7 @@ same-length-8 c = search needs
 
 returns-4 : tie.Need-returns-4
 unfolding onDownB
-returns-4 c = rw (c .before .before .before .before .before .before .before .match .keys4) (c .before .before .before .before .on-deescalate .ensures)
+returns-4 c = rw (sym (c .before .before .before .before .before .before .before .before .kind .ensures), c .before .before .before .before .before .before .before .match .keys4) (c .before .before .before .before .on-deescalate .ensures)
 
 same-length-9 : tie.Need-same-length-9
 same-length-9 c = search needs
@@ -84,7 +85,7 @@ same-length-10 c = search needs
 
 returns-5 : tie.Need-returns-5
 unfolding onDownB
-returns-5 c = rw (c .before .before .before .before .before .before .before .match .keys5) (c .before .before .before .before .on-callback .ensures)
+returns-5 c = rw (sym (c .before .before .before .before .before .before .before .before .kind .ensures), c .before .before .before .before .before .before .before .match .keys5) (c .before .before .before .before .on-callback .ensures)
 
 same-length-11 : tie.Need-same-length-11
 same-length-11 c = search needs
@@ -94,7 +95,7 @@ same-length-12 c = search needs
 
 returns-6 : tie.Need-returns-6
 unfolding onDownB
-returns-6 c = rw (c .before .before .before .before .before .before .before .match .keys6) (c .before .before .before .before .on-committed .ensures)
+returns-6 c = rw (sym (c .before .before .before .before .before .before .before .before .kind .ensures), c .before .before .before .before .before .before .before .match .keys6) (c .before .before .before .before .on-committed .ensures)
 
 same-length-13 : tie.Need-same-length-13
 same-length-13 c = search needs
@@ -104,7 +105,7 @@ same-length-14 c = search needs
 
 returns-7 : tie.Need-returns-7
 unfolding onDownB
-returns-7 c = rw (c .before .before .before .before .before .before .before .match .keys7) (c .before .before .before .before .on-aborted .ensures)
+returns-7 c = rw (sym (c .before .before .before .before .before .before .before .before .kind .ensures), c .before .before .before .before .before .before .before .match .keys7) (c .before .before .before .before .on-aborted .ensures)
 
 same-length-15 : tie.Need-same-length-15
 same-length-15 c = search needs
@@ -114,16 +115,16 @@ same-length-16 c = search needs
 
 returns-8 : tie.Need-returns-8
 unfolding onDownB
-returns-8 c = rw (c .before .before .before .before .before .before .before .match .keys8) (c .before .before .before .before .on-invalidate .ensures)
+returns-8 c = rw (sym (c .before .before .before .before .before .before .before .before .kind .ensures), c .before .before .before .before .before .before .before .match .keys8) (c .before .before .before .before .on-invalidate .ensures)
 
 returns-9 : tie.Need-returns-9
-returns-9 c = let r = c .before .match .rest in absurd (no-other _ (c .before .before .before .before .before .before .pre .4 .2) (r .0 .0 .0 .0 .0 .0 .0 .1) (r .0 .0 .0 .0 .0 .0 .1) (r .0 .0 .0 .0 .0 .1) (r .0 .0 .0 .0 .1) (r .0 .0 .0 .1) (r .0 .0 .1) (r .0 .1) (r .1))
+returns-9 c = let r = c .before .match .rest in absurd (no-other (c .before .before .kind .result) (rw (c .before .before .kind .ensures) (c .before .before .before .before .before .before .pre .4 .2)) (r .0 .0 .0 .0 .0 .0 .0 .1) (r .0 .0 .0 .0 .0 .0 .1) (r .0 .0 .0 .0 .0 .1) (r .0 .0 .0 .0 .1) (r .0 .0 .0 .1) (r .0 .0 .1) (r .0 .1) (r .1))
 
 pub on-down-spec : {M : Type 1} → statement M
 on-down-spec =
     tie.close
     (tie.spec
-    shared-slice-read-match
+    kind-requires
     on-page-requires
     on-page-requires-2
     on-page-requires-3

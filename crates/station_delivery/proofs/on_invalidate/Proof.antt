@@ -1,11 +1,12 @@
 -- `station_delivery::on_invalidate` meets its contract.
+use mathlib.Core.Path.{sym}
 use Rattle.station_delivery.specs.Laws.{invalidate-ends, invalidate-marks}
 use borrow.Author.Needs.{needs}
 use Rattle.station_delivery.proofs.on_invalidate.Statement.{statement}
 use Rattle.station_delivery.proofs.on_invalidate.Tie as tie
 
-slice-read-i : tie.Need-slice-read-i
-slice-read-i c = search needs
+station-requires : tie.Need-station-requires
+station-requires c κs = search needs
 
 sub-x : tie.Need-sub-x
 sub-x c = search needs
@@ -19,8 +20,8 @@ part-x-end c = search needs
 in-use-requires : tie.Need-in-use-requires
 in-use-requires c κs = search needs
 
-slice-read-ends : tie.Need-slice-read-ends
-slice-read-ends c = search needs
+wait-requires : tie.Need-wait-requires
+wait-requires c κs = search needs
 
 mark-requires : tie.Need-mark-requires
 mark-requires c κs = search needs
@@ -41,7 +42,7 @@ same-length-2 : tie.Need-same-length-2
 same-length-2 c = search needs
 
 returns : tie.Need-returns
-returns c = invalidate-ends _ _ _ (c .before .before .before .before .before .before .before .before .before .before .before .before .before .before .before .before .before .before .in-use .ensures) (c .before .before .before .before .before .before .before .before .before .before .before .before .before .before .before .mark .ensures) _ _ _ (c .before .before .before .before .before .before .before .before .before .before .before .before .if1 .taken) (c .before .before .before .before .before .before .before .before .before .before .undo .ensures) (c .before .before .before .before .before .close .ensures) (c .say .ensures)
+returns c = invalidate-ends _ _ _ (c .before .before .before .before .before .before .before .before .before .before .before .before .before .before .before .before .before .before .before .in-use .ensures) (c .before .before .before .before .before .before .before .before .before .before .before .before .before .before .before .mark .ensures) _ _ _ (rw (sym (c .before .before .before .before .before .before .before .before .before .before .before .before .before .before .before .before .before .wait .ensures)) (c .before .before .before .before .before .before .before .before .before .before .before .before .if1 .taken)) (c .before .before .before .before .before .before .before .before .before .before .undo .ensures) (rw (sym (c .before .before .before .before .before .before .before .before .before .before .before .before .before .before .before .before .before .before .before .before .before .before .station .ensures)) (c .before .before .before .before .before .close .ensures)) (c .say .ensures)
 
 say-requires-2 : tie.Need-say-requires-2
 say-requires-2 c κs = search needs
@@ -50,18 +51,18 @@ same-length-3 : tie.Need-same-length-3
 same-length-3 c = search needs
 
 returns-2 : tie.Need-returns-2
-returns-2 c = invalidate-marks _ _ _ (c .before .before .before .before .before .before .before .in-use .ensures) (c .before .before .before .before .mark .ensures) (c .before .if1 .left) (c .say2 .ensures)
+returns-2 c = invalidate-marks _ _ _ (c .before .before .before .before .before .before .before .before .in-use .ensures) (c .before .before .before .before .mark .ensures) (rw (sym (c .before .before .before .before .before .before .wait .ensures)) (c .before .if1 .left)) (c .say2 .ensures)
 
 pub on-invalidate-spec : {M : Type 1} → statement M
 on-invalidate-spec =
     tie.close
     (tie.spec
-    slice-read-i
+    station-requires
     sub-x
     part-x-start
     part-x-end
     in-use-requires
-    slice-read-ends
+    wait-requires
     mark-requires
     undo-requires
     close-requires

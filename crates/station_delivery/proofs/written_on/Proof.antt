@@ -11,21 +11,18 @@ answers-for-requires c κs = search needs
 live-requires : tie.Need-live-requires
 live-requires c κs = search needs
 
-shared-slice-read-result : tie.Need-shared-slice-read-result
-shared-slice-read-result c = search needs
+page-requires : tie.Need-page-requires
+page-requires c κs = search needs
 
-cast-result : tie.Need-cast-result
-cast-result c = search needs
+cast-written-set : tie.Need-cast-written-set
+cast-written-set c = search needs
 
-add-result : tie.Need-add-result
-add-result c = search needs
-
-shared-slice-read-result-2 : tie.Need-shared-slice-read-result-2
-shared-slice-read-result-2 c = search needs
+written-set-requires : tie.Need-written-set-requires
+written-set-requires c κs = search needs
 
 returns : tie.Need-returns
 unfolding writtenOnB
-returns c = simp (sym (c .before .before .before .before .answers-for .ensures), sym (c .before .before .before .live .ensures), c .before .before .if1 .taken)
+returns c = simp (sym (c .before .page .ensures), sym (c .before .before .before .before .answers-for .ensures), sym (c .before .before .before .live .ensures), c .before .before .if1 .taken) (c .written-set .ensures)
 
 returns-2 : tie.Need-returns-2
 unfolding writtenOnB
@@ -37,9 +34,8 @@ written-on-spec =
     (tie.spec
     answers-for-requires
     live-requires
-    shared-slice-read-result
-    cast-result
-    add-result
-    shared-slice-read-result-2
+    page-requires
+    cast-written-set
+    written-set-requires
     returns
     returns-2)

@@ -45,17 +45,17 @@ returns-2 : tie.Need-returns-2
 unfolding ownAbortB
 returns-2 c = call-n _ _ _ _ _ (sym (c .before .before .before .before .before .ready .ensures) ∙ not-false (c .before .before .before .before .before .ready .result) (c .before .before .before .before .if1 .left)) (c .before .before .check-open .ensures) (c .before .if2 .taken) (c .refuse2 .ensures)
 
-slice-read-i : tie.Need-slice-read-i
-slice-read-i c = omega (arith, (ready-is _ _ _ (sym (c .before .before .before .before .before .ready .ensures) ∙ not-false (c .before .before .before .before .before .ready .result) (c .before .before .before .before .if1 .left))) .size)
+station-requires : tie.Need-station-requires
+station-requires c κs = (ready-is _ _ _ (sym (c .before .before .before .before .before .ready .ensures) ∙ not-false (c .before .before .before .before .before .ready .result) (c .before .before .before .before .if1 .left))) .size
 
 tell-abort-requires : tie.Need-tell-abort-requires
-tell-abort-requires c κs = ((ready-is _ _ _ (sym (c .before .before .before .before .before .before .before .ready .ensures) ∙ not-false (c .before .before .before .before .before .before .before .ready .result) (c .before .before .before .before .before .before .if1 .left))) .size, (ready-is _ _ _ (sym (c .before .before .before .before .before .before .before .ready .ensures) ∙ not-false (c .before .before .before .before .before .before .before .ready .result) (c .before .before .before .before .before .before .if1 .left))) .messages-fit)
+tell-abort-requires c κs = ((ready-is _ _ _ (sym (c .before .before .before .before .before .before .before .before .ready .ensures) ∙ not-false (c .before .before .before .before .before .before .before .before .ready .result) (c .before .before .before .before .before .before .before .if1 .left))) .size, (ready-is _ _ _ (sym (c .before .before .before .before .before .before .before .before .ready .ensures) ∙ not-false (c .before .before .before .before .before .before .before .before .ready .result) (c .before .before .before .before .before .before .before .if1 .left))) .messages-fit)
 
 undo-requires : tie.Need-undo-requires
-undo-requires c κs = (ready-is _ _ _ (sym (c .before .before .before .before .before .before .before .before .before .before .before .ready .ensures) ∙ not-false (c .before .before .before .before .before .before .before .before .before .before .before .ready .result) (c .before .before .before .before .before .before .before .before .before .before .if1 .left))) .size
+undo-requires c κs = (ready-is _ _ _ (sym (c .before .before .before .before .before .before .before .before .before .before .before .before .ready .ensures) ∙ not-false (c .before .before .before .before .before .before .before .before .before .before .before .before .ready .result) (c .before .before .before .before .before .before .before .before .before .before .before .if1 .left))) .size
 
 close-requires : tie.Need-close-requires
-close-requires c κs = (omega (arith, (ready-is _ _ _ (sym (c .before .before .before .before .before .before .before .before .before .before .before .before .before .before .before .before .ready .ensures) ∙ not-false (c .before .before .before .before .before .before .before .before .before .before .before .before .before .before .before .before .ready .result) (c .before .before .before .before .before .before .before .before .before .before .before .before .before .before .before .if1 .left))) .size), omega (arith, (ready-is _ _ _ (sym (c .before .before .before .before .before .before .before .before .before .before .before .before .before .before .before .before .ready .ensures) ∙ not-false (c .before .before .before .before .before .before .before .before .before .before .before .before .before .before .before .before .ready .result) (c .before .before .before .before .before .before .before .before .before .before .before .before .before .before .before .if1 .left))) .messages-fit), abort-count _ _ (c .before .before .before .before .before .before .before .before .tell-abort .ensures), (ready-is _ _ _ (sym (c .before .before .before .before .before .before .before .before .before .before .before .before .before .before .before .before .ready .ensures) ∙ not-false (c .before .before .before .before .before .before .before .before .before .before .before .before .before .before .before .before .ready .result) (c .before .before .before .before .before .before .before .before .before .before .before .before .before .before .before .if1 .left))) .own)
+close-requires c κs = (omega (arith, (ready-is _ _ _ (sym (c .before .before .before .before .before .before .before .before .before .before .before .before .before .before .before .before .before .ready .ensures) ∙ not-false (c .before .before .before .before .before .before .before .before .before .before .before .before .before .before .before .before .before .ready .result) (c .before .before .before .before .before .before .before .before .before .before .before .before .before .before .before .before .if1 .left))) .size), omega (arith, (ready-is _ _ _ (sym (c .before .before .before .before .before .before .before .before .before .before .before .before .before .before .before .before .before .ready .ensures) ∙ not-false (c .before .before .before .before .before .before .before .before .before .before .before .before .before .before .before .before .before .ready .result) (c .before .before .before .before .before .before .before .before .before .before .before .before .before .before .before .before .if1 .left))) .messages-fit), abort-count _ _ (c .before .before .before .before .before .before .before .before .tell-abort .ensures), rw (c .before .before .before .before .before .before .before .before .before .before .before .station .ensures) ((ready-is _ _ _ (sym (c .before .before .before .before .before .before .before .before .before .before .before .before .before .before .before .before .before .ready .ensures) ∙ not-false (c .before .before .before .before .before .before .before .before .before .before .before .before .before .before .before .before .before .ready .result) (c .before .before .before .before .before .before .before .before .before .before .before .before .before .before .before .before .if1 .left))) .own))
 
 say-requires : tie.Need-say-requires
 say-requires c κs = search needs
@@ -71,7 +71,7 @@ same-length-9 c = search needs
 
 returns-3 : tie.Need-returns-3
 unfolding ownAbortB
-returns-3 c = call-ok _ _ _ _ _ (sym (c .before .before .before .before .before .before .before .before .before .before .before .before .before .before .before .before .before .before .before .before .before .before .ready .ensures) ∙ not-false (c .before .before .before .before .before .before .before .before .before .before .before .before .before .before .before .before .before .before .before .before .before .before .ready .result) (c .before .before .before .before .before .before .before .before .before .before .before .before .before .before .before .before .before .before .before .before .before .if1 .left)) (c .before .before .before .before .before .before .before .before .before .before .before .before .before .before .before .before .before .before .before .check-open .ensures) (c .before .before .before .before .before .before .before .before .before .before .before .before .before .before .before .before .before .before .if2 .left) (abort-handed _ _ (c .before .before .before .before .before .before .before .before .before .before .before .before .before .before .tell-abort .ensures) (c .before .before .before .before .before .before .before .before .before .before .undo .ensures) (c .before .before .before .before .before .close .ensures) (c .say .ensures))
+returns-3 c = call-ok _ _ _ _ _ (sym (c .before .before .before .before .before .before .before .before .before .before .before .before .before .before .before .before .before .before .before .before .before .before .before .ready .ensures) ∙ not-false (c .before .before .before .before .before .before .before .before .before .before .before .before .before .before .before .before .before .before .before .before .before .before .before .ready .result) (c .before .before .before .before .before .before .before .before .before .before .before .before .before .before .before .before .before .before .before .before .before .before .if1 .left)) (c .before .before .before .before .before .before .before .before .before .before .before .before .before .before .before .before .before .before .before .before .check-open .ensures) (c .before .before .before .before .before .before .before .before .before .before .before .before .before .before .before .before .before .before .before .if2 .left) (abort-handed _ _ (c .before .before .before .before .before .before .before .before .before .before .before .before .before .before .tell-abort .ensures) (c .before .before .before .before .before .before .before .before .before .before .undo .ensures) (rw (sym (c .before .before .before .before .before .before .before .before .before .before .before .before .before .before .before .before .before .station .ensures)) (c .before .before .before .before .before .close .ensures)) (c .say .ensures))
 
 pub abort-spec : {M : Type 1} → statement M
 abort-spec =
@@ -89,7 +89,7 @@ abort-spec =
     same-length-5
     same-length-6
     returns-2
-    slice-read-i
+    station-requires
     tell-abort-requires
     undo-requires
     close-requires

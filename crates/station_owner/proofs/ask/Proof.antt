@@ -5,14 +5,11 @@ use borrow.Author.Needs.{needs}
 use Rattle.station_owner.proofs.ask.Statement.{statement}
 use Rattle.station_owner.proofs.ask.Tie as tie
 
-shared-slice-read-locking : tie.Need-shared-slice-read-locking
-shared-slice-read-locking c = search needs
-
 locking-requires : tie.Need-locking-requires
 locking-requires c κs = search needs
 
-shared-slice-read-put-up : tie.Need-shared-slice-read-put-up
-shared-slice-read-put-up c = search needs
+station-requires : tie.Need-station-requires
+station-requires c κs = search needs
 
 cast-put-up : tie.Need-cast-put-up
 cast-put-up c = search needs
@@ -28,7 +25,7 @@ same-length c = search needs
 
 returns : tie.Need-returns
 unfolding askB
-returns c = simp (sym (c .before .before .before .before .before .before .before .locking .ensures), c .before .before .before .before .before .before .if1 .taken, sym (c .before .before .before .number .ensures)) (c .before .before .put-up .ensures)
+returns c = simp (sym (c .before .before .before .before .station .ensures), sym (c .before .before .before .before .before .before .before .locking .ensures), c .before .before .before .before .before .before .if1 .taken, sym (c .before .before .before .number .ensures)) (c .before .before .put-up .ensures)
 
 mul-request : tie.Need-mul-request
 mul-request c = search needs
@@ -53,9 +50,8 @@ pub ask-spec : {M : Type 1} → statement M
 ask-spec =
     tie.close
     (tie.spec
-    shared-slice-read-locking
     locking-requires
-    shared-slice-read-put-up
+    station-requires
     cast-put-up
     number-requires
     put-up-requires

@@ -5,9 +5,6 @@ use borrow.Author.Needs.{needs}
 use Rattle.station_owner.proofs.at_hand.Statement.{statement}
 use Rattle.station_owner.proofs.at_hand.Tie as tie
 
-shared-slice-read-locking : tie.Need-shared-slice-read-locking
-shared-slice-read-locking c = search needs
-
 locking-requires : tie.Need-locking-requires
 locking-requires c κs = search needs
 
@@ -21,15 +18,12 @@ returns : tie.Need-returns
 unfolding atHandB
 returns c = simp (sym (c .before .before .before .before .locking .ensures), c .before .before .before .if1 .taken, sym (c .before .before .whole .ensures), sym (c .before .has-bit32 .ensures), c .if2 .taken)
 
-add-result : tie.Need-add-result
-add-result c = search needs
-
-shared-slice-read-result : tie.Need-shared-slice-read-result
-shared-slice-read-result c = search needs
+locks-requires : tie.Need-locks-requires
+locks-requires c κs = search needs
 
 returns-2 : tie.Need-returns-2
 unfolding atHandB
-returns-2 c = simp (sym (c .before .before .before .before .before .locking .ensures), c .before .before .before .before .if1 .taken, sym (c .before .before .before .whole .ensures), sym (c .before .before .has-bit32 .ensures), c .before .if2 .left)
+returns-2 c = simp (sym (c .before .before .before .before .before .locking .ensures), c .before .before .before .before .if1 .taken, sym (c .before .before .before .whole .ensures), sym (c .before .before .has-bit32 .ensures), c .before .if2 .left) (c .locks .ensures)
 
 cached-requires : tie.Need-cached-requires
 cached-requires c κs = search needs
@@ -37,11 +31,11 @@ cached-requires c κs = search needs
 has-bit32-requires-2 : tie.Need-has-bit32-requires-2
 has-bit32-requires-2 c κs = search needs
 
-add-result-2 : tie.Need-add-result-2
-add-result-2 c = search needs
+add-result : tie.Need-add-result
+add-result c = search needs
 
-shared-slice-read-result-2 : tie.Need-shared-slice-read-result-2
-shared-slice-read-result-2 c = search needs
+shared-slice-read-result : tie.Need-shared-slice-read-result
+shared-slice-read-result c = search needs
 
 returns-3 : tie.Need-returns-3
 unfolding atHandB
@@ -55,17 +49,15 @@ pub at-hand-spec : {M : Type 1} → statement M
 at-hand-spec =
     tie.close
     (tie.spec
-    shared-slice-read-locking
     locking-requires
     whole-requires
     has-bit32-requires
     returns
-    add-result
-    shared-slice-read-result
+    locks-requires
     returns-2
     cached-requires
     has-bit32-requires-2
-    add-result-2
-    shared-slice-read-result-2
+    add-result
+    shared-slice-read-result
     returns-3
     returns-4)

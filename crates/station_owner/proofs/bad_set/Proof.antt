@@ -4,9 +4,6 @@ use borrow.Author.Needs.{needs}
 use Rattle.station_owner.proofs.bad_set.Statement.{statement}
 use Rattle.station_owner.proofs.bad_set.Tie as tie
 
-shared-slice-read-locking : tie.Need-shared-slice-read-locking
-shared-slice-read-locking c = search needs
-
 locking-requires : tie.Need-locking-requires
 locking-requires c κs = search needs
 
@@ -15,4 +12,4 @@ unfolding badSetB
 returns c = cc
 
 pub bad-set-spec : {M : Type 1} → statement M
-bad-set-spec = tie.close (tie.spec shared-slice-read-locking locking-requires returns)
+bad-set-spec = tie.close (tie.spec locking-requires returns)

@@ -1,5 +1,4 @@
 -- `station_owner::no_begin` meets its contract.
-use native.Mathlib.Omega.{arith}
 use mathlib.Core.Path.{sym, _∙_}
 use borrow.Author.Tests.{eq-eqb, ne-eqb, not-true, not-false}
 use Rattle.station_owner.specs.Owner.{noBegin}
@@ -15,17 +14,16 @@ returns : tie.Need-returns
 unfolding noBegin
 returns c = simp (sym (c .before .ready .ensures), not-true (c .before .ready .result) (c .if1 .taken))
 
-shared-slice-read-if2 : tie.Need-shared-slice-read-if2
-shared-slice-read-if2 c = omega (arith, (ready-is _ _ _ (sym (c .before .before .ready .ensures) ∙ not-false (c .before .before .ready .result) (c .before .if1 .left))) .size)
+wait-requires : tie.Need-wait-requires
+wait-requires c κs = (ready-is _ _ _ (sym (c .before .ready .ensures) ∙ not-false (c .before .ready .result) (c .if1 .left))) .size
 
 returns-2 : tie.Need-returns-2
 unfolding noBegin
-returns-2 c = simp (sym (c .before .before .before .ready .ensures), not-false (c .before .before .before .ready .result) (c .before .before .if1 .left), eq-eqb _ _ (c .if2 .taken))
+returns-2 c = simp (sym (c .before .wait .ensures), sym (c .before .before .before .ready .ensures), not-false (c .before .before .before .ready .result) (c .before .before .if1 .left), eq-eqb _ _ (c .if2 .taken))
 
 returns-3 : tie.Need-returns-3
 unfolding noBegin
-returns-3 c = simp (sym (c .before .before .before .ready .ensures), not-false (c .before .before .before .ready .result) (c .before .before .if1 .left), ne-eqb _ _ (c .if2 .left))
+returns-3 c = simp (sym (c .before .wait .ensures), sym (c .before .before .before .ready .ensures), not-false (c .before .before .before .ready .result) (c .before .before .if1 .left), ne-eqb _ _ (c .if2 .left))
 
 pub no-begin-spec : {M : Type 1} → statement M
-no-begin-spec =
-    tie.close (tie.spec ready-requires returns shared-slice-read-if2 returns-2 returns-3)
+no-begin-spec = tie.close (tie.spec ready-requires returns wait-requires returns-2 returns-3)

@@ -48,20 +48,20 @@ returns-2 : tie.Need-returns-2
 unfolding ownPurgeB
 returns-2 c = call-n _ _ _ _ _ (sym (c .before .before .before .before .before .ready .ensures) ∙ not-false (c .before .before .before .before .before .ready .result) (c .before .before .before .before .if1 .left)) (c .before .before .check-purge .ensures) (c .before .if2 .taken) (c .refuse2 .ensures)
 
-slice-read-put-up : tie.Need-slice-read-put-up
-slice-read-put-up c = omega (arith, (ready-is _ _ _ (sym (c .before .before .before .before .before .before .ready .ensures) ∙ not-false (c .before .before .before .before .before .before .ready .result) (c .before .before .before .before .before .if1 .left))) .size)
+station-requires : tie.Need-station-requires
+station-requires c κs = (ready-is _ _ _ (sym (c .before .before .before .before .before .before .ready .ensures) ∙ not-false (c .before .before .before .before .before .before .ready .result) (c .before .before .before .before .before .if1 .left))) .size
 
 cast-put-up : tie.Need-cast-put-up
-cast-put-up c = omega (arith, purge-passed _ _ (sym (c .before .before .before .check-purge .ensures) ∙ c .before .before .if2 .left))
+cast-put-up c = omega (arith, purge-passed _ _ (sym (c .before .before .before .before .check-purge .ensures) ∙ c .before .before .before .if2 .left))
 
 put-up-requires : tie.Need-put-up-requires
-put-up-requires c κs = omega (arith, (ready-is _ _ _ (sym (c .before .before .before .before .before .before .ready .ensures) ∙ not-false (c .before .before .before .before .before .before .ready .result) (c .before .before .before .before .before .if1 .left))) .messages-fit)
+put-up-requires c κs = omega (arith, (ready-is _ _ _ (sym (c .before .before .before .before .before .before .before .ready .ensures) ∙ not-false (c .before .before .before .before .before .before .before .ready .result) (c .before .before .before .before .before .before .if1 .left))) .messages-fit)
 
 bit32-requires : tie.Need-bit32-requires
-bit32-requires c κs = purge-passed _ _ (sym (c .before .before .before .before .before .before .before .check-purge .ensures) ∙ c .before .before .before .before .before .before .if2 .left)
+bit32-requires c κs = purge-passed _ _ (sym (c .before .before .before .before .before .before .before .before .check-purge .ensures) ∙ c .before .before .before .before .before .before .before .if2 .left)
 
 drop-pages-requires : tie.Need-drop-pages-requires
-drop-pages-requires c κs = (ready-is _ _ _ (sym (c .before .before .before .before .before .before .before .before .before .before .before .ready .ensures) ∙ not-false (c .before .before .before .before .before .before .before .before .before .before .before .ready .result) (c .before .before .before .before .before .before .before .before .before .before .if1 .left))) .size
+drop-pages-requires c κs = (ready-is _ _ _ (sym (c .before .before .before .before .before .before .before .before .before .before .before .before .ready .ensures) ∙ not-false (c .before .before .before .before .before .before .before .before .before .before .before .before .ready .result) (c .before .before .before .before .before .before .before .before .before .before .before .if1 .left))) .size
 
 say-requires : tie.Need-say-requires
 say-requires c κs = search needs
@@ -77,7 +77,7 @@ same-length-9 c = search needs
 
 returns-3 : tie.Need-returns-3
 unfolding ownPurgeB
-returns-3 c = call-ok _ _ _ _ _ (sym (c .before .before .before .before .before .before .before .before .before .before .before .before .before .before .before .ready .ensures) ∙ not-false (c .before .before .before .before .before .before .before .before .before .before .before .before .before .before .before .ready .result) (c .before .before .before .before .before .before .before .before .before .before .before .before .before .before .if1 .left)) (c .before .before .before .before .before .before .before .before .before .before .before .before .check-purge .ensures) (c .before .before .before .before .before .before .before .before .before .before .before .if2 .left) (hand-one _ _ _ _ (c .before .before .before .drop-pages .ensures ∙ ap (λ (d : ℕ). dropPagesB d (c .before .before .before .before .before .before .before .before .before .before .before .before .before .before .before .before .before .before .before .before .before .before .args .s .now)) (c .before .before .before .before .bit32 .ensures)) (c .before .before .before .before .before .before .before .before .put-up .ensures) (c .say .ensures))
+returns-3 c = call-ok _ _ _ _ _ (sym (c .before .before .before .before .before .before .before .before .before .before .before .before .before .before .before .before .ready .ensures) ∙ not-false (c .before .before .before .before .before .before .before .before .before .before .before .before .before .before .before .before .ready .result) (c .before .before .before .before .before .before .before .before .before .before .before .before .before .before .before .if1 .left)) (c .before .before .before .before .before .before .before .before .before .before .before .before .before .check-purge .ensures) (c .before .before .before .before .before .before .before .before .before .before .before .before .if2 .left) (hand-one _ _ _ _ (c .before .before .before .drop-pages .ensures ∙ ap (λ (d : ℕ). dropPagesB d (c .before .before .before .before .before .before .before .before .before .before .before .before .before .before .before .before .before .before .before .before .before .before .before .args .s .now)) (c .before .before .before .before .bit32 .ensures)) (rw (sym (c .before .before .before .before .before .before .before .before .before .station .ensures)) (c .before .before .before .before .before .before .before .before .put-up .ensures)) (c .say .ensures))
 
 pub purge-spec : {M : Type 1} → statement M
 purge-spec =
@@ -95,7 +95,7 @@ purge-spec =
     same-length-5
     same-length-6
     returns-2
-    slice-read-put-up
+    station-requires
     cast-put-up
     put-up-requires
     bit32-requires

@@ -12,14 +12,8 @@ use Rattle.station_owner.proofs.read_here.Tie as tie
 shown-requires : tie.Need-shown-requires
 shown-requires c κs = search needs
 
-mul-get-u64 : tie.Need-mul-get-u64
-mul-get-u64 c = search needs
-
-add-get-u64 : tie.Need-add-get-u64
-add-get-u64 c = search needs
-
-get-u64-requires : tie.Need-get-u64-requires
-get-u64-requires c κs = search needs
+copy-requires : tie.Need-copy-requires
+copy-requires c κs = search needs
 
 record-read-requires : tie.Need-record-read-requires
 record-read-requires c κs = search needs
@@ -32,7 +26,7 @@ same-length c = search needs
 
 returns : tie.Need-returns
 unfolding readHereB readLocalB
-returns c = simp (sym (c .before .before .before .before .before .before .before .before .shown .ensures), c .before .before .before .before .before .before .before .if1 .taken) (hand-none _ _ _ (c .before .before .before .record-read .ensures) (c .say .ensures ∙ ap (λ (v : ℕ). said (Value v) 0 0) (c .before .before .before .before .before .get-u64 .ensures)))
+returns c = simp (sym (c .before .before .before .before .before .before .before .before .shown .ensures), c .before .before .before .before .before .before .before .if1 .taken) (hand-none _ _ _ (c .before .before .before .record-read .ensures) (c .say .ensures ∙ ap (λ (v : ℕ). said (Value v) 0 0) (c .before .before .before .before .before .copy .ensures)))
 
 request-requires : tie.Need-request-requires
 request-requires c κs = search needs
@@ -61,9 +55,7 @@ read-here-spec =
     tie.close
     (tie.spec
     shown-requires
-    mul-get-u64
-    add-get-u64
-    get-u64-requires
+    copy-requires
     record-read-requires
     say-requires
     same-length

@@ -4,8 +4,8 @@ use borrow.Author.Needs.{needs}
 use Rattle.station_owner.proofs.request.Statement.{statement}
 use Rattle.station_owner.proofs.request.Tie as tie
 
-shared-slice-read-put-up : tie.Need-shared-slice-read-put-up
-shared-slice-read-put-up c = search needs
+station-requires : tie.Need-station-requires
+station-requires c κs = search needs
 
 cast-put-up : tie.Need-cast-put-up
 cast-put-up c = search needs
@@ -23,13 +23,13 @@ same-length : tie.Need-same-length
 same-length c = search needs
 
 returns : tie.Need-returns
-returns c = simp (sym (c .before .before .before .number .ensures)) (c .before .before .put-up .ensures)
+returns c = simp (sym (c .before .before .before .before .station .ensures), sym (c .before .before .before .number .ensures)) (c .before .before .put-up .ensures)
 
 pub request-spec : {M : Type 1} → statement M
 request-spec =
     tie.close
     (tie.spec
-    shared-slice-read-put-up
+    station-requires
     cast-put-up
     cast-put-up-2
     number-requires

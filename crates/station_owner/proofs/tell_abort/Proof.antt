@@ -7,14 +7,11 @@ use borrow.Author.Needs.{needs}
 use Rattle.station_owner.proofs.tell_abort.Statement.{statement}
 use Rattle.station_owner.proofs.tell_abort.Tie as tie
 
-shared-slice-read-locking : tie.Need-shared-slice-read-locking
-shared-slice-read-locking c = search needs
-
 locking-requires : tie.Need-locking-requires
 locking-requires c κs = search needs
 
-shared-slice-read-put-up : tie.Need-shared-slice-read-put-up
-shared-slice-read-put-up c = search needs
+station-requires : tie.Need-station-requires
+station-requires c κs = search needs
 
 number-requires : tie.Need-number-requires
 number-requires c κs = search needs
@@ -27,7 +24,7 @@ same-length c = search needs
 
 returns : tie.Need-returns
 unfolding abortsB
-returns c = simp (sym (c .before .before .before .before .before .before .before .locking .ensures), c .before .before .before .before .before .before .if1 .taken, sym (c .before .before .before .number .ensures)) (post-one _ _ _ (c .before .before .put-up .ensures))
+returns c = simp (sym (c .before .before .before .before .station .ensures), sym (c .before .before .before .before .before .before .before .locking .ensures), c .before .before .before .before .before .before .if1 .taken, sym (c .before .before .before .number .ensures)) (post-one _ _ _ (c .before .before .put-up .ensures))
 
 returns-2 : tie.Need-returns-2
 unfolding abortsB flat
@@ -37,9 +34,8 @@ pub tell-abort-spec : {M : Type 1} → statement M
 tell-abort-spec =
     tie.close
     (tie.spec
-    shared-slice-read-locking
     locking-requires
-    shared-slice-read-put-up
+    station-requires
     number-requires
     put-up-requires
     same-length

@@ -5,11 +5,8 @@ use borrow.Author.Needs.{needs}
 use Rattle.station_pages.proofs.arrives.Statement.{statement}
 use Rattle.station_pages.proofs.arrives.Tie as tie
 
-add-has-bit8 : tie.Need-add-has-bit8
-add-has-bit8 c = search needs
-
-shared-slice-read-has-bit8 : tie.Need-shared-slice-read-has-bit8
-shared-slice-read-has-bit8 c = search needs
+written-set-requires : tie.Need-written-set-requires
+written-set-requires c κs = search needs
 
 has-bit8-requires : tie.Need-has-bit8-requires
 has-bit8-requires c κs = search needs
@@ -31,7 +28,7 @@ get-u64-requires c κs = search needs
 
 returns : tie.Need-returns
 unfolding arrivesB
-returns c = simp (sym (c .before .before .has-bit8 .ensures), c .before .if1 .taken) (c .get-u64 .ensures)
+returns c = simp (sym (c .before .before .before .written-set .ensures), sym (c .before .before .has-bit8 .ensures), c .before .if1 .taken) (c .get-u64 .ensures)
 
 mul-get-u64-3 : tie.Need-mul-get-u64-3
 mul-get-u64-3 c = search needs
@@ -44,14 +41,13 @@ get-u64-requires-2 c κs = search needs
 
 returns-2 : tie.Need-returns-2
 unfolding arrivesB
-returns-2 c = simp (sym (c .before .before .has-bit8 .ensures), c .before .if1 .left) (c .get-u642 .ensures)
+returns-2 c = simp (sym (c .before .before .before .written-set .ensures), sym (c .before .before .has-bit8 .ensures), c .before .if1 .left) (c .get-u642 .ensures)
 
 pub arrives-spec : {M : Type 1} → statement M
 arrives-spec =
     tie.close
     (tie.spec
-    add-has-bit8
-    shared-slice-read-has-bit8
+    written-set-requires
     has-bit8-requires
     mul-get-u64
     add-get-u64

@@ -4,23 +4,15 @@ use borrow.Author.Needs.{needs}
 use Rattle.station_pages.proofs.used_page.Statement.{statement}
 use Rattle.station_pages.proofs.used_page.Tie as tie
 
-add-result : tie.Need-add-result
-add-result c = search needs
+read-set-requires : tie.Need-read-set-requires
+read-set-requires c κs = search needs
 
-shared-slice-read-result : tie.Need-shared-slice-read-result
-shared-slice-read-result c = search needs
-
-add-result-2 : tie.Need-add-result-2
-add-result-2 c = search needs
-
-shared-slice-read-result-2 : tie.Need-shared-slice-read-result-2
-shared-slice-read-result-2 c = search needs
+written-set-requires : tie.Need-written-set-requires
+written-set-requires c κs = search needs
 
 returns : tie.Need-returns
 unfolding usedPageB
-returns c = search needs
+returns c = cc
 
 pub used-page-spec : {M : Type 1} → statement M
-used-page-spec =
-    tie.close
-    (tie.spec add-result shared-slice-read-result add-result-2 shared-slice-read-result-2 returns)
+used-page-spec = tie.close (tie.spec read-set-requires written-set-requires returns)

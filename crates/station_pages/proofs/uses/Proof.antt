@@ -7,29 +7,16 @@ use Rattle.station_pages.proofs.uses.Tie as tie
 shared-slice-read-result : tie.Need-shared-slice-read-result
 shared-slice-read-result c = search needs
 
-add-result : tie.Need-add-result
-add-result c = search needs
+read-set-requires : tie.Need-read-set-requires
+read-set-requires c κs = search needs
 
-shared-slice-read-result-2 : tie.Need-shared-slice-read-result-2
-shared-slice-read-result-2 c = search needs
-
-add-result-2 : tie.Need-add-result-2
-add-result-2 c = search needs
-
-shared-slice-read-result-3 : tie.Need-shared-slice-read-result-3
-shared-slice-read-result-3 c = search needs
+written-set-requires : tie.Need-written-set-requires
+written-set-requires c κs = search needs
 
 returns : tie.Need-returns
 unfolding usesB
-returns c = search needs
+returns c = cc
 
 pub uses-spec : {M : Type 1} → statement M
 uses-spec =
-    tie.close
-    (tie.spec
-    shared-slice-read-result
-    add-result
-    shared-slice-read-result-2
-    add-result-2
-    shared-slice-read-result-3
-    returns)
+    tie.close (tie.spec shared-slice-read-result read-set-requires written-set-requires returns)

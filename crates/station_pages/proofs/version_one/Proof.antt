@@ -5,11 +5,8 @@ use borrow.Author.Needs.{needs}
 use Rattle.station_pages.proofs.version_one.Statement.{statement}
 use Rattle.station_pages.proofs.version_one.Tie as tie
 
-add-has-bit8 : tie.Need-add-has-bit8
-add-has-bit8 c = search needs
-
-slice-read-has-bit8 : tie.Need-slice-read-has-bit8
-slice-read-has-bit8 c = search needs
+written-set-requires : tie.Need-written-set-requires
+written-set-requires c κs = search needs
 
 has-bit8-requires : tie.Need-has-bit8-requires
 has-bit8-requires c κs = search needs
@@ -34,18 +31,20 @@ same-length c = search needs
 
 returns : tie.Need-returns
 unfolding versionOneB
-returns c = simp (sym (c .before .before .before .before .before .has-bit8 .ensures), c .before .before .before .before .if1 .taken) (c .before .before .put-u32 .ensures)
+returns c = simp (sym (c .before .before .before .before .before .before .written-set .ensures), sym (c .before .before .before .before .before .has-bit8 .ensures), c .before .before .before .before .if1 .taken) (c .before .before .put-u32 .ensures)
+
+same-length-2 : tie.Need-same-length-2
+same-length-2 c = search needs
 
 returns-2 : tie.Need-returns-2
 unfolding versionOneB
-returns-2 c = simp (sym (c .before .has-bit8 .ensures), c .if1 .left)
+returns-2 c = simp (sym (c .before .before .written-set .ensures), sym (c .before .has-bit8 .ensures), c .if1 .left)
 
 pub version-one-spec : {M : Type 1} → statement M
 version-one-spec =
     tie.close
     (tie.spec
-    add-has-bit8
-    slice-read-has-bit8
+    written-set-requires
     has-bit8-requires
     mul-put-u32
     add-put-u32
@@ -54,4 +53,5 @@ version-one-spec =
     put-u32-requires
     same-length
     returns
+    same-length-2
     returns-2)

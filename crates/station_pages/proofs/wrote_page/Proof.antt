@@ -4,15 +4,12 @@ use borrow.Author.Needs.{needs}
 use Rattle.station_pages.proofs.wrote_page.Statement.{statement}
 use Rattle.station_pages.proofs.wrote_page.Tie as tie
 
-add-result : tie.Need-add-result
-add-result c = search needs
-
-shared-slice-read-result : tie.Need-shared-slice-read-result
-shared-slice-read-result c = search needs
+written-set-requires : tie.Need-written-set-requires
+written-set-requires c κs = search needs
 
 returns : tie.Need-returns
 unfolding wrotePageB
-returns c = search needs
+returns c = cc
 
 pub wrote-page-spec : {M : Type 1} → statement M
-wrote-page-spec = tie.close (tie.spec add-result shared-slice-read-result returns)
+wrote-page-spec = tie.close (tie.spec written-set-requires returns)

@@ -4,17 +4,17 @@ use borrow.Author.Needs.{needs}
 use Rattle.station_state.proofs.fields_ok.Statement.{statement}
 use Rattle.station_state.proofs.fields_ok.Tie as tie
 
-shared-slice-read-result : tie.Need-shared-slice-read-result
-shared-slice-read-result c = search needs
+kind-requires : tie.Need-kind-requires
+kind-requires c κs = search needs
 
-shared-slice-read-result-2 : tie.Need-shared-slice-read-result-2
-shared-slice-read-result-2 c = search needs
+opened-requires : tie.Need-opened-requires
+opened-requires c κs = search needs
 
-shared-slice-read-result-3 : tie.Need-shared-slice-read-result-3
-shared-slice-read-result-3 c = search needs
+wait-requires : tie.Need-wait-requires
+wait-requires c κs = search needs
 
-shared-slice-read-result-4 : tie.Need-shared-slice-read-result-4
-shared-slice-read-result-4 c = search needs
+opened-requires-2 : tie.Need-opened-requires-2
+opened-requires-2 c κs = search needs
 
 number-requires : tie.Need-number-requires
 number-requires c κs = search needs
@@ -27,9 +27,9 @@ pub fields-ok-spec : {M : Type 1} → statement M
 fields-ok-spec =
     tie.close
     (tie.spec
-    shared-slice-read-result
-    shared-slice-read-result-2
-    shared-slice-read-result-3
-    shared-slice-read-result-4
+    kind-requires
+    opened-requires
+    wait-requires
+    opened-requires-2
     number-requires
     returns)

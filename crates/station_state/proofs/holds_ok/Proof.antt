@@ -6,15 +6,12 @@ use Rattle.station_state.specs.Valid.{holdsOk}
 use Rattle.station_state.proofs.holds_ok.Statement.{statement}
 use Rattle.station_state.proofs.holds_ok.Tie as tie
 
-shared-slice-read-locking : tie.Need-shared-slice-read-locking
-shared-slice-read-locking c = search needs
-
 locking-requires : tie.Need-locking-requires
 locking-requires c κs = search needs
 
 returns : tie.Need-returns
 unfolding holdsOk
-returns c = simp (ne-eqb _ _ (c .before .before .before .before .pre .1), sym (c .before .locking .ensures), c .if1 .taken)
+returns c = simp (ne-eqb _ _ (c .before .before .before .pre .1), sym (c .before .locking .ensures), c .if1 .taken)
 
 lockless-ok-requires : tie.Need-lockless-ok-requires
 lockless-ok-requires c κs = search needs
@@ -24,4 +21,4 @@ unfolding holdsOk
 returns-2 c = simp (sym (c .before .before .locking .ensures), c .before .if1 .left, sym (c .lockless-ok .ensures))
 
 pub holds-ok-spec : {M : Type 1} → statement M
-holds-ok-spec = tie.close (tie.spec shared-slice-read-locking locking-requires returns lockless-ok-requires returns-2)
+holds-ok-spec = tie.close (tie.spec locking-requires returns lockless-ok-requires returns-2)

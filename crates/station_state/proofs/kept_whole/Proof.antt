@@ -4,9 +4,6 @@ use borrow.Author.Needs.{needs}
 use Rattle.station_state.proofs.kept_whole.Statement.{statement}
 use Rattle.station_state.proofs.kept_whole.Tie as tie
 
-shared-slice-read-keeps : tie.Need-shared-slice-read-keeps
-shared-slice-read-keeps c = search needs
-
 keeps-requires : tie.Need-keeps-requires
 keeps-requires c κs = search needs
 
@@ -21,6 +18,4 @@ unfolding keptWholeB
 returns c = cc
 
 pub kept-whole-spec : {M : Type 1} → statement M
-kept-whole-spec =
-    tie.close
-    (tie.spec shared-slice-read-keeps keeps-requires whole-requires has-bit32-requires returns)
+kept-whole-spec = tie.close (tie.spec keeps-requires whole-requires has-bit32-requires returns)

@@ -4,8 +4,8 @@ use borrow.Author.Needs.{needs}
 use Rattle.station_state.proofs.limited_ok.Statement.{statement}
 use Rattle.station_state.proofs.limited_ok.Tie as tie
 
-shared-slice-read-few-in : tie.Need-shared-slice-read-few-in
-shared-slice-read-few-in c = search needs
+wait-requires : tie.Need-wait-requires
+wait-requires c κs = search needs
 
 few-in-requires : tie.Need-few-in-requires
 few-in-requires c κs = search needs
@@ -18,5 +18,4 @@ unfolding limitedOk
 returns c = cc
 
 pub limited-ok-spec : {M : Type 1} → statement M
-limited-ok-spec =
-    tie.close (tie.spec shared-slice-read-few-in few-in-requires few-written-requires returns)
+limited-ok-spec = tie.close (tie.spec wait-requires few-in-requires few-written-requires returns)

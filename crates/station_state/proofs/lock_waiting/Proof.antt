@@ -4,14 +4,11 @@ use borrow.Author.Needs.{needs}
 use Rattle.station_state.proofs.lock_waiting.Statement.{statement}
 use Rattle.station_state.proofs.lock_waiting.Tie as tie
 
-add-x : tie.Need-add-x
-add-x c = search needs
+locks-requires : tie.Need-locks-requires
+locks-requires c κs = search needs
 
-slice-read-x : tie.Need-slice-read-x
-slice-read-x c = search needs
-
-slice-read-x-2 : tie.Need-slice-read-x-2
-slice-read-x-2 c = search needs
+waiting-set-requires : tie.Need-waiting-set-requires
+waiting-set-requires c κs = search needs
 
 add-put-u8 : tie.Need-add-put-u8
 add-put-u8 c = search needs
@@ -29,4 +26,4 @@ returns c = cc
 pub lock-waiting-spec : {M : Type 1} → statement M
 lock-waiting-spec =
     tie.close
-    (tie.spec add-x slice-read-x slice-read-x-2 add-put-u8 put-u8-requires same-length returns)
+    (tie.spec locks-requires waiting-set-requires add-put-u8 put-u8-requires same-length returns)

@@ -4,11 +4,8 @@ use borrow.Author.Needs.{needs}
 use Rattle.station_state.proofs.loosen.Statement.{statement}
 use Rattle.station_state.proofs.loosen.Tie as tie
 
-add-y : tie.Need-add-y
-add-y c = search needs
-
-slice-read-y : tie.Need-slice-read-y
-slice-read-y c = search needs
+locks-requires : tie.Need-locks-requires
+locks-requires c κs = search needs
 
 add-put-u8 : tie.Need-add-put-u8
 add-put-u8 c = search needs
@@ -29,11 +26,4 @@ returns c = cc
 pub loosen-spec : {M : Type 1} → statement M
 loosen-spec =
     tie.close
-    (tie.spec
-    add-y
-    slice-read-y
-    add-put-u8
-    put-u8-requires
-    page-off-requires
-    same-length
-    returns)
+    (tie.spec locks-requires add-put-u8 put-u8-requires page-off-requires same-length returns)

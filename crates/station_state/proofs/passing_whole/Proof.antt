@@ -5,9 +5,6 @@ use Rattle.station_state.specs.Layout.{passingWhole}
 use Rattle.station_state.proofs.passing_whole.Statement.{statement}
 use Rattle.station_state.proofs.passing_whole.Tie as tie
 
-shared-slice-read-keeps : tie.Need-shared-slice-read-keeps
-shared-slice-read-keeps c = search needs
-
 keeps-requires : tie.Need-keeps-requires
 keeps-requires c κs = search needs
 
@@ -23,5 +20,4 @@ unfolding passingWhole
 returns-2 c = simp (sym (c .before .before .keeps .ensures), c .before .if1 .left, sym (c .whole .ensures))
 
 pub passing-whole-spec : {M : Type 1} → statement M
-passing-whole-spec =
-    tie.close (tie.spec shared-slice-read-keeps keeps-requires returns whole-requires returns-2)
+passing-whole-spec = tie.close (tie.spec keeps-requires returns whole-requires returns-2)

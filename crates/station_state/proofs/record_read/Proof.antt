@@ -4,14 +4,8 @@ use borrow.Author.Needs.{needs}
 use Rattle.station_state.proofs.record_read.Statement.{statement}
 use Rattle.station_state.proofs.record_read.Tie as tie
 
-mul-get-u64 : tie.Need-mul-get-u64
-mul-get-u64 c = search needs
-
-add-get-u64 : tie.Need-add-get-u64
-add-get-u64 c = search needs
-
-get-u64-requires : tie.Need-get-u64-requires
-get-u64-requires c κs = search needs
+copy-requires : tie.Need-copy-requires
+copy-requires c κs = search needs
 
 mul-get-u32 : tie.Need-mul-get-u32
 mul-get-u32 c = search needs
@@ -47,15 +41,13 @@ same-length : tie.Need-same-length
 same-length c = search needs
 
 returns : tie.Need-returns
-returns c = read-stores _ _ (c .before .before .before .before .before .before .before .before .before .before .before .before .before .before .get-u64 .ensures) (c .before .before .before .before .before .before .before .before .before .before .before .before .get-u32 .ensures) (c .before .before .before .before .before .before .before .before .before .before .add-to .ensures) (c .before .before .before .before .before .before .put-u64 .ensures) (c .before .before .put-u32 .ensures)
+returns c = read-stores _ _ (c .before .before .before .before .before .before .before .before .before .before .before .before .before .before .copy .ensures) (c .before .before .before .before .before .before .before .before .before .before .before .before .get-u32 .ensures) (c .before .before .before .before .before .before .before .before .before .before .add-to .ensures) (c .before .before .before .before .before .before .put-u64 .ensures) (c .before .before .put-u32 .ensures)
 
 pub record-read-spec : {M : Type 1} → statement M
 record-read-spec =
     tie.close
     (tie.spec
-    mul-get-u64
-    add-get-u64
-    get-u64-requires
+    copy-requires
     mul-get-u32
     add-get-u32
     get-u32-requires

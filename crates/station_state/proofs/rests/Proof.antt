@@ -33,11 +33,11 @@ joined-requires-3 c κs = search needs
 joined-requires-4 : tie.Need-joined-requires-4
 joined-requires-4 c κs = search needs
 
-shared-slice-read-result : tie.Need-shared-slice-read-result
-shared-slice-read-result c = search needs
+station-requires : tie.Need-station-requires
+station-requires c κs = search needs
 
 returns-3 : tie.Need-returns-3
-returns-3 c = rests-joined (c .before .before .before .before .before .before .before .before .before .before .before .args .s .now) (c .before .before .before .before .before .before .before .before .before .if1 .left) (omega (arith, c .before .before .before .before .before .before .before .if2 .left, c .before .before .before .before .before .before .before .before .get-u32 .ensures)) (c .before .before .before .before .before .before .joined .ensures) (c .before .before .before .before .before .joined2 .ensures) (c .before .before .before .long .ensures ∙ c .before .before .before .before .passing-whole .ensures) (c .before .before .joined3 .ensures) (c .before .joined4 .ensures)
+returns-3 c = rw (c .station .ensures) (rests-joined (c .before .before .before .before .before .before .before .before .before .before .before .args .s .now) (c .before .before .before .before .before .before .before .before .before .if1 .left) (omega (arith, c .before .before .before .before .before .before .before .if2 .left, c .before .before .before .before .before .before .before .before .get-u32 .ensures)) (c .before .before .before .before .before .before .joined .ensures) (c .before .before .before .before .before .joined2 .ensures) (c .before .before .before .long .ensures ∙ c .before .before .before .before .passing-whole .ensures) (c .before .before .joined3 .ensures) (c .before .joined4 .ensures))
 
 pub rests-spec : {M : Type 1} → statement M
 rests-spec =
@@ -52,5 +52,5 @@ rests-spec =
     long-requires
     joined-requires-3
     joined-requires-4
-    shared-slice-read-result
+    station-requires
     returns-3)

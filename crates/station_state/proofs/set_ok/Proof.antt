@@ -4,15 +4,15 @@ use borrow.Author.Needs.{needs}
 use Rattle.station_state.proofs.set_ok.Statement.{statement}
 use Rattle.station_state.proofs.set_ok.Tie as tie
 
-shared-slice-read-result : tie.Need-shared-slice-read-result
-shared-slice-read-result c = search needs
+address-requires : tie.Need-address-requires
+address-requires c κs = search needs
 
-shared-slice-read-result-2 : tie.Need-shared-slice-read-result-2
-shared-slice-read-result-2 c = search needs
+waiting-set-requires : tie.Need-waiting-set-requires
+waiting-set-requires c κs = search needs
 
 returns : tie.Need-returns
 unfolding setOk
-returns c = search needs
+returns c = cc
 
 pub set-ok-spec : {M : Type 1} → statement M
-set-ok-spec = tie.close (tie.spec shared-slice-read-result shared-slice-read-result-2 returns)
+set-ok-spec = tie.close (tie.spec address-requires waiting-set-requires returns)

@@ -5,11 +5,11 @@ use Rattle.station_state.specs.Changes.{unwholeB}
 use Rattle.station_state.proofs.unwhole.Statement.{statement}
 use Rattle.station_state.proofs.unwhole.Tie as tie
 
-slice-read-keeps : tie.Need-slice-read-keeps
-slice-read-keeps c = search needs
-
 keeps-requires : tie.Need-keeps-requires
 keeps-requires c κs = search needs
+
+same-length : tie.Need-same-length
+same-length c = search needs
 
 returns : tie.Need-returns
 unfolding unwholeB
@@ -18,8 +18,8 @@ returns c = simp (sym (c .before .keeps .ensures), c .if1 .taken)
 put-u32-requires : tie.Need-put-u32-requires
 put-u32-requires c κs = search needs
 
-same-length : tie.Need-same-length
-same-length c = search needs
+same-length-2 : tie.Need-same-length-2
+same-length-2 c = search needs
 
 returns-2 : tie.Need-returns-2
 unfolding unwholeB
@@ -28,4 +28,4 @@ returns-2 c = simp (sym (c .before .before .before .before .before .keeps .ensur
 pub unwhole-spec : {M : Type 1} → statement M
 unwhole-spec =
     tie.close
-    (tie.spec slice-read-keeps keeps-requires returns put-u32-requires same-length returns-2)
+    (tie.spec keeps-requires same-length returns put-u32-requires same-length-2 returns-2)

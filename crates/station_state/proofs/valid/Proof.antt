@@ -12,21 +12,21 @@ returns : tie.Need-returns
 unfolding Valid·valid
 returns c = simp (ne-eqb _ _ (c .if1 .taken))
 
-shared-slice-read-if2 : tie.Need-shared-slice-read-if2
-shared-slice-read-if2 c = search needs
+station-requires : tie.Need-station-requires
+station-requires c κs = search needs
 
 returns-2 : tie.Need-returns-2
 unfolding Valid·valid
-returns-2 c = simp (eq-eqb _ _ (c .before .before .if1 .left), lt-leb _ _ (c .if2 .taken))
+returns-2 c = simp (eq-eqb _ _ (c .before .before .if1 .left), sym (c .before .station .ensures), lt-leb _ _ (c .if2 .taken))
 
-shared-slice-read-if3 : tie.Need-shared-slice-read-if3
-shared-slice-read-if3 c = search needs
+opened-requires : tie.Need-opened-requires
+opened-requires c κs = search needs
 
 rests-requires : tie.Need-rests-requires
 rests-requires c κs = search needs
 
 returns-3 : tie.Need-returns-3
-returns-3 c = c .rests .ensures ∙ valid-rests _ (c .before .if3 .taken)
+returns-3 c = c .rests .ensures ∙ valid-rests _ (sym (c .before .before .opened .ensures) ∙ c .before .if3 .taken)
 
 fields-ok-requires : tie.Need-fields-ok-requires
 fields-ok-requires c κs = search needs
@@ -36,7 +36,7 @@ own-kept-requires c κs = search needs
 
 returns-4 : tie.Need-returns-4
 unfolding Valid·valid
-returns-4 c = simp (eq-eqb _ _ (c .before .before .before .before .before .before .before .if1 .left), le-leb _ _ (c .before .before .before .before .before .if2 .left), sym (c .before .before .fields-ok .ensures), sym (c .before .own-kept .ensures), not-true (c .before .before .fields-ok .result && not (c .before .own-kept .result)) (c .if4 .taken))
+returns-4 c = simp (eq-eqb _ _ (c .before .before .before .before .before .before .before .if1 .left), sym (c .before .before .before .before .before .before .station .ensures), le-leb _ _ (c .before .before .before .before .before .if2 .left), sym (c .before .before .fields-ok .ensures), sym (c .before .own-kept .ensures), not-true (c .before .before .fields-ok .result && not (c .before .own-kept .result)) (c .if4 .taken))
 
 works-ok-requires : tie.Need-works-ok-requires
 works-ok-requires c κs = search needs
@@ -46,16 +46,16 @@ holds-ok-requires c κs = search needs
 
 returns-5 : tie.Need-returns-5
 unfolding Valid·valid
-returns-5 c = simp (eq-eqb _ _ (c .before .before .before .before .before .before .before .before .before .if1 .left), le-leb _ _ (c .before .before .before .before .before .before .before .if2 .left), sym (c .before .before .before .before .fields-ok .ensures), sym (c .before .before .before .own-kept .ensures), not-false (c .before .before .before .before .fields-ok .result && not (c .before .before .before .own-kept .result)) (c .before .before .if4 .left), sym (c .before .works-ok .ensures), sym (c .holds-ok .ensures))
+returns-5 c = simp (eq-eqb _ _ (c .before .before .before .before .before .before .before .before .before .if1 .left), sym (c .before .before .before .before .before .before .before .before .station .ensures), le-leb _ _ (c .before .before .before .before .before .before .before .if2 .left), sym (c .before .before .before .before .fields-ok .ensures), sym (c .before .before .before .own-kept .ensures), not-false (c .before .before .before .before .fields-ok .result && not (c .before .before .before .own-kept .result)) (c .before .before .if4 .left), sym (c .before .works-ok .ensures), sym (c .holds-ok .ensures))
 
 pub valid-spec : {M : Type 1} → statement M
 valid-spec =
     tie.close
     (tie.spec
     returns
-    shared-slice-read-if2
+    station-requires
     returns-2
-    shared-slice-read-if3
+    opened-requires
     rests-requires
     returns-3
     fields-ok-requires

@@ -5,14 +5,14 @@ use borrow.Author.Needs.{needs}
 use Rattle.window_state.proofs.flags.Statement.{statement}
 use Rattle.window_state.proofs.flags.Tie as tie
 
-shared-slice-read-flag-if : tie.Need-shared-slice-read-flag-if
-shared-slice-read-flag-if c = search needs
+opened-requires : tie.Need-opened-requires
+opened-requires c κs = search needs
 
 flag-if-requires : tie.Need-flag-if-requires
 flag-if-requires c κs = search needs
 
-shared-slice-read-flag-if-2 : tie.Need-shared-slice-read-flag-if-2
-shared-slice-read-flag-if-2 c = search needs
+wait-requires : tie.Need-wait-requires
+wait-requires c κs = search needs
 
 flag-if-requires-2 : tie.Need-flag-if-requires-2
 flag-if-requires-2 c κs = search needs
@@ -22,15 +22,15 @@ shared-slice-read-result c = search needs
 
 returns : tie.Need-returns
 unfolding flagsOf
-returns c = simp (sym (c .before .before .before .flag-if .ensures), sym (c .before .flag-if2 .ensures))
+returns c = simp (sym (c .before .before .before .before .opened .ensures), sym (c .before .before .wait .ensures), sym (c .before .before .before .flag-if .ensures), sym (c .before .flag-if2 .ensures))
 
 pub flags-spec : {M : Type 1} → statement M
 flags-spec =
     tie.close
     (tie.spec
-    shared-slice-read-flag-if
+    opened-requires
     flag-if-requires
-    shared-slice-read-flag-if-2
+    wait-requires
     flag-if-requires-2
     shared-slice-read-result
     returns)
