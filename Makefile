@@ -1,7 +1,7 @@
 # The C package: library, header, pkg-config file, documents and examples; and the commands for archives. `make help` says what there is;
 # GNU make.
 
-VERSION = 1.13.2
+VERSION = 1.13.3
 
 PREFIX = /usr/local
 INCLUDEDIR = $(PREFIX)/include

@@ -45,10 +45,10 @@ extern "C" {
 #endif
 
 /* Of this header; the library has no number of its own. waxwingrack.pc has the same. */
-#define WAX_VERSION       "1.13.2"
+#define WAX_VERSION       "1.13.3"
 #define WAX_VERSION_MAJOR 1
 #define WAX_VERSION_MINOR 13
-#define WAX_VERSION_PATCH 2
+#define WAX_VERSION_PATCH 3
 
 /* Stack that the deepest call takes, its own frame and those below it, in bytes, and the deepest call of a station or the server;
  * tools/stack reads both from the library, and the package is tested for no more than these. */

@@ -4,6 +4,7 @@ pub mod Num
 pub mod Le
 pub mod Bits
 pub mod Lowest
+pub mod Each
 pub mod Cells
 pub mod Sets
 pub mod Tells

@@ -60,11 +60,9 @@ pub const SERVER_ROOM: usize = 128 * LENGTH;
 
 pub const RECORDS_ROOM: usize = 8 * LONGEST_SENT;
 
-// Runs of fields that a kind may leave unnamed: page and object, all fields from the page to the sets, the page set with or without the
+// Runs of fields that a kind may leave unnamed: page and object, the page set with or without the
 // commit number, all sets but the first, and what stands from a field to the end.
 const PAGE_OBJECT: usize = TRANSACTION - PAGE;
-
-const PAGE_VERSION: usize = SETS - PAGE;
 
 const PAGES_ALONE: usize = VERSION - PAGES;
 
@@ -365,7 +363,10 @@ fn invalidate_ok(m: &[u8]) -> bool
     requires { ⌜ messageLength ≤ length (now m) ⌝ }
     ensures { λ r. ⌜ r ≡ invalidateOk (now (m .entry)) ⌝ }
 {
-    zeros(m, PAGE, PAGE_VERSION) & zeros(m, VALUES, FROM_VALUES)
+    (le::get_u16(m, PAGE) == 0)
+        & (transaction(m) == 0)
+        & (le::get_u64(m, PAGES) == 0)
+        & zeros(m, VALUES, FROM_VALUES)
 }
 
 // The fields of a message to the server: an arm for each kind.

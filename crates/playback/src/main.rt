@@ -431,7 +431,7 @@ fn help() -> u32 {
 }
 
 fn version() -> u32 {
-    said(say(true, b"playback 1.13.2\n"))
+    said(say(true, b"playback 1.13.3\n"))
 }
 
 // Names the word that is not understood.

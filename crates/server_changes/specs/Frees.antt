@@ -1,19 +1,16 @@
--- Locks are freed and values written page by page and eight pages at a time; a page or a group that has none is passed over.
-use Prim.Native.Nat.{ℕ, zero, suc, _+_, _*_, _/_, _%_, _<_}
+-- Locks are freed page by page and eight pages at a time; a page or a group that has none is passed over.
+use Prim.Native.Nat.{ℕ, zero, suc, _+_, _*_, _<_}
 use mathlib.Core.Path.{_≡_, refl, ap, _∙_}
-use mathlib.Core.Bool.{false}
 use mathlib.Core.List.{List}
 use native.Mathlib.Omega.{arith}
 use lib.ListN.{getD}
 use borrow.Author.Tests.{ne-eqb}
 use Rattle.le.specs.Le.{u64At}
-use Rattle.cells.specs.Bits.{tb-test, tb-zero}
-use Rattle.station_state.specs.Layout.{hasBit, member}
 use Rattle.station_state.specs.Runs.{run, run-idle}
 use Rattle.station_state.specs.Sets.{over, over-each}
-use Rattle.server_state.specs.Layout.{lockFrom, lockOf, wholeFrom, wholeOf, writtenSetFrom}
+use Rattle.server_state.specs.Layout.{lockFrom, lockOf, wholeFrom, wholeOf}
 use Rattle.server_state.specs.Facts.{zero-eight}
-use Rattle.server_changes.specs.Changes.{freePageB, freePagesTo, freeOneB, freeTo, valueOneB, valuesTo}
+use Rattle.server_changes.specs.Changes.{freePageB, freePagesTo, freeOneB, freeTo}
 
 -- from the first on they are those of the definitions
 pub pages-run : (i : ℕ) (s : List ℕ) (n : ℕ) → run (freePageB i) s 0 n ≡ freePagesTo i s n
@@ -29,13 +26,6 @@ locks-run i s zero = refl
 locks-run i s (suc n) =
     let place : 0 + n ≡ n = omega arith in
     ap (λ (t : List ℕ). freeOneB i t (0 + n)) (locks-run i s n) ∙ ap (freeOneB i (freeTo i s n)) place
-
-pub values-run : (i v : ℕ) (s : List ℕ) (n : ℕ) → run (valueOneB i v) s 0 n ≡ valuesTo i v s n
-unfolding run valuesTo
-values-run i v s zero = refl
-values-run i v s (suc n) =
-    let place : 0 + n ≡ n = omega arith in
-    ap (λ (t : List ℕ). valueOneB i v t (0 + n)) (values-run i v s n) ∙ ap (valueOneB i v (valuesTo i v s n)) place
 
 -- WHAT IS PASSED OVER
 
@@ -64,27 +54,3 @@ page-unlocked i p s e = none-locked i (p * 8) 8 s (λ k l. zero-eight s (lockFro
 
 pub group-unlocked : (i g : ℕ) (s : List ℕ) → over s (lockFrom + g * 64) 64 ≡ 0 → s ≡ run (freeOneB i) s (g * 64) 64
 group-unlocked i g s e = none-locked i (g * 64) 64 s (over-each s (lockFrom + g * 64) 64 e)
-
--- pages that are not written
-no-bit : (k : ℕ) → hasBit 0 k ≡ false
-unfolding hasBit
-no-bit k = tb-test k 0 ∙ tb-zero k
-
-none-written : (i v p n : ℕ) (s : List ℕ) → ((q : ℕ) → q < n → getD s (writtenSetFrom i + (p + q)) 0 ≡ 0) → s ≡ run (valueOneB i v) s (p * 8) (n * 8)
-unfolding valueOneB member
-none-written i v p n s h =
-    run-idle (valueOneB i v) s (p * 8) (n * 8)
-    (λ k l.
-    let page : (p * 8 + k) / 8 ≡ p + k / 8 = omega arith in
-    rw (page, h (k / 8) (omega arith), no-bit ((p * 8 + k) % 8)) refl)
-
-pub page-unwritten : (i v p : ℕ) (s : List ℕ) → getD s (writtenSetFrom i + p) 0 ≡ 0 → s ≡ run (valueOneB i v) s (p * 8) 8
-page-unwritten i v p s e =
-    none-written i v p 1 s (λ q l. let at : writtenSetFrom i + (p + q) ≡ writtenSetFrom i + p = omega arith in rw at e)
-
-pub group-unwritten : (i v g : ℕ) (s : List ℕ) → u64At s (writtenSetFrom i + g * 8) ≡ 0 → s ≡ run (valueOneB i v) s (g * 64) 64
-group-unwritten i v g s e =
-    let from : g * 8 * 8 ≡ g * 64 = omega arith in
-    rw from at
-    (none-written i v (g * 8) 8 s
-    (λ q l. let at : writtenSetFrom i + (g * 8 + q) ≡ writtenSetFrom i + g * 8 + q = omega arith in rw at (zero-eight s (writtenSetFrom i + g * 8) q l e)))

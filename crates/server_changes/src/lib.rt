@@ -8,6 +8,7 @@ ghost use Rattle.message.specs.Commit.{versionsAt, shortestCommit, addressesAt,
 ghost use Rattle.layout.specs.Record.{entryLength};
 ghost use Rattle.server_state.specs.Layout.{ageWidth, serverLength, valueRow, versionRow, setRow, counterLimit, ageFrom, nextAgeFrom, agesOf, arrivalsOf, lastOf};
 ghost use Rattle.server_changes.specs.Changes.{newAgeB, ageB, noticeB, keepsAgeB, holdB, freePageB, freePagesTo, freePagesB, freeOneB, freeTo, finishB, leaveB, joinB, joinReadB, joinWriteB, unpackOne, unpackTo, unpackB, joinCommitB, listB, unlistB, markBusyB, answeredB, lockOneB, lockTo, loosenB, meetB, heededB, heedB, askedB, calledB, lockPageB, valueOneB, valuesTo, writeB};
+ghost use Rattle.server_changes.specs.Values.{valueAtB};
 ghost use Rattle.station_state.specs.Runs.{run};
 use server_state::AGE;
 use server_state::AGE_KEPT;
@@ -459,46 +460,25 @@ pub fn lock_page(s: &mut [u8], i: usize, p: usize)
     hold(s, p, holder(i), t);
 }
 
-// What i's entry writes at address a is written there, with version n.
+// What i's entry has for address a is written there, with version n.
 fn value_one(s: &mut [u8], i: usize, n: u32, a: usize)
     requires { ⌜ (length (now s) ≡ serverLength) × (i < 8) × (a < 256) ⌝ }
-    ensures { λ _. ⌜ now (s .exit) ≡ valueOneB i n (now (s .entry)) a ⌝ }
+    ensures { λ _. ⌜ now (s .exit) ≡ valueAtB i n (now (s .entry)) a ⌝ }
 {
-    if station_state::member(s, WRITTEN_SET + i * SET_ROW, a) {
-        let v = le::get_u64(s, WRITTEN_VALUE + i * VALUE_ROW + a * VALUE_WIDTH);
-        le::put_u64(s, VALUE + a * VALUE_WIDTH, v);
-        le::put_u32(s, VERSION + a * NUMBER_WIDTH, n);
-        return;
-    }
+    let v = le::get_u64(s, WRITTEN_VALUE + i * VALUE_ROW + a * VALUE_WIDTH);
+    le::put_u64(s, VALUE + a * VALUE_WIDTH, v);
+    le::put_u32(s, VERSION + a * NUMBER_WIDTH, n);
 }
 
-// The objects of page p. A page that is not written is passed over.
-fn values_on(s: &mut [u8], i: usize, n: u32, p: usize)
-    requires { ⌜ (length (now s) ≡ serverLength) × (i < 8) × (p < 32) ⌝ }
-    ensures { λ _. ⌜ now (s .exit) ≡ run (valueOneB i n) (now (s .entry)) (p * 8) 8 ⌝ }
-{
-    if server_state::written_set(s, i, p) == 0 {
-        return;
-    }
-    let mut o = 0;
-    while o < 8 {
-        value_one(s, i, n, p * OBJECTS + o);
-        o += 1;
-    }
-}
-
-// .. and of eight pages.
+// The addresses of eight pages that i's entry writes, the lowest first.
 fn values_in(s: &mut [u8], i: usize, n: u32, g: usize)
     requires { ⌜ (length (now s) ≡ serverLength) × (i < 8) × (g < 4) ⌝ }
     ensures { λ _. ⌜ now (s .exit) ≡ run (valueOneB i n) (now (s .entry)) (g * 64) 64 ⌝ }
 {
-    if le::get_u64(s, WRITTEN_SET + i * SET_ROW + g * GROUP) == 0 {
-        return;
-    }
-    let mut p = 0;
-    while p < 8 {
-        values_on(s, i, n, g * GROUP + p);
-        p += 1;
+    let mut x = le::get_u64(s, WRITTEN_SET + i * SET_ROW + g * GROUP);
+    while x != 0 {
+        value_one(s, i, n, g * 64 + station_state::lowest64(x));
+        x &= x - 1;
     }
 }
 

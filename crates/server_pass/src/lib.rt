@@ -27,7 +27,7 @@ fn turn(s: &mut [u8], o: &mut [u8], q: &mut [u8], c: Counts, e: &mut [u8], i: u8
         let x = server_tests::shut_out_by(s, k, p);
         let d = server_sets::edges_by(s, k, b);
         le::put_u8(e, k, d);
-        return server_visit::visit(s, o, q, c, k, b, x);
+        return server_visit::visit(s, o, q, c, k, b, x, p);
     }
     c
 }

@@ -118,12 +118,16 @@ pub fn written_pages(s: &[u8], i: usize) -> u32
     d
 }
 
-// The stations that i's 20s go to: other locking ones, listed for a page that i is to write.
+// The stations that i's 20s go to: other locking ones, listed for a page that i is to write. Where none locks nothing is looked at.
 pub fn concerned_set(s: &[u8], i: usize) -> u8
     requires { ⌜ (length (now s) ≡ serverLength) × (i < 8) ⌝ }
     ensures { λ r. ⌜ r ≡ concernedSet (now (s .entry)) i ⌝ }
 {
-    locking_set(s) & listed_set(s, written_pages(s, i)) & !station_state::bit8(i)
+    let l = locking_set(s);
+    if l == 0 {
+        return 0;
+    }
+    l & listed_set(s, written_pages(s, i)) & !station_state::bit8(i)
 }
 
 // The stations that 23 goes to when i has written the pages d: other validating ones, listed for one of them.

@@ -1,23 +1,38 @@
 -- Eight stations or eight pages at a time, as the code looks at them: where eight have nothing, none is looked at.
-use Prim.Native.Nat.{ℕ, _+_, _-_, _*_, _/_, _%_, _≤_, _<_}
+use Prim.Native.Nat.{ℕ, _+_, _-_, _*_, _/_, _%_, _^_, _≤_, _<_}
 use mathlib.Core.Path.{_≡_, refl, sym, ap, _∙_}
-use mathlib.Core.Bool.{Bool, true, not, _&&_, _||_}
+use mathlib.Core.Bool.{Bool, true, false, not, _&&_, _||_, or-true, false≢true}
+use mathlib.Core.Logic.{_≢_}
 use mathlib.Core.List.{List}
 use native.Mathlib.Omega.{arith}
-use lib.Bits.{bitOr}
+use lib.Bits.{bitAnd, bitOr, or-lt}
 use lib.Dec.{eqb, ltb}
 use lib.ListN.{getD}
 use borrow.Author.Tests.{eqb-true, eq-eqb, ltb-true, ltb-false}
 use Rattle.lists.specs.Tests.{allTo, allTo-at, allTo-of, and-l, and-r, and-both}
 use Rattle.lists.specs.Parts.{allTo-same}
-use Rattle.sets.specs.Laws.{byB}
+use Rattle.sets.specs.Laws.{byB, any-some}
 use Rattle.le.specs.Le.{u64At}
-use Rattle.station_state.specs.Layout.{noneIn}
-use Rattle.station_state.specs.Sets.{none-numbers, over, over-each, each-over, or-left, or-right, eight-bytes, eight-zero, row-bytes, bytes-row}
+use Rattle.le.specs.Laws.{u64At-is}
+use Rattle.cells.specs.Num.{AllBytes, num-lt}
+use Rattle.cells.specs.Bits.{tb, tb-or, tb-zero}
+use Rattle.station_state.specs.Layout.{member, noneIn}
+use Rattle.station_state.specs.Sets.{none-numbers, over, over-each, each-over, or-left, or-right, eight-bytes, eight-zero, row-bytes, bytes-row, words-members}
 use Rattle.station_state.specs.Facts.{same}
-use Rattle.server_state.specs.Layout.{wantFrom, calledFrom, pendFrom, busyFrom, lockFrom, wholeFrom, lockOf, wholeOf, wantOf, wholeForFrom, wholeForOf, arrivalFrom, arrivalOf, requestFrom, readSetFrom, writtenSetFrom, ageOf}
+use Rattle.server_state.specs.Layout.{wantFrom, calledFrom, pendFrom, busyFrom, lockFrom, wholeFrom, lockOf, wholeOf, wantOf, wholeForFrom, wholeForOf, arrivalFrom, arrivalOf, requestFrom, readSetFrom, writtenSetFrom, ageOf, unfinishedFrom, unfinishedOf, ageKeptFrom}
 use Rattle.server_state.specs.Valid.{blankOk, entryOk, callsOk, agedOk, stationOk, holderAt, wholeOk, pageOk, ageless, apartAt, apartOk}
-use Rattle.server_state.specs.Facts.{Blank, blank-of, all-3, no-holder, parts, zero-eight}
+use Rattle.server_state.specs.Facts.{Blank, blank-of, no-holder, zero-eight}
+use Rattle.server_state.specs.Pages.{some-member}
+use Rattle.server_state.specs.Members.{one-member}
+
+-- two tests of all are one of each
+all-both : (f g h : ℕ → Bool) (n : ℕ) → ((k : ℕ) → k < n → f k && g k ≡ h k) → allTo f n && allTo g n ≡ allTo h n
+all-both f g h n e =
+    same (allTo f n && allTo g n) (allTo h n)
+    (λ t. allTo-of h n (λ k l. sym (e k l) ∙ and-both (allTo-at f n (and-l (allTo f n) (allTo g n) t) k l) (allTo-at g n (and-r (allTo f n) (allTo g n) t) k l)))
+    (λ t.
+    let one : (k : ℕ) → k < n → f k && g k ≡ true = λ k l. e k l ∙ allTo-at h n t k l in
+    and-both (allTo-of f n (λ k l. and-l (f k) (g k) (one k l))) (allTo-of g n (λ k l. and-r (f k) (g k) (one k l))))
 
 -- STATIONS
 
@@ -25,14 +40,8 @@ use Rattle.server_state.specs.Facts.{Blank, blank-of, all-3, no-holder, 
 pub stations-all : (s : List ℕ) → allTo (agedOk s) 8 && allTo (entryOk s) 8 && allTo (callsOk s) 8 ≡ allTo (stationOk s) 8
 unfolding stationOk
 stations-all s =
-    same (allTo (agedOk s) 8 && allTo (entryOk s) 8 && allTo (callsOk s) 8) (allTo (stationOk s) 8)
-    (λ h.
-    let u = all-3 (allTo (agedOk s) 8) (allTo (entryOk s) 8) (allTo (callsOk s) 8) h in
-    allTo-of (stationOk s) 8
-    (λ i l. and-both (and-both (allTo-at (agedOk s) 8 (u .0) i l) (allTo-at (entryOk s) 8 (u .1) i l)) (allTo-at (callsOk s) 8 (u .2) i l)))
-    (λ h.
-    let one : (i : ℕ) → i < 8 → (agedOk s i ≡ true) × (entryOk s i ≡ true) × (callsOk s i ≡ true) = λ i l. parts s i (allTo-at (stationOk s) 8 h i l) in
-    and-both (and-both (allTo-of (agedOk s) 8 (λ i l. one i l .0)) (allTo-of (entryOk s) 8 (λ i l. one i l .1))) (allTo-of (callsOk s) 8 (λ i l. one i l .2)))
+    ap (λ b. b && allTo (callsOk s) 8) (all-both (agedOk s) (entryOk s) (λ i. agedOk s i && entryOk s i) 8 (λ i l. refl))
+    ∙ all-both (λ i. agedOk s i && entryOk s i) (callsOk s) (stationOk s) 8 (λ i l. refl)
 
 -- nobody waits
 pub none-wait : (s : List ℕ) → u64At s wantFrom ≡ 0 → allTo (blankOk s) 8 ≡ allTo (entryOk s) 8
@@ -116,18 +125,74 @@ pub arrivals-idle : (s : List ℕ) (i : ℕ) → wantOf s i ≡ 0 → true ≡ a
 unfolding arrivalsAt
 arrivals-idle s i e = sym (allTo-of (arrivalsAt s i) i (λ j l. rw e refl))
 
-pub apart-both : (s : List ℕ) (i : ℕ) → allTo (agesAt s i) i && allTo (arrivalsAt s i) i ≡ apartOk s i
-unfolding apartOk agesAt arrivalsAt apartAt
-apart-both s i =
-    same (allTo (agesAt s i) i && allTo (arrivalsAt s i) i) (allTo (apartAt s i) i)
-    (λ h.
-    let ages = and-l (allTo (agesAt s i) i) (allTo (arrivalsAt s i) i) h in
-    let arrivals = and-r (allTo (agesAt s i) i) (allTo (arrivalsAt s i) i) h in
-    allTo-of (apartAt s i) i (λ j l. and-both (allTo-at (agesAt s i) i ages j l) (allTo-at (arrivalsAt s i) i arrivals j l)))
-    (λ h.
-    and-both
-    (allTo-of (agesAt s i) i (λ j l. and-l (agesAt s i j) (arrivalsAt s i j) (allTo-at (apartAt s i) i h j l)))
-    (allTo-of (arrivalsAt s i) i (λ j l. and-r (agesAt s i j) (arrivalsAt s i j) (allTo-at (apartAt s i) i h j l))))
+-- each station beside those before it
+unfoldable pub agesApart : List ℕ → ℕ → Bool
+agesApart s i = allTo (agesAt s i) i
+
+unfoldable pub arrivalsApart : List ℕ → ℕ → Bool
+arrivalsApart s i = allTo (arrivalsAt s i) i
+
+pub apart-both : (s : List ℕ) → allTo (agesApart s) 8 && allTo (arrivalsApart s) 8 ≡ allTo (apartOk s) 8
+unfolding apartOk agesApart arrivalsApart agesAt arrivalsAt apartAt
+apart-both s = all-both (agesApart s) (arrivalsApart s) (apartOk s) 8 (λ i l. all-both (agesAt s i) (arrivalsAt s i) (apartAt s i) i (λ j q. refl))
+
+-- nobody waits
+pub none-arrived : (s : List ℕ) → u64At s wantFrom ≡ 0 → true ≡ allTo (arrivalsApart s) 8
+unfolding arrivalsApart
+none-arrived s e = sym (allTo-of (arrivalsApart s) 8 (λ i l. sym (arrivals-idle s i (zero-eight s wantFrom i l e))))
+
+-- who has an age that counts, in one word: a byte of it that is not 0
+abbrev pub countedAges : List ℕ → ℕ
+countedAges s = bitOr (u64At s unfinishedFrom) (u64At s ageKeptFrom)
+
+module _ (s : List ℕ) (h : AllBytes s) where
+  -- a byte that is not 0 has a bit in its word
+  byte-in : (at i : ℕ) → i < 8 → eqb (getD s (at + i) 0) 0 ≡ false → (b : ℕ) × (b / 8 ≡ i) × (tb (u64At s at) b ≡ true)
+  byte-in at i l e =
+      let z = any-some 8 (λ o. member s at (i * 8 + o)) (sym (some-member s h at i) ∙ rw e refl) in
+      let b = i * 8 + z .0 in
+      let word : at + b / 64 * 8 ≡ at = omega (arith, z .1) in
+      let bit : b % 64 ≡ b = omega (arith, z .1) in
+      let here : member s at b ≡ tb (u64At s at) b = rw (word, bit) at (words-members s h at (λ k. u64At s (at + k * 8)) (λ k q. refl) b (omega (arith, z .1))) in
+      (b, omega (arith, z .1), sym here ∙ z .2)
+
+  age-in : (i : ℕ) → i < 8 → ageless s i ≡ false → (b : ℕ) × (b / 8 ≡ i) × (tb (countedAges s) b ≡ true)
+  unfolding ageless
+  age-in i l e =
+      let x = u64At s unfinishedFrom in
+      let y = u64At s ageKeptFrom in
+      byB (eqb (unfinishedOf s i) 0)
+      (λ f. let z = byte-in ageKeptFrom i l (rw f at e) in (z .0, z .1, tb-or (z .0) x y ∙ rw (z .2) (or-true (tb x (z .0)))))
+      (λ f. let z = byte-in unfinishedFrom i l f in (z .0, z .1, tb-or (z .0) x y ∙ rw (z .2) refl))
+
+  -- of two stations one has no age that counts, where the word has one bit at most
+  ages-few : ((j k : ℕ) → tb (countedAges s) j ≡ true → tb (countedAges s) k ≡ true → j ≡ k) → true ≡ allTo (agesApart s) 8
+  unfolding agesApart agesAt
+  ages-few one =
+      sym (allTo-of (agesApart s) 8
+      (λ i l.
+      allTo-of (agesAt s i) i
+      (λ j q.
+      byB (ageless s i) (λ e. rw e refl)
+      (λ e.
+      byB (ageless s j) (λ f. rw (e, f) refl)
+      (λ f.
+      let u = age-in i l e in
+      let v = age-in j (omega arith) f in
+      absurd (omega (arith, one (u .0) (v .0) (u .2) (v .2), u .1, v .1)))))))
+
+  -- as the code reads the word
+  pub ages-none : {x : ℕ} → x ≡ countedAges s → x ≡ 0 → true ≡ allTo (agesApart s) 8
+  ages-none e z = ages-few (λ j k a b. absurd (false≢true (sym (tb-zero j) ∙ ap (λ y. tb y j) (sym z ∙ e) ∙ a)))
+
+  pub ages-one : {x : ℕ} → x ≡ countedAges s → x ≢ 0 → bitAnd x (x - 1) ≡ 0 → true ≡ allTo (agesApart s) 8
+  ages-one {x} e z n = ages-few (λ j k a b. one-member 64 x (rw e fits) z n j k (rw e a) (rw e b))
+    where
+      width : (at : ℕ) → u64At s at < 2 ^ 64
+      width at = rw (u64At-is s at) (num-lt 8 s at h)
+
+      fits : countedAges s < 2 ^ 64
+      fits = or-lt 64 (u64At s unfinishedFrom) (u64At s ageKeptFrom) (width unfinishedFrom) (width ageKeptFrom)
 
 -- PAGES
 
@@ -177,3 +242,25 @@ groups-pages s =
     let whole : p / 8 * 8 + p % 8 ≡ p = omega arith in
     ap (pageOk s) (sym whole) ∙ allTo-at (groupAt s (p / 8)) 8 (allTo-at (groupOk s) 4 h (p / 8) (omega arith)) (p % 8) (omega arith)))
     (λ h. allTo-of (groupOk s) 4 (λ g l. allTo-of (groupAt s g) 8 (λ p q. allTo-at (pageOk s) 32 h (g * 8 + p) (omega arith))))
+
+-- no page is locked whole, and no object: their locks stand behind the numbers beside whole locks
+unfoldable pub lockFree : List ℕ → Bool
+lockFree s = noneIn s wholeFrom && eqb (over s wholeForFrom 384) 0
+
+lock-groups : (s : List ℕ) → lockFree s ≡ true → (g : ℕ) → g < 4 → groupFree s g ≡ true
+unfolding lockFree groupFree
+lock-groups s h g l =
+    let none : noneIn s wholeFrom ≡ true = and-l (noneIn s wholeFrom) (eqb (over s wholeForFrom 384) 0) h in
+    let each : (k : ℕ) → k < 384 → getD s (wholeForFrom + k) 0 ≡ 0 =
+    over-each s wholeForFrom 384 (eqb-true _ _ (and-r (noneIn s wholeFrom) (eqb (over s wholeForFrom 384) 0) h)) in
+    let objects : over s (lockFrom + g * 64) 64 ≡ 0 =
+    each-over s (lockFrom + g * 64) 64 (λ k q. let at : lockFrom + g * 64 + k ≡ wholeForFrom + (128 + (g * 64 + k)) = omega arith in rw at (each (128 + (g * 64 + k)) (omega arith))) in
+    let wholes : over s (wholeFrom + g * 8) 8 ≡ 0 =
+    each-over s (wholeFrom + g * 8) 8 (λ k q. let at : wholeFrom + g * 8 + k ≡ wholeFrom + (g * 8 + k) = omega arith in rw at (row-bytes s wholeFrom none (g * 8 + k) (omega arith))) in
+    let givens : over s (wholeForFrom + g * 32) 32 ≡ 0 =
+    each-over s (wholeForFrom + g * 32) 32 (λ k q. let at : wholeForFrom + g * 32 + k ≡ wholeForFrom + (g * 32 + k) = omega arith in rw at (each (g * 32 + k) (omega arith))) in
+    let all : bitOr (bitOr (over s (lockFrom + g * 64) 64) (over s (wholeFrom + g * 8) 8)) (over s (wholeForFrom + g * 32) 32) ≡ 0 = rw (objects, wholes, givens) refl in
+    eq-eqb _ _ all
+
+pub lock-free : (s : List ℕ) → lockFree s ≡ true → true ≡ allTo (pageOk s) 32
+lock-free s h = sym (allTo-of (groupOk s) 4 (λ g l. sym (group-free s g (lock-groups s h g l)))) ∙ groups-pages s

@@ -197,7 +197,7 @@ module _ (s : List ℕ) (i : ℕ) where
       (eqb-true _ _ (and-l (eqb (pendOf s i) 0) _ u), eqb-true _ _ (and-r (eqb (pendOf s i) 0) _ u))
 
   module _ (h : stationOk s i ≡ true) where
-    pub parts : (agedOk s i ≡ true) × (entryOk s i ≡ true) × (callsOk s i ≡ true)
+    parts : (agedOk s i ≡ true) × (entryOk s i ≡ true) × (callsOk s i ≡ true)
     unfolding stationOk
     parts = all-3 (agedOk s i) (entryOk s i) (callsOk s i) h
 

@@ -1,8 +1,8 @@
 -- The members of a set one by one, the lowest first: as the stations that owe a 7 are looked at.
-use Prim.Native.Nat.{ℕ, zero, suc, _-_, _≤_, _<_}
+use Prim.Native.Nat.{ℕ, zero, suc, _-_, _^_, _≤_, _<_}
 use mathlib.Core.Path.{_≡_, sym, ap, _∙_}
 use mathlib.Core.Logic.{_≢_, ⊎-elim}
-use mathlib.Core.Bool.{Bool, true, false, _&&_, and-true}
+use mathlib.Core.Bool.{Bool, true, false, _&&_, and-true, false≢true}
 use mathlib.Core.List.{List}
 use native.Mathlib.Nat.{eq-or-lt-of-le}
 use native.Mathlib.Omega.{arith}
@@ -10,11 +10,21 @@ use lib.Bits.{bitAnd}
 use lib.Count.{trailingZeros, trailing-of-zero}
 use borrow.Author.Tests.{ne-eqb}
 use Rattle.lists.specs.Tests.{allTo, allTo-of}
-use Rattle.cells.specs.Bits.{tb, tb-test}
+use Rattle.sets.specs.Laws.{byEq, eqb-yes}
+use Rattle.cells.specs.Bits.{tb, tb-test, tb-zero}
 use Rattle.station_state.specs.Layout.{hasBit}
 use Rattle.server_state.specs.Layout.{pendOf}
 use Rattle.server_state.specs.Valid.{owesAt}
 use Rattle.cells.specs.Lowest.{low-below, rest-is, rest-lt, rest-above}
+
+-- a set that has nothing but its lowest member has one
+pub one-member : (n x : ℕ) → x < 2 ^ n → x ≢ 0 → bitAnd x (x - 1) ≡ 0 → (j k : ℕ) → tb x j ≡ true → tb x k ≡ true → j ≡ k
+one-member n x l z e j k a b = lowest j a ∙ sym (lowest k b)
+  where
+    lowest : (o : ℕ) → tb x o ≡ true → o ≡ trailingZeros n x
+    lowest o t =
+        byEq o (trailingZeros n x) (eqb-yes o (trailingZeros n x))
+        (λ f. absurd (false≢true (sym (tb-zero o) ∙ ap (λ y. tb y o) (sym e) ∙ rest-is n x l z o ∙ rw (f, t))))
 
 -- what passes from m on adds nothing
 all-between : (f : ℕ → Bool) (m n : ℕ) → m ≤ n → ((k : ℕ) → m ≤ k → k < n → f k ≡ true) → allTo f n ≡ allTo f m

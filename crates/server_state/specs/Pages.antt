@@ -24,7 +24,7 @@ member-bit s at q o l =
     rw (e, f) (sym (tb-test o (getD s (at + q) 0)))
 
 -- a page's byte is not 0 exactly where an object of it is in the set
-some-member : (s : List ℕ) → AllBytes s → (at q : ℕ) → not (eqb (getD s (at + q) 0) 0) ≡ any 8 (λ o. member s at (q * 8 + o))
+pub some-member : (s : List ℕ) → AllBytes s → (at q : ℕ) → not (eqb (getD s (at + q) 0) 0) ≡ any 8 (λ o. member s at (q * 8 + o))
 some-member s h at q =
     any-byte (getD s (at + q) 0) (h (at + q)) ∙ any-same (tb (getD s (at + q) 0)) (λ o. member s at (q * 8 + o)) 8 (member-bit s at q)
 

@@ -5,7 +5,7 @@ ghost use lib.ListN.{length, replicate};
 ghost use Rattle.lists.specs.Tests.{allTo};
 ghost use Rattle.server_state.specs.Layout.{serverLength, ageOf, agesOf, arrivalsOf, workNumber, latestOf, arrivalOf, lastOf, askedOf, wholeForOf, lockOf, wholeOf, readSet, writtenSet, kindOf, wantOf, requestOf, pendOf, busyOf, unfinishedOf, lockingB, keepsB, otherB};
 ghost use Rattle.server_state.specs.Valid.{mostAt, most as Valid·most, rangesOk, countersOk, wordOf, onlyIn, pageOnlyAt, pageOnly, blankOk, fewOk, commitOk, writeOk, requestOk, waiterOk, entryOk, owesAt, callsOk, agedOk, stationOk, holderOk, holderAt, besideAt, givenOk, wholeOk, pageOk, askedAt, apartOk, valid as Valid·valid, kindsOk, kindsTo, freshened, freshOf, ageless};
-ghost use Rattle.server_state.specs.Eights.{groupFree, groupOk, agesAt, arrivalsAt};
+ghost use Rattle.server_state.specs.Eights.{groupFree, groupOk, lockFree, agesAt, arrivalsAt, agesApart, arrivalsApart};
 ghost use Rattle.server_state.specs.Ages.{agedOf};
 use station_state::GROUP;
 use station_state::NUMBER_WIDTH;
@@ -102,6 +102,9 @@ const ALL_CALLS: usize = UNFINISHED - CALLED;
 pub const GROUP_LOCKS: usize = GROUP * OBJECTS;
 
 const GROUP_NUMBERS: usize = GROUP * NUMBER_WIDTH;
+
+// The bytes of all numbers beside whole locks, and of all locks on objects behind them.
+const ALL_LOCKS: usize = WHOLE - WHOLE_FOR;
 
 // Fields that are read in many places. The latest transaction of station i.
 pub fn latest(s: &[u8], i: usize) -> u32
@@ -681,10 +684,25 @@ fn group_ok(s: &[u8], g: usize) -> bool
     ok
 }
 
+// Whether nothing is locked. Whole locks are looked at first: where there are any, no more is read in vain.
+fn lock_free(s: &[u8]) -> bool
+    requires { ⌜ length (now s) ≡ serverLength ⌝ }
+    ensures { λ r. ⌜ r ≡ lockFree (now (s .entry)) ⌝ }
+{
+    if !station_state::none_in(s, WHOLE) {
+        return false;
+    }
+    station_state::over(s, WHOLE_FOR, ALL_LOCKS) == 0
+}
+
+// Where nothing is locked, no group is looked at.
 fn pages_ok(s: &[u8]) -> bool
     requires { ⌜ length (now s) ≡ serverLength ⌝ }
     ensures { λ r. ⌜ r ≡ allTo (pageOk (now (s .entry))) 32 ⌝ }
 {
+    if lock_free(s) {
+        return true;
+    }
     let mut ok = true;
     let mut g = 0;
     while g < 4 {
@@ -776,24 +794,50 @@ fn arrivals_apart(s: &[u8], i: usize) -> bool
     ok
 }
 
-fn apart_ok(s: &[u8], i: usize) -> bool
-    requires { ⌜ (length (now s) ≡ serverLength) × (i < 8) ⌝ }
-    ensures { λ r. ⌜ r ≡ apartOk (now (s .entry)) i ⌝ }
+// Whether no two ages that count are equal. Where at most one counts, none is looked at.
+fn all_ages(s: &[u8]) -> bool
+    requires { ⌜ length (now s) ≡ serverLength ⌝ }
+    ensures { λ r. ⌜ r ≡ allTo (agesApart (now (s .entry))) 8 ⌝ }
 {
-    ages_apart(s, i) & arrivals_apart(s, i)
+    let x = le::get_u64(s, UNFINISHED) | le::get_u64(s, AGE_KEPT);
+    if x == 0 {
+        return true;
+    }
+    if x & (x - 1) == 0 {
+        return true;
+    }
+    let mut ok = true;
+    let mut i = 0;
+    while i < 8 {
+        ok &= ages_apart(s, i);
+        i += 1;
+    }
+    ok
+}
+
+// Whether no two arrivals of waiters are equal. Where nobody waits, none is looked at.
+fn all_arrivals(s: &[u8]) -> bool
+    requires { ⌜ length (now s) ≡ serverLength ⌝ }
+    ensures { λ r. ⌜ r ≡ allTo (arrivalsApart (now (s .entry))) 8 ⌝ }
+{
+    let wants = le::get_u64(s, WANT);
+    if wants == 0 {
+        return true;
+    }
+    let mut ok = true;
+    let mut i = 0;
+    while i < 8 {
+        ok &= arrivals_apart(s, i);
+        i += 1;
+    }
+    ok
 }
 
 fn all_apart(s: &[u8]) -> bool
     requires { ⌜ length (now s) ≡ serverLength ⌝ }
     ensures { λ r. ⌜ r ≡ allTo (apartOk (now (s .entry))) 8 ⌝ }
 {
-    let mut ok = true;
-    let mut i = 0;
-    while i < 8 {
-        ok &= apart_ok(s, i);
-        i += 1;
-    }
-    ok
+    all_ages(s) & all_arrivals(s)
 }
 
 // False is number 1.

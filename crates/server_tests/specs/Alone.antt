@@ -1,40 +1,28 @@
--- A waiter that wants objects of one page alone: no other page need be looked at. So it is with whoever waits to read or to write.
-use Prim.Native.Nat.{ℕ, zero, suc, _+_, _*_, _/_, _<_}
+-- A waiter that wants objects of one page alone: no other page need be looked at. So it is with whoever waits to read or to write, and
+-- with a commit of one page.
+use Prim.Native.Nat.{ℕ, zero, suc, _+_, _*_, _<_}
 use mathlib.Core.Path.{_≡_, refl, sym, ap, ap₂, _∙_}
 use mathlib.Core.Logic.{_≢_}
-use mathlib.Core.Bool.{Bool, true, false, not, _&&_, cond, or-false}
+use mathlib.Core.Bool.{Bool, false, not, _&&_, or-false}
 use mathlib.Core.List.{List}
 use native.Mathlib.Omega.{arith}
 use lib.Dec.{eqb}
 use lib.Bits.{bitOr, or-zero-l, or-zero-r}
-use borrow.Author.Tests.{ne-eqb}
-use Rattle.sets.specs.Laws.{byB, byEq, eqb-yes, eqb-no, any-no, not-no}
+use Rattle.sets.specs.Laws.{byB, byEq, eqb-yes, eqb-no}
 use Rattle.le.specs.Le.{u64At}
-use Rattle.cells.specs.Loops.{anyTo, any-to, maskTo, mask-same}
-use Rattle.server_state.specs.Layout.{lockFrom, requestOf, wantedOn}
-use Rattle.server_tests.specs.Tests.{earlierB, shutB, shutOutB}
+use Rattle.cells.specs.Loops.{anyTo, maskTo, mask-same}
+use Rattle.station_state.specs.Sets.{or-right}
+use Rattle.server_state.specs.Layout.{lockFrom, readSet, writtenSet, wantedOn}
+use Rattle.server_tests.specs.Tests.{staleOnB, staleB, lockedOnB, lockedB, earlierB, shutB, shutOutB}
 use Rattle.server_tests.specs.Blockers.{joinTo, meetOn, meetSet, aheadB, aheadSet, holdersOn, holderSet, blockersB}
 
--- i wants something of page q, which is not p
-unfoldable pub elsewhereAt : List ℕ → ℕ → ℕ → ℕ → Bool
-elsewhereAt s i p q = not (eqb q p) && not (eqb (wantedOn s i q) 0)
+-- nothing is wanted of a page other than p, where p is one
+unfoldable pub Alone : List ℕ → ℕ → ℕ → Type 0
+Alone s i p = p < 32 → (q : ℕ) → q < 32 → q ≢ p → wantedOn s i q ≡ 0
 
-unfoldable pub elsewhereB : List ℕ → ℕ → ℕ → Bool
-elsewhereB s i p = anyTo (elsewhereAt s i p) 32
-
--- the page of i's request if nothing is wanted elsewhere, else 32
-unfoldable pub aloneB : List ℕ → ℕ → ℕ
-aloneB s i = cond (elsewhereB s i (requestOf s i / 8)) 32 (requestOf s i / 8)
-
--- as the code finds it: x is the request
-module _ (s : List ℕ) (i : ℕ) {x : ℕ} {b : Bool} (h : x ≡ requestOf s i) (e : b ≡ elsewhereB s i (x / 8)) where
-  pub alone-not : b ≡ true → 32 ≡ aloneB s i
-  unfolding aloneB
-  alone-not t = rw (← h, ← e, t) refl
-
-  pub alone-is : b ≡ false → x / 8 ≡ aloneB s i
-  unfolding aloneB
-  alone-is t = rw (← h, ← e, t) refl
+pub alone-none : (s : List ℕ) (i : ℕ) → Alone s i 32
+unfolding Alone
+alone-none s i l = absurd (omega arith)
 
 -- j is an earlier waiter that wants an object of page p that i wants, and one of the two writes it
 unfoldable pub aheadAt : List ℕ → ℕ → ℕ → ℕ → Bool
@@ -81,21 +69,10 @@ any-one f p (suc n) l h =
 
 -- ONE PAGE
 
-module _ (s : List ℕ) (i p : ℕ) (e : p ≡ aloneB s i) (l : p < 32) where
-  -- nothing is wanted of another page
+module _ (s : List ℕ) (i p : ℕ) (e : Alone s i p) (l : p < 32) where
   only : (q : ℕ) → q < 32 → q ≢ p → wantedOn s i q ≡ 0
-  unfolding aloneB elsewhereB elsewhereAt
-  only q k n = byB (elsewhereB s i (requestOf s i / 8)) away here
-    where
-      away : elsewhereB s i (requestOf s i / 8) ≡ true → wantedOn s i q ≡ 0
-      away t = let z : p ≡ 32 = e ∙ rw t refl in absurd (omega (arith, z))
-
-      here : elsewhereB s i (requestOf s i / 8) ≡ false → wantedOn s i q ≡ 0
-      here t =
-          let z : requestOf s i / 8 ≡ p = sym (e ∙ rw t refl) in
-          let none : elsewhereB s i p ≡ false = ap (elsewhereB s i) (sym z) ∙ t in
-          let at : elsewhereAt s i p q ≡ false = any-no 32 (elsewhereAt s i p) (sym (any-to (elsewhereAt s i p) (elsewhereAt s i p) 32 (λ r m. refl)) ∙ none) q k in
-          eqb-yes (wantedOn s i q) 0 (not-no (eqb (wantedOn s i q) 0) (sym (rw (ne-eqb q p n) refl) ∙ at))
+  unfolding Alone
+  only = e l
 
   holders-none : (q : ℕ) → q < 32 → q ≢ p → holdersOn s i q ≡ 0
   unfolding holdersOn
@@ -120,3 +97,19 @@ module _ (s : List ℕ) (i p : ℕ) (e : p ≡ aloneB s i) (l : p < 32) where
   pub shut-alone : shutB s i p ≡ shutOutB s i
   unfolding shutOutB
   shut-alone = sym (any-one (shutB s i) p 32 l shut-none)
+
+  stale-none : (q : ℕ) → q < 32 → q ≢ p → staleOnB s i q ≡ false
+  unfolding staleOnB
+  stale-none q k n = rw (only q k n)
+
+  pub stale-alone : staleOnB s i p ≡ staleB s i
+  unfolding staleB
+  stale-alone = sym (any-one (staleOnB s i) p 32 l stale-none)
+
+  locked-none : (q : ℕ) → q < 32 → q ≢ p → lockedOnB s i q ≡ false
+  unfolding lockedOnB
+  locked-none q k n = rw (or-right (readSet s i q) (writtenSet s i q) (only q k n))
+
+  pub locked-alone : lockedOnB s i p ≡ lockedB s i
+  unfolding lockedB
+  locked-alone = sym (any-one (lockedOnB s i) p 32 l locked-none)

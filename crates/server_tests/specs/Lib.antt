@@ -4,5 +4,6 @@ pub mod Tests
 pub mod Blockers
 pub mod Shorter
 pub mod Alone
+pub mod Words
 pub mod Members
 pub mod Groups

@@ -1,6 +1,6 @@
 // What the server asks of its state: number 6, the gates of the pass, who blocks a waiter.
 ghost use mathlib.Core.Path.{_≡_};
-ghost use mathlib.Core.Bool.{cond};
+ghost use mathlib.Core.Bool.{true, false, cond};
 ghost use mathlib.Core.Logic.{_≢_};
 ghost use Prim.Native.Nat.{_+_, _*_, _/_, _^_, _≤_, _<_};
 ghost use lib.ListN.{length, getD};
@@ -11,9 +11,10 @@ ghost use Rattle.server_state.specs.Layout.{serverLength, versionRow, wholeOf, 
 ghost use Rattle.server_tests.specs.Kinds.{ForServer};
 ghost use Rattle.server_tests.specs.Tests.{lockAtB, lockOnB, badNumberB, unlockedAt, unlockedB, dropsLockedB, dropsOwnB, aboveOpenB, unexpectedB, openCallB, openAskB, otherVersion, staleAtB, staleOnB, staleB, lockedAtB, lockedOnB, lockedB, faultB, earlierB, shutB, shutOutB, dueB, unavailableAt, unavailableB};
 ghost use Rattle.server_tests.specs.Shorter.{writtenBy};
-ghost use Rattle.server_tests.specs.Alone.{elsewhereAt, elsewhereB, aloneB, aheadAt, aheadOn};
+ghost use Rattle.server_tests.specs.Alone.{Alone, aheadAt, aheadOn};
 ghost use Rattle.server_tests.specs.Blockers.{joinTo, meetOn, meetSet, aheadB, aheadSet, holderAt, holdersOn, holderSet, blockersB};
 ghost use Rattle.server_tests.specs.Groups.{idleIn, staleIn, lockedIn, holdersIn};
+ghost use Rattle.server_tests.specs.Words.{wantedIn, OnlyIn};
 use server_state::LOCK;
 use server_state::READ_SET;
 use server_state::READ_VERSION;
@@ -323,18 +324,39 @@ fn locked(s: &[u8], i: usize) -> bool
     r
 }
 
-// The cause that ends i's validating commit, 0 for none.
-pub fn fault(s: &[u8], i: usize) -> u8
-    requires { ⌜ (length (now s) ≡ serverLength) × (i < 8) ⌝ }
+// The two, asked of page p alone where it has all that i wants.
+fn stale_by(s: &[u8], i: usize, p: usize) -> bool
+    requires { ⌜ (length (now s) ≡ serverLength) × (i < 8) × Alone (now s) i p ⌝ }
+    ensures { λ r. ⌜ r ≡ staleB (now (s .entry)) i ⌝ }
+{
+    if p < 32 {
+        return stale_on(s, i, p);
+    }
+    stale(s, i)
+}
+
+fn locked_by(s: &[u8], i: usize, p: usize) -> bool
+    requires { ⌜ (length (now s) ≡ serverLength) × (i < 8) × Alone (now s) i p ⌝ }
+    ensures { λ r. ⌜ r ≡ lockedB (now (s .entry)) i ⌝ }
+{
+    if p < 32 {
+        return locked_on(s, i, p);
+    }
+    locked(s, i)
+}
+
+// The cause that ends i's validating commit, 0 for none; p is the page that has all that it wants, 32 for none.
+pub fn fault(s: &[u8], i: usize, p: usize) -> u8
+    requires { ⌜ (length (now s) ≡ serverLength) × (i < 8) × Alone (now s) i p ⌝ }
     ensures { λ r. ⌜ r ≡ faultB (now (s .entry)) i ⌝ }
 {
     if server_state::last(s) == 4294967295 {
         return 4;
     }
-    if stale(s, i) {
+    if stale_by(s, i, p) {
         return 2;
     }
-    if locked(s, i) {
+    if locked_by(s, i, p) {
         return 3;
     }
     0
@@ -461,33 +483,57 @@ pub fn blockers(s: &[u8], i: usize) -> u8
     holder_set(s, i) | ahead_set(s, i)
 }
 
-fn elsewhere_at(s: &[u8], i: usize, p: usize, q: usize) -> bool
-    requires { ⌜ (length (now s) ≡ serverLength) × (i < 8) × (q < 32) ⌝ }
-    ensures { λ r. ⌜ r ≡ elsewhereAt (now (s .entry)) i p q ⌝ }
+// What i wants of the eight pages of group g, as a word.
+fn wanted_in(s: &[u8], i: usize, g: usize) -> u64
+    requires { ⌜ (length (now s) ≡ serverLength) × (i < 8) × (g < 4) ⌝ }
+    ensures { λ r. ⌜ r ≡ wantedIn (now (s .entry)) i g ⌝ }
 {
-    (q != p) & (wanted(s, i, q) != 0)
+    le::get_u64(s, READ_SET + i * SET_ROW + g * GROUP)
+        | le::get_u64(s, WRITTEN_SET + i * SET_ROW + g * GROUP)
+}
+
+// A page that i wants something of, any where it wants nothing. That it is a page is all that is known: `elsewhere` tests it.
+fn some_page(s: &[u8], i: usize) -> usize
+    requires { ⌜ (length (now s) ≡ serverLength) × (i < 8) ⌝ }
+    ensures { λ r. ⌜ r < 32 ⌝ }
+{
+    let mut g = 0;
+    while g < 4 {
+        let w = wanted_in(s, i, g);
+        if w != 0 {
+            return g * GROUP + station_state::lowest64(w) / OBJECTS;
+        }
+        g += 1;
+    }
+    0
+}
+
+// Whether i wants nothing of the pages of group g but of p.
+fn only_on(s: &[u8], i: usize, g: usize, p: usize) -> bool
+    requires { ⌜ (length (now s) ≡ serverLength) × (i < 8) × (g < 4) × (p < 32) ⌝ }
+    ensures { λ r. ⌜ (r ≡ true → OnlyIn (now (s .entry)) i g p) ⌝ }
+{
+    let w = wanted_in(s, i, g);
+    if g == p / GROUP {
+        return w == le::long(le::wide(wanted(s, i, p))) << (p % GROUP * OBJECTS);
+    }
+    w == 0
 }
 
 // Whether i wants something of a page other than p.
 fn elsewhere(s: &[u8], i: usize, p: usize) -> bool
-    requires { ⌜ (length (now s) ≡ serverLength) × (i < 8) ⌝ }
-    ensures { λ r. ⌜ r ≡ elsewhereB (now (s .entry)) i p ⌝ }
+    requires { ⌜ (length (now s) ≡ serverLength) × (i < 8) × (p < 32) ⌝ }
+    ensures { λ r. ⌜ (r ≡ false → Alone (now (s .entry)) i p) ⌝ }
 {
-    let mut r = false;
-    let mut q = 0;
-    while q < 32 {
-        r |= elsewhere_at(s, i, p, q);
-        q += 1;
-    }
-    r
+    !(only_on(s, i, 0, p) & only_on(s, i, 1, p) & only_on(s, i, 2, p) & only_on(s, i, 3, p))
 }
 
-// The page that has all that i wants, 32 where it is not that of the request.
+// The page that has all that i wants, 32 where there is none.
 pub fn page_alone(s: &[u8], i: usize) -> usize
     requires { ⌜ (length (now s) ≡ serverLength) × (i < 8) ⌝ }
-    ensures { λ r. ⌜ r ≡ aloneB (now (s .entry)) i ⌝ }
+    ensures { λ r. ⌜ (r ≤ 32) × Alone (now (s .entry)) i r ⌝ }
 {
-    let p = server_state::request(s, i) as usize / OBJECTS;
+    let p = some_page(s, i);
     if elsewhere(s, i, p) {
         return 32;
     }
@@ -523,7 +569,7 @@ fn ahead_on(s: &[u8], i: usize, p: usize) -> u8
 
 // The stations that block i; p is the page that has all that it wants, 32 for none.
 pub fn blockers_by(s: &[u8], i: usize, p: usize) -> u8
-    requires { ⌜ (length (now s) ≡ serverLength) × (i < 8) × (p ≡ aloneB (now s) i) ⌝ }
+    requires { ⌜ (length (now s) ≡ serverLength) × (i < 8) × Alone (now s) i p ⌝ }
     ensures { λ r. ⌜ r ≡ blockersB (now (s .entry)) i ⌝ }
 {
     if p < 32 {
@@ -568,7 +614,7 @@ pub fn shut_out(s: &[u8], i: usize) -> bool
 
 // .. asked of the page that has all that i wants, 32 for none.
 pub fn shut_out_by(s: &[u8], i: usize, p: usize) -> bool
-    requires { ⌜ (length (now s) ≡ serverLength) × (i < 8) × (p ≡ aloneB (now s) i) ⌝ }
+    requires { ⌜ (length (now s) ≡ serverLength) × (i < 8) × Alone (now s) i p ⌝ }
     ensures { λ r. ⌜ r ≡ shutOutB (now (s .entry)) i ⌝ }
 {
     if p < 32 {

@@ -6,6 +6,7 @@ ghost use Prim.Native.Nat.{_+_, _-_, _*_, _≤_, _<_};
 ghost use lib.ListN.{length};
 ghost use Rattle.server_state.specs.Layout.{serverLength, wholeOf, wantOf, requestOf, lastOf};
 ghost use Rattle.server_tests.specs.Tests.{faultB, shutOutB};
+ghost use Rattle.server_tests.specs.Alone.{Alone};
 ghost use Rattle.server_tests.specs.Blockers.{blockersB};
 ghost use Rattle.server_actions.specs.Posting.{from, posted, post, Room};
 ghost use Rattle.server_actions.specs.Pass.{askB, askTo, serveReadB, callOneB, callTo, callB, callOnceB, grantPageB, grantObjectB, grantB, afterCallsB, proceedB, gatesB, judgeB, askKeepersB, visitB};
@@ -234,7 +235,7 @@ fn judge(
     c
 }
 
-// A commit's turn: 19s to keeping holders go ahead of cause 3, not of the others.
+// A commit's turn: 19s to keeping holders go ahead of cause 3, not of the others. p is the page that has all that it wants, 32 for none.
 fn visit_commit(
     s: &mut [u8],
     o: &mut [u8],
@@ -243,11 +244,12 @@ fn visit_commit(
     i: usize,
     b: u8,
     x: bool,
+    p: usize,
 ) -> Counts
-    requires { ⌜ (length (now s) ≡ serverLength) × (i < 8) × Held (now s) × (b ≡ blockersB (now s) i) × (x ≡ shutOutB (now s) i) × Room (now o) (now q) c (visitCommitB i (from (now s))) ⌝ }
+    requires { ⌜ (length (now s) ≡ serverLength) × (i < 8) × Held (now s) × (b ≡ blockersB (now s) i) × (x ≡ shutOutB (now s) i) × Room (now o) (now q) c (visitCommitB i (from (now s))) × Alone (now s) i p ⌝ }
     ensures { λ r. ⌜ posted (now (s .exit)) (now (o .exit)) (now (q .exit)) r ≡ post (now (o .entry)) (now (q .entry)) c (visitCommitB i (from (now (s .entry)))) ⌝ }
 {
-    let cause = server_tests::fault(s, i);
+    let cause = server_tests::fault(s, i, p);
     if (cause == 2) | (cause == 4) {
         return server_actions::abort(s, o, q, c, i, cause);
     }
@@ -276,7 +278,8 @@ fn visit_request(
     gates(s, o, q, d, i, w, x)
 }
 
-// Station i's turn, if it waits. b is who blocks it, x whether a page that it wants is another's whole: the pass asks for both once.
+// Station i's turn, if it waits. b is who blocks it, x whether a page that it wants is another's whole, p the page that has
+// all that it wants, 32 for none: the pass asks for them once.
 pub fn visit(
     s: &mut [u8],
     o: &mut [u8],
@@ -285,8 +288,9 @@ pub fn visit(
     i: usize,
     b: u8,
     x: bool,
+    p: usize,
 ) -> Counts
-    requires { ⌜ (length (now s) ≡ serverLength) × (i < 8) × Held (now s) × (wantOf (now s) i ≤ 3) × (b ≡ blockersB (now s) i) × (x ≡ shutOutB (now s) i) × Room (now o) (now q) c (visitB i (from (now s))) ⌝ }
+    requires { ⌜ (length (now s) ≡ serverLength) × (i < 8) × Held (now s) × (wantOf (now s) i ≤ 3) × (b ≡ blockersB (now s) i) × (x ≡ shutOutB (now s) i) × Room (now o) (now q) c (visitB i (from (now s))) × Alone (now s) i p ⌝ }
     ensures { λ r. ⌜ posted (now (s .exit)) (now (o .exit)) (now (q .exit)) r ≡ post (now (o .entry)) (now (q .entry)) c (visitB i (from (now (s .entry)))) ⌝ }
 {
     let w = server_state::want(s, i);
@@ -294,7 +298,7 @@ pub fn visit(
         return c;
     }
     if w == 3 {
-        return visit_commit(s, o, q, c, i, b, x);
+        return visit_commit(s, o, q, c, i, b, x, p);
     }
     visit_request(s, o, q, c, i, w, b, x)
 }

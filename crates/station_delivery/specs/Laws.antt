@@ -5,13 +5,18 @@ use mathlib.Core.Logic.{_≢_}
 use mathlib.Core.Bool.{Bool, true, false, not, _&&_}
 use mathlib.Core.List.{List, []}
 use native.Mathlib.Omega.{arith}
+use lib.Bits.{and-zero-r}
+use lib.ListN.{getD}
 use lib.Seq.{sets}
 use lib.Dec.{eqb}
 use borrow.Author.Tests.{eq-eqb, ne-eqb}
 use Rattle.message.specs.Layout.{setsFrom, pageOf, requesterOf, causeOf, transactionOf, versionOf, upMessage}
-use Rattle.station_state.specs.Layout.{copyOf, station, wait, address, waitingSet}
+use Rattle.cells.specs.Loops.{any-to}
+use Rattle.station_state.specs.Layout.{readSetFrom, writtenSetFrom, copyOf, station, wait, address, waitingSet}
+use Rattle.station_state.specs.Facts.{Closed}
+use Rattle.station_state.specs.Sets.{row-bytes}
 use Rattle.station_state.specs.Changes.{recordReadB, writeAllB, waitingValues, keepB}
-use Rattle.station_pages.specs.Pages.{inUseB, markB, versionsB}
+use Rattle.station_pages.specs.Pages.{usesB, inUseB, markB, versionsB}
 use Rattle.station_callbacks.specs.Callbacks.{sends, setsAt, doCallbackB, closeB, undoB, flat, posted, callbackPosted, closePosted}
 use Rattle.station_callbacks.specs.Posting.{call-post, close-post}
 use Rattle.station_answer.specs.declared.Answer.{Answer}
@@ -24,10 +29,14 @@ use Rattle.station_delivery.specs.Delivery.{endedB, arrivedB, answerWait
 below : (k n : ℕ) → k < n + 1 → k ≢ n → k < n
 below k n h e = omega (arith, e)
 
--- each kind has an arm: behind these there is none
+-- kinds from 19 on have an arm each: what is left are the three that bring a page
+pub page-left : (k : ℕ) → (16 ≤ k) × (k < 24) → k ≢ 19 → k ≢ 20 → k ≢ 21 → k ≢ 22 → k ≢ 23 → k < 19
+page-left k h d e f g i = below k 19 (below k 20 (below k 21 (below k 22 (below k 23 (h .1) i) g) f) e) d
+
+-- .. and with an arm each nothing is
 pub no-other : (k : ℕ) → (16 ≤ k) × (k < 24) → k ≢ 16 → k ≢ 17 → k ≢ 18 → k ≢ 19 → k ≢ 20 → k ≢ 21 → k ≢ 22 → k ≢ 23 → ⊥
 no-other k h a b c d e f g i =
-    let l : k < 16 = below k 16 (below k 17 (below k 18 (below k 19 (below k 20 (below k 21 (below k 22 (below k 23 (h .1) i) g) f) e) d) c) b) a in
+    let l : k < 16 = below k 16 (below k 17 (below k 18 (page-left k h d e f g i) c) b) a in
     omega arith
 
 -- the messages of a callback done; those of a transaction's end
@@ -80,6 +89,15 @@ module _ (m s o : List ℕ) {t : ℕ} {b : Bool} where
   unfolding onCallbackB
   callback-done s₁ p k et eb h e ey = rw (← et, ← eb, h) (done-sent (station s) (requesterOf m) _ _ s o _ s₁ p k e ey)
 
+-- of a station at rest nothing is in use
+pub closed-unused : (x s : List ℕ) → Closed s → false ≡ (inUseB x s && not (eqb (wait s) 3))
+unfolding inUseB usesB
+closed-unused x s c =
+    let none : (p : ℕ) → p < 32 → usesB x s p ≡ false =
+    λ p l. rw (row-bytes s readSetFrom (c .nothing-read) p l, row-bytes s writtenSetFrom (c .nothing-written) p l, and-zero-r (getD x p 0)) refl
+    in
+    rw (any-to (usesB x s) (λ p. false) 32 none) refl
+
 module _ (m s o : List ℕ) where
   pub deescalate-sent : {x t : ℕ} {s₁ p : List ℕ} {y : Said} → x ≡ writtenOnB m s → t ≡ answersForB m s
       → p ≡ sets o 0 (upMessage 8 (station s) (pageOf m) 0 t 0 x) → s₁ ≡ loosenedB m s → y ≡ said Nothing 1 0
@@ -97,12 +115,13 @@ module _ (m s o : List ℕ) where
   unfolding onAbortedB
   aborted-sent s₂ p k en es e ey = rw (← en, ← es) (close-sent (station s) _ o _ s₂ p k e ey)
 
-  module _ {b : Bool} {s₁ : List ℕ} (eb : b ≡ inUseB (setsAt m setsFrom) s) (es : s₁ ≡ markB (setsAt m setsFrom) s) where
-    pub invalidate-ends : {s₂ : List ℕ} (s₃ p : List ℕ) (k : ℕ) {y : Said} → b && not (eqb (wait s) 3) ≡ true → s₂ ≡ undoB s₁
+  -- b: the transaction ends
+  module _ {b : Bool} {s₁ : List ℕ} (eb : b ≡ (inUseB (setsAt m setsFrom) s && not (eqb (wait s) 3))) (es : s₁ ≡ markB (setsAt m setsFrom) s) where
+    pub invalidate-ends : {s₂ : List ℕ} (s₃ p : List ℕ) (k : ℕ) {y : Said} → b ≡ true → s₂ ≡ undoB s₁
         → posted s₃ p k ≡ closePosted (station s) s₂ o 0 → y ≡ said (Aborted 2) k 0 → delivered s₃ p y ≡ handed o (onInvalidateB m s)
     unfolding onInvalidateB
     invalidate-ends s₃ p k h eu e ey = rw (← eb, h, ← es, ← eu) (close-sent (station s) _ o _ s₃ p k e ey)
 
-    pub invalidate-marks : {y : Said} → b && not (eqb (wait s) 3) ≡ false → y ≡ said Nothing 0 0 → delivered s₁ o y ≡ handed o (onInvalidateB m s)
+    pub invalidate-marks : {y : Said} → b ≡ false → y ≡ said Nothing 0 0 → delivered s₁ o y ≡ handed o (onInvalidateB m s)
     unfolding onInvalidateB
     invalidate-marks h ey = rw (← eb, h, ← es) (hand-none o _ _ refl ey)

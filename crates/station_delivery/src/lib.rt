@@ -1,11 +1,14 @@
 // What a station does with each message from the server.
 ghost use mathlib.Core.Path.{_≡_};
 ghost use mathlib.Core.List.{List};
+ghost use mathlib.Core.Bool.{not, _&&_};
+ghost use lib.Dec.{eqb};
 ghost use Prim.Native.Nat.{_+_, _*_, _≤_, _<_};
 ghost use lib.ListN.{length};
 ghost use Rattle.station_answer.specs.Did.{delivered, handed};
-ghost use Rattle.station_delivery.specs.Delivery.{ForStations, Named, liveB, endedB, forReadOf, forWriteOn, forWriteOf, fitsPageB, fitsLockB, fitsCommittedB, fitsAbortedB, fitsB, takeLockB, arrivedB, answerWaitB, onPageB, answersForB, writtenOnB, givesUpB, loosenedB, onDeescalateB, onCallbackB, onCommittedB, onAbortedB, onInvalidateB, onDownB};
-ghost use Rattle.station_state.specs.Layout.{stateLength, station as Layout·station};
+ghost use Rattle.station_delivery.specs.Delivery.{ForStations, Named, Settled, liveB, endedB, forReadOf, forWriteOn, forWriteOf, fitsPageB, fitsLockB, fitsCommittedB, fitsAbortedB, fitsB, takeLockB, arrivedB, answerWaitB, onPageB, answersForB, writtenOnB, givesUpB, loosenedB, onDeescalateB, onCallbackB, onCommittedB, onAbortedB, onInvalidateB, onDownB};
+ghost use Rattle.station_state.specs.Layout.{stateLength, setRow, station as Layout·station, wait};
+ghost use Rattle.station_pages.specs.Pages.{inUseB};
 ghost use Rattle.message.specs.Layout.{messageLength, pageOf};
 ghost use Rattle.message.specs.Commit.{stationRoom};
 use station_answer::Answer;
@@ -278,16 +281,27 @@ fn on_aborted(s: &mut [u8], m: &[u8], o: &mut [u8]) -> Said
     station_answer::say(Answer::Aborted(le::wide(message::object(m))), k)
 }
 
+// Whether a 23 with these sets ends the transaction. A station at rest has used nothing.
+fn ends(sets: &[u8], s: &[u8]) -> bool
+    requires { ⌜ (length (now s) ≡ stateLength) × (setRow ≤ length (now sets)) × Settled (now s) ⌝ }
+    ensures { λ r. ⌜ r ≡ (inUseB (now (sets .entry)) (now (s .entry)) && not (eqb (wait (now (s .entry))) 3)) ⌝ }
+{
+    if station_state::opened(s) == 0 {
+        return false;
+    }
+    station_pages::in_use(sets, s) & !(station_state::wait(s) == 3)
+}
+
 // On 23.
 fn on_invalidate(s: &mut [u8], m: &[u8], o: &mut [u8]) -> Said
-    requires { ⌜ (length (now s) ≡ stateLength) × (messageLength ≤ length (now m)) × (stationRoom ≤ length (now o)) × (Layout·station (now s) ≤ 7) ⌝ }
+    requires { ⌜ (length (now s) ≡ stateLength) × (messageLength ≤ length (now m)) × (stationRoom ≤ length (now o)) × (Layout·station (now s) ≤ 7) × Settled (now s) ⌝ }
     ensures { λ r. ⌜ delivered (now (s .exit)) (now (o .exit)) r ≡ handed (now (o .entry)) (onInvalidateB (now (m .entry)) (now (s .entry))) ⌝ }
 {
     let i = station_state::station(s);
     let x = &m[message::SETS..message::VALUES];
-    let ends = station_pages::in_use(x, s) & !(station_state::wait(s) == 3);
+    let over = ends(x, s);
     station_pages::mark(s, x);
-    if ends {
+    if over {
         station_callbacks::undo(s);
         let k = station_callbacks::close(s, o, 0, i);
         return station_answer::say(Answer::Aborted(2), k);
@@ -297,13 +311,11 @@ fn on_invalidate(s: &mut [u8], m: &[u8], o: &mut [u8]) -> Said
 
 // Takes a message that fits: what the owner is told, and the messages sent.
 pub fn on_down(s: &mut [u8], m: &[u8], o: &mut [u8]) -> Said
-    requires { ⌜ (length (now s) ≡ stateLength) × (messageLength ≤ length (now m)) × (stationRoom ≤ length (now o)) × (Layout·station (now s) ≤ 7) × Named (now m) ⌝ }
+    requires { ⌜ (length (now s) ≡ stateLength) × (messageLength ≤ length (now m)) × (stationRoom ≤ length (now o)) × (Layout·station (now s) ≤ 7) × Named (now m) × Settled (now s) ⌝ }
     ensures { λ r. ⌜ delivered (now (s .exit)) (now (o .exit)) r ≡ handed (now (o .entry)) (onDownB (now (m .entry)) (now (s .entry))) ⌝ }
 {
     match message::kind(m) {
-        16 => on_page(s, m, o),
-        17 => on_page(s, m, o),
-        18 => on_page(s, m, o),
+        16..=18 => on_page(s, m, o),
         19 => on_deescalate(s, m, o),
         20 => on_callback(s, m, o),
         21 => on_committed(s, m, o),

@@ -1,4 +1,4 @@
--- Eight pages at a time: a group on which nothing is written, or nothing is named, is passed over.
+-- Eight pages at a time: a group of which nothing is named is passed over.
 use Prim.Native.Nat.{ℕ, zero, suc, _+_, _*_, _^_, _<_}
 use mathlib.Core.Path.{_≡_, refl, sym, ap, _∙_}
 use mathlib.Core.Bool.{Bool, false, cond, and-false, or-assoc}
@@ -11,10 +11,10 @@ use Rattle.le.specs.Le.{u64At}
 use Rattle.sets.specs.Laws.{byB}
 use Rattle.cells.specs.Bits.{tb, tb-or, tb-tells}
 use Rattle.cells.specs.Loops.{maskTo}
-use Rattle.station_state.specs.Layout.{unavailableFrom, writtenSetFrom, hasBit, cached, unavailable}
+use Rattle.station_state.specs.Layout.{unavailableFrom, hasBit, cached, unavailable}
 use Rattle.station_state.specs.Runs.{run, run-idle}
 use Rattle.station_state.specs.Sets.{eight-bytes}
-use Rattle.station_pages.specs.Pages.{wrotePageB, dropsB, markOneB, markTo, versionPageB, versionsTo}
+use Rattle.station_pages.specs.Pages.{dropsB, markOneB, markTo}
 
 -- CHANGES OF A STATE
 
@@ -26,21 +26,9 @@ run-is f to h (suc m) =
     let place : 0 + m ≡ m = omega arith in
     ap (λ (t : List ℕ). f t (0 + m)) (run-is f to h m) ∙ ap (f (to m)) place ∙ sym (h m)
 
-pub versions-run : (n : ℕ) (s : List ℕ) (m : ℕ) → run (versionPageB n) s 0 m ≡ versionsTo n s m
-unfolding versionsTo
-versions-run n s = run-is (versionPageB n) (versionsTo n s) (λ k. refl)
-
 pub mark-run : (sets s : List ℕ) (m : ℕ) → run (markOneB sets) s 0 m ≡ markTo sets s m
 unfolding markTo
 mark-run sets s = run-is (markOneB sets) (markTo sets s) (λ k. refl)
-
-pub none-written : (n g : ℕ) (s : List ℕ) → u64At s (writtenSetFrom + g * 8) ≡ 0 → s ≡ run (versionPageB n) s (g * 8) 8
-unfolding versionPageB wrotePageB
-none-written n g s e =
-    run-idle (versionPageB n) s (g * 8) 8
-    (λ k l.
-    let at : writtenSetFrom + (g * 8 + k) ≡ writtenSetFrom + g * 8 + k = omega arith in
-    rw (at, eight-bytes s (writtenSetFrom + g * 8) k l e, and-false (hasBit (cached s) (g * 8 + k))) refl)
 
 -- a page of which nothing is named
 mark-none : (sets s : List ℕ) (p : ℕ) → getD sets p 0 ≡ 0 → markOneB sets s p ≡ s

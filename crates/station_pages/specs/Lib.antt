@@ -2,3 +2,4 @@
 pub mod Pages
 pub mod Groups
 pub mod Drops
+pub mod Versions

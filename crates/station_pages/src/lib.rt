@@ -3,7 +3,8 @@ ghost use mathlib.Core.Path.{_≡_};
 ghost use mathlib.Core.Bool.{cond};
 ghost use Prim.Native.Nat.{_+_, _*_, _≤_, _<_, _^_};
 ghost use lib.ListN.{length};
-ghost use Rattle.station_pages.specs.Pages.{usedPageB, wrotePageB, usedPagesB, writtenPagesB, usesB, inUseB, dropsB, droppedB, blankTo, unversionTo, dropPageB, dropPagesB, markOneB, markB, arrivesB, arriveTo, arriveVersionsTo, arriveB, versionOneB, versionOnTo, versionPageB, versionsB};
+ghost use Rattle.station_pages.specs.Pages.{usedPageB, wrotePageB, usedPagesB, writtenPagesB, usesB, inUseB, dropsB, droppedB, blankTo, unversionTo, dropPageB, dropPagesB, markOneB, markB, arrivesB, arriveTo, arriveVersionsTo, arriveB, versionsB};
+ghost use Rattle.station_pages.specs.Versions.{versionAtB, versionIfB};
 ghost use Rattle.station_pages.specs.Groups.{maskFrom};
 ghost use Rattle.station_state.specs.Layout.{setRow, stateLength};
 ghost use Rattle.station_state.specs.Runs.{run};
@@ -265,49 +266,26 @@ pub fn arrive(s: &mut [u8], m: &[u8], p: usize)
     station_state::page_on(s, CACHED, p);
 }
 
-fn version_one(s: &mut [u8], n: u32, p: usize, o: usize)
-    requires { ⌜ (length (now s) ≡ stateLength) × (p < 32) × (o < 8) ⌝ }
-    ensures { λ _. ⌜ now (s .exit) ≡ versionOneB n (now (s .entry)) p o ⌝ }
+// Address a takes version n, if its page is cached.
+fn version_at(s: &mut [u8], n: u32, a: usize)
+    requires { ⌜ (length (now s) ≡ stateLength) × (a < 256) ⌝ }
+    ensures { λ _. ⌜ now (s .exit) ≡ versionAtB n (now (s .entry)) a ⌝ }
 {
-    if station_state::has_bit8(station_state::written_set(s, p), o) {
-        le::put_u32(s, VERSIONS + (p * OBJECTS + o) * NUMBER_WIDTH, n);
+    if station_state::has_bit32(station_state::cached(s), a / 8) {
+        le::put_u32(s, VERSIONS + a * NUMBER_WIDTH, n);
         return;
     }
 }
 
-fn version_on(s: &mut [u8], n: u32, p: usize)
-    requires { ⌜ (length (now s) ≡ stateLength) × (p < 32) ⌝ }
-    ensures { λ _. ⌜ now (s .exit) ≡ versionOnTo n (now (s .entry)) p 8 ⌝ }
-{
-    let mut o = 0;
-    while o < 8 {
-        version_one(s, n, p, o);
-        o += 1;
-    }
-}
-
-fn version_page(s: &mut [u8], n: u32, p: usize)
-    requires { ⌜ (length (now s) ≡ stateLength) × (p < 32) ⌝ }
-    ensures { λ _. ⌜ now (s .exit) ≡ versionPageB n (now (s .entry)) p ⌝ }
-{
-    if station_state::has_bit32(station_state::cached(s), p) & wrote_page(s, p) {
-        version_on(s, n, p);
-        return;
-    }
-}
-
-// Eight pages; where nothing is written none is looked at.
+// The written addresses of eight pages, the lowest first.
 fn version_group(s: &mut [u8], n: u32, g: usize)
     requires { ⌜ (length (now s) ≡ stateLength) × (g < 4) ⌝ }
-    ensures { λ _. ⌜ now (s .exit) ≡ run (versionPageB n) (now (s .entry)) (g * 8) 8 ⌝ }
+    ensures { λ _. ⌜ now (s .exit) ≡ run (versionIfB n) (now (s .entry)) (g * 64) 64 ⌝ }
 {
-    if le::get_u64(s, WRITTEN_SET + g * GROUP) == 0 {
-        return;
-    }
-    let mut p = 0;
-    while p < 8 {
-        version_page(s, n, g * GROUP + p);
-        p += 1;
+    let mut x = le::get_u64(s, WRITTEN_SET + g * GROUP);
+    while x != 0 {
+        version_at(s, n, g * 64 + station_state::lowest64(x));
+        x &= x - 1;
     }
 }
 

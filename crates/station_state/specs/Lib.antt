@@ -6,3 +6,4 @@ pub mod Stores
 pub mod Facts
 pub mod Sets
 pub mod Runs
+pub mod Few

@@ -15,7 +15,7 @@ use Rattle.lists.specs.Tests.{and-l, and-r}
 use Rattle.sets.specs.Size.{size, size-join, size-same, size-most}
 use Rattle.le.specs.Le.{u32At, u64At}
 use Rattle.le.specs.Width.{numAt}
-use Rattle.le.specs.Laws.{u64At-is}
+use Rattle.le.specs.Laws.{u64At-is, zero-bytes, bytes-zero}
 use Rattle.cells.specs.Num.{AllBytes, num-lt}
 use Rattle.cells.specs.Bits.{tb, tb-zero, tb-test, tb-tells}
 use Rattle.cells.specs.Loops.{ones-size}
@@ -240,25 +240,6 @@ pub each-over : (s : List ℕ) (at n : ℕ) → ((k : ℕ) → k < n → getD s 
 unfolding over
 each-over s at zero e = refl
 each-over s at (suc n) e = rw (each-over s at n (λ k l. e k (omega arith)), e n (omega arith)) refl
-
--- the bytes of a number that is 0, and back
-zero-bytes : (n : ℕ) (s : List ℕ) (at : ℕ) → numAt n s at ≡ 0 → (k : ℕ) → k < n → getD s (at + k) 0 ≡ 0
-unfolding numAt
-zero-bytes zero s at e k l = absurd (omega arith)
-zero-bytes (suc n) s at e zero l = let here : at + 0 ≡ at = omega arith in rw here (omega arith)
-zero-bytes (suc n) s at e (suc k) l =
-    let there : at + suc k ≡ suc at + k = omega arith in
-    rw there (zero-bytes n s (suc at) (omega arith) k (omega arith))
-
-bytes-zero : (n : ℕ) (s : List ℕ) (at : ℕ) → ((k : ℕ) → k < n → getD s (at + k) 0 ≡ 0) → numAt n s at ≡ 0
-unfolding numAt
-bytes-zero zero s at e = refl
-bytes-zero (suc n) s at e =
-    let here : at + 0 ≡ at = omega arith in
-    let first : getD s at 0 ≡ 0 = rw here at (e 0 (omega arith)) in
-    let rest : numAt n s (suc at) ≡ 0 =
-    bytes-zero n s (suc at) (λ k l. let there : suc at + k ≡ at + suc k = omega arith in rw there (e (suc k) (omega arith))) in
-    omega (arith, first, rest)
 
 -- eight bytes at once
 pub eight-bytes : (s : List ℕ) (at k : ℕ) → k < 8 → u64At s at ≡ 0 → getD s (at + k) 0 ≡ 0

@@ -10,6 +10,7 @@ ghost use Rattle.station_state.specs.Layout.{pageSetWidth, setRow, state
 ghost use Rattle.station_state.specs.Valid.{fieldsOk, ownKept, firstOk, setOk, outOk, fewIn, fewWritten, limitedOk, worksOk, locklessOk, holdsOk, valid as Valid·valid, freshened, freshOf, restsOk};
 ghost use Rattle.station_state.specs.Changes.{addTo, pageOn, pageOff, clearTo, copyTo, beginB, recordReadB, usedB, firstUseB, writeLocalB, writeObjectB, writeAllB, idleB, forReadB, waitObjectB, waitAllB, forWriteB, waitingValues, forCommitB, lockWaitingB, loosenB, keepB, unkeepB, unwholeB, closedB};
 ghost use Rattle.station_state.specs.Sets.{joined as Sets·joined, over as Sets·over};
+ghost use Rattle.station_state.specs.Few.{rest as Few·rest};
 
 // Widths: of a value, of a transaction's number or a version, of a page set. An object set has one byte.
 pub const VALUE_WIDTH: usize = 8;
@@ -252,6 +253,16 @@ pub fn lowest64(x: u64) -> usize
     u64::trailing_zeros(x) as usize
 }
 
+// A set without its lowest member, if it has one.
+fn rest(x: u64) -> u64
+    ensures { λ r. ⌜ r ≡ Few·rest x ⌝ }
+{
+    if x == 0 {
+        return 0;
+    }
+    x & (x - 1)
+}
+
 // Whether the object sets from `at` have the address a.
 pub fn member(s: &[u8], at: usize, a: usize) -> bool
     requires { ⌜ (at + setRow ≤ length (now s)) × (a < 256) ⌝ }
@@ -407,11 +418,16 @@ fn few_written(s: &[u8]) -> bool
     count_in(s, WRITTEN_SET) <= limits::LIMIT
 }
 
-// Whether the transaction is within the limit.
+// Whether the transaction is within the limit. One with at most three members, all words of its sets laid over each other, is not
+// counted.
 fn limited_ok(s: &[u8]) -> bool
     requires { ⌜ length (now s) ≡ stateLength ⌝ }
     ensures { λ r. ⌜ r ≡ limitedOk (now (s .entry)) ⌝ }
 {
+    let x = joined(s, READ_SET) | joined(s, WRITTEN_SET);
+    if rest(rest(rest(x))) == 0 {
+        return true;
+    }
     few_in(s, READ_SET, wait(s) == 1) & few_written(s)
 }
 

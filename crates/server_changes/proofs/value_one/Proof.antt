@@ -1,18 +1,9 @@
 -- `server_changes::value_one` meets its contract.
-use Rattle.server_changes.specs.Changes.{valueOneB}
 use mathlib.Core.Path.{sym}
 use borrow.Author.Needs.{needs}
+use Rattle.server_changes.specs.Values.{valueAtB}
 use Rattle.server_changes.proofs.value_one.Statement.{statement}
 use Rattle.server_changes.proofs.value_one.Tie as tie
-
-mul-member : tie.Need-mul-member
-mul-member c = search needs
-
-add-member : tie.Need-add-member
-add-member c = search needs
-
-member-requires : tie.Need-member-requires
-member-requires c κs = search needs
 
 mul-get-u64 : tie.Need-mul-get-u64
 mul-get-u64 c = search needs
@@ -51,23 +42,13 @@ same-length : tie.Need-same-length
 same-length c = search needs
 
 returns : tie.Need-returns
-unfolding valueOneB
-returns c = simp (sym (c .before .before .before .before .before .before .before .before .before .before .before .member .ensures), c .before .before .before .before .before .before .before .before .before .before .if1 .taken, sym (c .before .before .before .before .before .before .before .before .get-u64 .ensures), sym (c .before .before .before .before .before .before .put-u64 .ensures)) (c .before .before .put-u32 .ensures)
-
-same-length-2 : tie.Need-same-length-2
-same-length-2 c = search needs
-
-returns-2 : tie.Need-returns-2
-unfolding valueOneB
-returns-2 c = simp (sym (c .before .member .ensures), c .if1 .left)
+unfolding valueAtB
+returns c = simp (sym (c .before .before .before .before .before .before .before .before .get-u64 .ensures), sym (c .before .before .before .before .before .before .put-u64 .ensures)) (c .before .before .put-u32 .ensures)
 
 pub value-one-spec : {M : Type 1} → statement M
 value-one-spec =
     tie.close
     (tie.spec
-    mul-member
-    add-member
-    member-requires
     mul-get-u64
     add-get-u64
     mul-get-u64-2
@@ -80,6 +61,4 @@ value-one-spec =
     add-put-u32
     put-u32-requires
     same-length
-    returns
-    same-length-2
-    returns-2)
+    returns)

@@ -1,13 +1,12 @@
 -- `server_changes::values` meets its contract. The loop's invariant: the state is that of the changes passed.
 use Prim.Native.Nat.{_≤_, _-_, _*_}
-use mathlib.Core.Path.{_≡_, sym, ap, _∙_}
-use native.Mathlib.Numerals.{add-one}
+use mathlib.Core.Path.{_≡_, ap, _∙_}
 use native.Mathlib.Omega.{arith}
 use borrow.Author.Needs.{needs}
 use lib.ListN.{length}
 use Rattle.station_state.specs.Runs.{run, run-group}
 use Rattle.server_changes.specs.Changes.{valueOneB}
-use Rattle.server_changes.specs.Frees.{values-run}
+use Rattle.server_changes.specs.Values.{values-run}
 use Rattle.server_changes.proofs.values.Statement.{statement}
 use Rattle.server_changes.proofs.values.Tie as tie
 

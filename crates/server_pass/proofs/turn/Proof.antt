@@ -26,7 +26,7 @@ put-u8-requires c κs = search needs
 
 visit-requires : tie.Need-visit-requires
 unfolding turnB
-visit-requires c κs = (search needs, search needs, held (c .before .before .before .before .before .before .before .before .before .before .before .before .before .before .before .before .before .before .before .before .pre .2), c .before .before .before .before .before .before .before .before .before .before .before .before .before .before .before .before .before .before .before .before .pre .2 .wanting _ (c .before .before .before .before .before .before .before .before .before .before .before .before .before .before .before .if1 .taken), c .before .before .before .before .before .before .before .before .before .before .before .blockers-by .ensures, c .before .before .before .before .before .before .before .before .before .shut-out-by .ensures, yes-room _ _ _ _ _ _ (lt-ltb _ _ (c .before .before .before .before .before .before .before .before .before .before .before .before .before .before .before .if1 .taken)) (c .before .before .before .before .before .before .before .before .before .before .before .before .before .before .before .before .before .before .before .before .pre .3))
+visit-requires c κs = (search needs, search needs, held (c .before .before .before .before .before .before .before .before .before .before .before .before .before .before .before .before .before .before .before .before .pre .2), c .before .before .before .before .before .before .before .before .before .before .before .before .before .before .before .before .before .before .before .before .pre .2 .wanting _ (c .before .before .before .before .before .before .before .before .before .before .before .before .before .before .before .if1 .taken), c .before .before .before .before .before .before .before .before .before .before .before .blockers-by .ensures, c .before .before .before .before .before .before .before .before .before .shut-out-by .ensures, yes-room _ _ _ _ _ _ (lt-ltb _ _ (c .before .before .before .before .before .before .before .before .before .before .before .before .before .before .before .if1 .taken)) (c .before .before .before .before .before .before .before .before .before .before .before .before .before .before .before .before .before .before .before .before .pre .3), c .before .before .before .before .before .before .before .before .before .before .before .before .before .page-alone .ensures .1)
 
 same-length : tie.Need-same-length
 same-length c = search needs

@@ -1,41 +1,17 @@
--- `server_state::all_apart` meets its contract. The loop's invariant: the answer is the definition's at the count of stations passed.
-use Prim.Native.Nat.{_≤_, _-_}
-use mathlib.Core.Path.{_≡_, ap, _∙_}
-use native.Mathlib.Numerals.{add-one}
-use native.Mathlib.Omega.{arith}
+-- `server_state::all_apart` meets its contract.
+use Rattle.server_state.specs.Eights.{apart-both}
 use borrow.Author.Needs.{needs}
-use Rattle.lists.specs.Tests.{allTo}
-use Rattle.server_state.specs.Valid.{apartOk}
 use Rattle.server_state.proofs.all_apart.Statement.{statement}
 use Rattle.server_state.proofs.all_apart.Tie as tie
 
-abbrev Inv-loop : tie.InvT-loop
-Inv-loop s ok₀ i₀ ok i = (i ≤ 8) × (ok ≡ allTo (apartOk s) i)
+all-ages-requires : tie.Need-all-ages-requires
+all-ages-requires c κs = search needs
 
-abbrev μ-loop : tie.MeasureT-loop
-μ-loop s ok₀ i₀ ok i = 8 - i
+all-arrivals-requires : tie.Need-all-arrivals-requires
+all-arrivals-requires c κs = search needs
 
-loop-holds : tie.Need-loop-holds Inv-loop μ-loop
-unfolding allTo
-loop-holds c = search needs
-
-apart-ok-requires : tie.Need-apart-ok-requires Inv-loop μ-loop
-apart-ok-requires c κs = search needs
-
-add-i : tie.Need-add-i Inv-loop μ-loop
-add-i c = search needs
-
-loop-less : tie.Need-loop-less Inv-loop μ-loop
-loop-less c = search needs
-
-loop-again : tie.Need-loop-again Inv-loop μ-loop
-unfolding allTo
-loop-again c = (search needs, rw add-one (cc))
-
-returns : tie.Need-returns Inv-loop μ-loop
-returns c = c .before .loop .inv .1 ∙ ap (allTo _) (omega arith)
+returns : tie.Need-returns
+returns c = simp (c .before .all-ages .ensures, c .all-arrivals .ensures) (apart-both _)
 
 pub all-apart-spec : {M : Type 1} → statement M
-all-apart-spec =
-    tie.close
-    (tie.spec Inv-loop μ-loop loop-holds apart-ok-requires add-i loop-less loop-again returns)
+all-apart-spec = tie.close (tie.spec all-ages-requires all-arrivals-requires returns)

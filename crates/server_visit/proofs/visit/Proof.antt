@@ -20,7 +20,7 @@ unfolding visitB
 returns c = yes-post _ _ _ _ _ _ (eq-eqb _ _ (sym (c .before .want .ensures) ∙ c .if1 .taken)) (post-none _ _ _ _)
 
 visit-commit-requires : tie.Need-visit-commit-requires
-visit-commit-requires c κs = (search needs, search needs, c .before .before .before .before .before .before .before .before .before .before .pre .2, c .before .before .before .before .before .before .before .before .before .before .pre .4, c .before .before .before .before .before .before .before .before .before .before .pre .5, commit-room _ _ _ _ _ (sym (c .before .before .before .before .before .want .ensures) ∙ c .before .before .before .if2 .taken) (c .before .before .before .before .before .before .before .before .before .before .pre .6))
+visit-commit-requires c κs = (search needs, search needs, c .before .before .before .before .before .before .before .before .before .before .pre .2, c .before .before .before .before .before .before .before .before .before .before .pre .4, c .before .before .before .before .before .before .before .before .before .before .pre .5, commit-room _ _ _ _ _ (sym (c .before .before .before .before .before .want .ensures) ∙ c .before .before .before .if2 .taken) (c .before .before .before .before .before .before .before .before .before .before .pre .6), c .before .before .before .before .before .before .before .before .before .before .pre .7)
 
 same-length-2 : tie.Need-same-length-2
 same-length-2 c = search needs

@@ -46,7 +46,7 @@ unfolding stationStepB
 returns-2 c = call-n _ _ _ _ _ (sym (c .before .before .before .before .before .ready .ensures) ∙ not-false (c .before .before .before .before .before .ready .result) (c .before .before .before .before .if1 .left)) (c .before .before .check-step .ensures) (c .before .if2 .taken) (c .refuse2 .ensures)
 
 on-down-requires : tie.Need-on-down-requires
-on-down-requires c κs = ((ready-is _ _ _ (sym (c .before .before .before .before .before .before .ready .ensures) ∙ not-false (c .before .before .before .before .before .before .ready .result) (c .before .before .before .before .before .if1 .left))) .size, long-enough _ _ (step-passed (c .before .before .before .before .before .before .before .before .before .before .before .before .before .before .args .m .now) (c .before .before .before .before .before .before .before .before .before .before .before .before .before .before .args .s .now) (sym (c .before .before .before .check-step .ensures) ∙ c .before .before .if2 .left)), (ready-is _ _ _ (sym (c .before .before .before .before .before .before .ready .ensures) ∙ not-false (c .before .before .before .before .before .before .ready .result) (c .before .before .before .before .before .if1 .left))) .messages-fit, (ready-is _ _ _ (sym (c .before .before .before .before .before .before .ready .ensures) ∙ not-false (c .before .before .before .before .before .before .ready .result) (c .before .before .before .before .before .if1 .left))) .own, named-of _ _ (step-passed (c .before .before .before .before .before .before .before .before .before .before .before .before .before .before .args .m .now) (c .before .before .before .before .before .before .before .before .before .before .before .before .before .before .args .s .now) (sym (c .before .before .before .check-step .ensures) ∙ c .before .before .if2 .left)))
+on-down-requires c κs = ((ready-is _ _ _ (sym (c .before .before .before .before .before .before .ready .ensures) ∙ not-false (c .before .before .before .before .before .before .ready .result) (c .before .before .before .before .before .if1 .left))) .size, long-enough _ _ (step-passed (c .before .before .before .before .before .before .before .before .before .before .before .before .before .before .args .m .now) (c .before .before .before .before .before .before .before .before .before .before .before .before .before .before .args .s .now) (sym (c .before .before .before .check-step .ensures) ∙ c .before .before .if2 .left)), (ready-is _ _ _ (sym (c .before .before .before .before .before .before .ready .ensures) ∙ not-false (c .before .before .before .before .before .before .ready .result) (c .before .before .before .before .before .if1 .left))) .messages-fit, (ready-is _ _ _ (sym (c .before .before .before .before .before .before .ready .ensures) ∙ not-false (c .before .before .before .before .before .before .ready .result) (c .before .before .before .before .before .if1 .left))) .own, named-of _ _ (step-passed (c .before .before .before .before .before .before .before .before .before .before .before .before .before .before .args .m .now) (c .before .before .before .before .before .before .before .before .before .before .before .before .before .before .args .s .now) (sym (c .before .before .before .check-step .ensures) ∙ c .before .before .if2 .left)), (ready-is _ _ _ (sym (c .before .before .before .before .before .before .ready .ensures) ∙ not-false (c .before .before .before .before .before .before .ready .result) (c .before .before .before .before .before .if1 .left))) .ranged .closed)
 
 same-length-7 : tie.Need-same-length-7
 same-length-7 c = search needs

@@ -1,29 +1,23 @@
 -- `station_delivery::on_down` meets its contract.
 use mathlib.Core.Path.{sym, _∙_}
+use mathlib.Core.Logic.{⊎-elim}
 use Rattle.station_delivery.specs.Delivery.{onDownB}
-use Rattle.station_delivery.specs.Laws.{no-other}
+use Rattle.station_delivery.specs.Laws.{page-left}
+use Prim.Native.Nat.{_≤_, _<_}
 use native.Mathlib.Omega.{arith}
 use borrow.Author.Needs.{needs}
+use borrow.Author.Tests.{ne-eqb}
 use Rattle.station_delivery.proofs.on_down.Statement.{statement}
 use Rattle.station_delivery.proofs.on_down.Tie as tie
 
 kind-requires : tie.Need-kind-requires
 kind-requires c κs = search needs
 
-on-page-requires : tie.Need-on-page-requires
-on-page-requires c κs = (search needs, search needs, c .before .before .before .before .before .before .before .pre .4 .0 (λ e. omega (arith, c .before .before .match .keys1, c .before .before .before .kind .ensures)))
-
-on-page-requires-2 : tie.Need-on-page-requires-2
-on-page-requires-2 c κs = (search needs, search needs, c .before .before .before .before .before .before .before .pre .4 .0 (λ e. omega (arith, c .before .before .match .keys2, c .before .before .before .kind .ensures)))
-
-on-page-requires-3 : tie.Need-on-page-requires-3
-on-page-requires-3 c κs = (search needs, search needs, c .before .before .before .before .before .before .before .pre .4 .0 (λ e. omega (arith, c .before .before .match .keys3, c .before .before .before .kind .ensures)))
-
 on-deescalate-requires : tie.Need-on-deescalate-requires
-on-deescalate-requires c κs = (search needs, search needs, search needs, c .before .before .before .before .before .before .before .pre .4 .0 (λ e. omega (arith, c .before .before .match .keys4, c .before .before .before .kind .ensures)))
+on-deescalate-requires c κs = (search needs, search needs, search needs, c .before .before .before .before .before .before .before .pre .4 .0 (λ e. omega (arith, c .before .before .match .keys1, c .before .before .before .kind .ensures)))
 
 on-callback-requires : tie.Need-on-callback-requires
-on-callback-requires c κs = (search needs, search needs, search needs, c .before .before .before .before .before .before .before .pre .4 .1 (sym (c .before .before .before .kind .ensures) ∙ c .before .before .match .keys5))
+on-callback-requires c κs = (search needs, search needs, search needs, c .before .before .before .before .before .before .before .pre .4 .1 (sym (c .before .before .before .kind .ensures) ∙ c .before .before .match .keys2))
 
 on-committed-requires : tie.Need-on-committed-requires
 on-committed-requires c κs = search needs
@@ -33,6 +27,9 @@ on-aborted-requires c κs = search needs
 
 on-invalidate-requires : tie.Need-on-invalidate-requires
 on-invalidate-requires c κs = search needs
+
+on-page-requires : tie.Need-on-page-requires
+on-page-requires c κs = (search needs, search needs, c .before .before .before .before .before .before .before .before .before .pre .4 .0 (λ e. (c .before .before .before .before .match .rest .0 .0 .0 .1) (c .before .before .before .before .before .kind .ensures ∙ e)))
 
 say-requires : tie.Need-say-requires
 say-requires c κs = search needs
@@ -45,7 +42,7 @@ same-length-2 c = search needs
 
 returns : tie.Need-returns
 unfolding onDownB
-returns c = rw (sym (c .before .before .before .before .before .before .before .before .kind .ensures), c .before .before .before .before .before .before .before .match .keys1) (c .before .before .before .before .on-page .ensures)
+returns c = rw (sym (c .before .before .before .before .before .before .before .before .kind .ensures), c .before .before .before .before .before .before .before .match .keys1) (c .before .before .before .before .on-deescalate .ensures)
 
 same-length-3 : tie.Need-same-length-3
 same-length-3 c = search needs
@@ -55,7 +52,7 @@ same-length-4 c = search needs
 
 returns-2 : tie.Need-returns-2
 unfolding onDownB
-returns-2 c = rw (sym (c .before .before .before .before .before .before .before .before .kind .ensures), c .before .before .before .before .before .before .before .match .keys2) (c .before .before .before .before .on-page2 .ensures)
+returns-2 c = rw (sym (c .before .before .before .before .before .before .before .before .kind .ensures), c .before .before .before .before .before .before .before .match .keys2) (c .before .before .before .before .on-callback .ensures)
 
 same-length-5 : tie.Need-same-length-5
 same-length-5 c = search needs
@@ -65,7 +62,7 @@ same-length-6 c = search needs
 
 returns-3 : tie.Need-returns-3
 unfolding onDownB
-returns-3 c = rw (sym (c .before .before .before .before .before .before .before .before .kind .ensures), c .before .before .before .before .before .before .before .match .keys3) (c .before .before .before .before .on-page3 .ensures)
+returns-3 c = rw (sym (c .before .before .before .before .before .before .before .before .kind .ensures), c .before .before .before .before .before .before .before .match .keys3) (c .before .before .before .before .on-committed .ensures)
 
 same-length-7 : tie.Need-same-length-7
 same-length-7 c = search needs
@@ -75,7 +72,7 @@ same-length-8 c = search needs
 
 returns-4 : tie.Need-returns-4
 unfolding onDownB
-returns-4 c = rw (sym (c .before .before .before .before .before .before .before .before .kind .ensures), c .before .before .before .before .before .before .before .match .keys4) (c .before .before .before .before .on-deescalate .ensures)
+returns-4 c = rw (sym (c .before .before .before .before .before .before .before .before .kind .ensures), c .before .before .before .before .before .before .before .match .keys4) (c .before .before .before .before .on-aborted .ensures)
 
 same-length-9 : tie.Need-same-length-9
 same-length-9 c = search needs
@@ -85,7 +82,7 @@ same-length-10 c = search needs
 
 returns-5 : tie.Need-returns-5
 unfolding onDownB
-returns-5 c = rw (sym (c .before .before .before .before .before .before .before .before .kind .ensures), c .before .before .before .before .before .before .before .match .keys5) (c .before .before .before .before .on-callback .ensures)
+returns-5 c = rw (sym (c .before .before .before .before .before .before .before .before .kind .ensures), c .before .before .before .before .before .before .before .match .keys5) (c .before .before .before .before .on-invalidate .ensures)
 
 same-length-11 : tie.Need-same-length-11
 same-length-11 c = search needs
@@ -95,44 +92,26 @@ same-length-12 c = search needs
 
 returns-6 : tie.Need-returns-6
 unfolding onDownB
-returns-6 c = rw (sym (c .before .before .before .before .before .before .before .before .kind .ensures), c .before .before .before .before .before .before .before .match .keys6) (c .before .before .before .before .on-committed .ensures)
-
-same-length-13 : tie.Need-same-length-13
-same-length-13 c = search needs
-
-same-length-14 : tie.Need-same-length-14
-same-length-14 c = search needs
+returns-6 c = rw (sym (c .before .before .before .before .before .before .before .before .before .before .kind .ensures), ne-eqb (c .before .before .before .before .before .before .before .before .before .before .kind .result) 19 (c .before .before .before .before .before .before .before .before .before .match .rest .0 .0 .0 .0 .1), ne-eqb (c .before .before .before .before .before .before .before .before .before .before .kind .result) 20 (c .before .before .before .before .before .before .before .before .before .match .rest .0 .0 .0 .1), ne-eqb (c .before .before .before .before .before .before .before .before .before .before .kind .result) 21 (c .before .before .before .before .before .before .before .before .before .match .rest .0 .0 .1), ne-eqb (c .before .before .before .before .before .before .before .before .before .before .kind .result) 22 (c .before .before .before .before .before .before .before .before .before .match .rest .0 .1), ne-eqb (c .before .before .before .before .before .before .before .before .before .before .kind .result) 23 (c .before .before .before .before .before .before .before .before .before .match .rest .1)) (c .before .before .before .before .on-page .ensures)
 
 returns-7 : tie.Need-returns-7
-unfolding onDownB
-returns-7 c = rw (sym (c .before .before .before .before .before .before .before .before .kind .ensures), c .before .before .before .before .before .before .before .match .keys7) (c .before .before .before .before .on-aborted .ensures)
-
-same-length-15 : tie.Need-same-length-15
-same-length-15 c = search needs
-
-same-length-16 : tie.Need-same-length-16
-same-length-16 c = search needs
-
-returns-8 : tie.Need-returns-8
-unfolding onDownB
-returns-8 c = rw (sym (c .before .before .before .before .before .before .before .before .kind .ensures), c .before .before .before .before .before .before .before .match .keys8) (c .before .before .before .before .on-invalidate .ensures)
-
-returns-9 : tie.Need-returns-9
-returns-9 c = let r = c .before .match .rest in absurd (no-other (c .before .before .kind .result) (rw (c .before .before .kind .ensures) (c .before .before .before .before .before .before .pre .4 .2)) (r .0 .0 .0 .0 .0 .0 .0 .1) (r .0 .0 .0 .0 .0 .0 .1) (r .0 .0 .0 .0 .0 .1) (r .0 .0 .0 .0 .1) (r .0 .0 .0 .1) (r .0 .0 .1) (r .0 .1) (r .1))
+returns-7 c =
+    let r = c .before .before .match .rest in
+    let k : (16 ≤ c .before .before .before .kind .result) × (c .before .before .before .kind .result < 24) = rw (c .before .before .before .kind .ensures) (c .before .before .before .before .before .before .before .pre .4 .2) in
+    let l = page-left (c .before .before .before .kind .result) k (r .0 .0 .0 .0 .1) (r .0 .0 .0 .1) (r .0 .0 .1) (r .0 .1) (r .1) in
+    absurd (⊎-elim (λ t. omega (arith, t .taken, k .0)) (λ t. omega (arith, t .1 .left, l)) (c .before .if1 .came))
 
 pub on-down-spec : {M : Type 1} → statement M
 on-down-spec =
     tie.close
     (tie.spec
     kind-requires
-    on-page-requires
-    on-page-requires-2
-    on-page-requires-3
     on-deescalate-requires
     on-callback-requires
     on-committed-requires
     on-aborted-requires
     on-invalidate-requires
+    on-page-requires
     say-requires
     same-length
     same-length-2
@@ -152,10 +131,4 @@ on-down-spec =
     same-length-11
     same-length-12
     returns-6
-    same-length-13
-    same-length-14
-    returns-7
-    same-length-15
-    same-length-16
-    returns-8
-    returns-9)
+    returns-7)

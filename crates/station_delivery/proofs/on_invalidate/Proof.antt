@@ -17,11 +17,8 @@ part-x-start c = search needs
 part-x-end : tie.Need-part-x-end
 part-x-end c = search needs
 
-in-use-requires : tie.Need-in-use-requires
-in-use-requires c κs = search needs
-
-wait-requires : tie.Need-wait-requires
-wait-requires c κs = search needs
+ends-requires : tie.Need-ends-requires
+ends-requires c κs = search needs
 
 mark-requires : tie.Need-mark-requires
 mark-requires c κs = search needs
@@ -42,7 +39,7 @@ same-length-2 : tie.Need-same-length-2
 same-length-2 c = search needs
 
 returns : tie.Need-returns
-returns c = invalidate-ends _ _ _ (c .before .before .before .before .before .before .before .before .before .before .before .before .before .before .before .before .before .before .before .in-use .ensures) (c .before .before .before .before .before .before .before .before .before .before .before .before .before .before .before .mark .ensures) _ _ _ (rw (sym (c .before .before .before .before .before .before .before .before .before .before .before .before .before .before .before .before .before .wait .ensures)) (c .before .before .before .before .before .before .before .before .before .before .before .before .if1 .taken)) (c .before .before .before .before .before .before .before .before .before .before .undo .ensures) (rw (sym (c .before .before .before .before .before .before .before .before .before .before .before .before .before .before .before .before .before .before .before .before .before .before .station .ensures)) (c .before .before .before .before .before .close .ensures)) (c .say .ensures)
+returns c = invalidate-ends _ _ _ (c .before .before .before .before .before .before .before .before .before .before .before .before .before .before .before .before .before .ends .ensures) (c .before .before .before .before .before .before .before .before .before .before .before .before .before .before .before .mark .ensures) _ _ _ (c .before .before .before .before .before .before .before .before .before .before .before .before .if1 .taken) (c .before .before .before .before .before .before .before .before .before .before .undo .ensures) (rw (sym (c .before .before .before .before .before .before .before .before .before .before .before .before .before .before .before .before .before .before .before .before .station .ensures)) (c .before .before .before .before .before .close .ensures)) (c .say .ensures)
 
 say-requires-2 : tie.Need-say-requires-2
 say-requires-2 c κs = search needs
@@ -51,7 +48,7 @@ same-length-3 : tie.Need-same-length-3
 same-length-3 c = search needs
 
 returns-2 : tie.Need-returns-2
-returns-2 c = invalidate-marks _ _ _ (c .before .before .before .before .before .before .before .before .in-use .ensures) (c .before .before .before .before .mark .ensures) (rw (sym (c .before .before .before .before .before .before .wait .ensures)) (c .before .if1 .left)) (c .say2 .ensures)
+returns-2 c = invalidate-marks _ _ _ (c .before .before .before .before .before .before .ends .ensures) (c .before .before .before .before .mark .ensures) (c .before .if1 .left) (c .say2 .ensures)
 
 pub on-invalidate-spec : {M : Type 1} → statement M
 on-invalidate-spec =
@@ -61,8 +58,7 @@ on-invalidate-spec =
     sub-x
     part-x-start
     part-x-end
-    in-use-requires
-    wait-requires
+    ends-requires
     mark-requires
     undo-requires
     close-requires

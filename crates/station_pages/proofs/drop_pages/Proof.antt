@@ -1,22 +1,22 @@
 -- `station_pages::drop_pages` meets its contract. The loop's invariant: what is left to be dropped leads to the definition's state.
-use Prim.Native.Nat.{_^_, _<_}
 use mathlib.Core.Path.{_≡_}
 use borrow.Author.Needs.{needs}
 use lib.ListN.{length}
-use Rattle.station_pages.specs.Pages.{dropTo, dropPagesB}
-use Rattle.cells.specs.Lowest.{rest-less, rest-lt}
-use Rattle.station_pages.specs.Drops.{drop-next, drop-last}
+use Rattle.cells.specs.Lowest.{rest-less}
+use Rattle.cells.specs.Each.{Leads, each-next, each-last}
+use Rattle.station_pages.specs.Pages.{dropPageB, dropTo, dropPagesB}
+use Rattle.station_pages.specs.Drops.{drop-each}
 use Rattle.station_pages.proofs.drop_pages.Statement.{statement}
 use Rattle.station_pages.proofs.drop_pages.Tie as tie
 
 abbrev Inv-loop : tie.InvT-loop
-Inv-loop s₀ d x₀ s x = (x < 2 ^ 32) × (length s ≡ length s₀) × (dropTo s₀ d 32 ≡ dropTo s x 32)
+Inv-loop s₀ d x₀ s x = (length s ≡ length s₀) × Leads dropPageB 32 x s (dropTo s₀ d 32)
 
 abbrev μ-loop : tie.MeasureT-loop
 μ-loop s₀ d x₀ s x = x
 
 loop-holds : tie.Need-loop-holds Inv-loop μ-loop
-loop-holds c = search needs
+loop-holds c = (search needs, (search needs, drop-each _ _ 32))
 
 lowest32-requires : tie.Need-lowest32-requires Inv-loop μ-loop
 lowest32-requires c κs = search needs
@@ -31,7 +31,7 @@ loop-less : tie.Need-loop-less Inv-loop μ-loop
 loop-less c = rest-less _ (c .before .before .before .before .before .loop-test .taken)
 
 loop-again : tie.Need-loop-again Inv-loop μ-loop
-loop-again c = (rest-lt 32 _ (c .before .before .before .before .before .before .loop .inv .0) (c .before .before .before .before .before .loop-test .taken), search needs, drop-next _ _ _ _ (c .before .before .before .before .before .before .loop .inv .2) (c .before .before .before .before .before .before .loop .inv .0) (c .before .before .before .before .before .loop-test .taken) (c .before .before .before .lowest32 .ensures .0) (c .before .before .drop-page .ensures))
+loop-again c = (search needs, each-next dropPageB 32 _ (c .before .before .before .before .before .loop-test .taken) (c .before .before .before .lowest32 .ensures .0) (c .before .before .drop-page .ensures) (c .before .before .before .before .before .before .loop .inv .1))
 
 cached-requires : tie.Need-cached-requires Inv-loop μ-loop
 cached-requires c κs = search needs
@@ -44,7 +44,7 @@ same-length c = search needs
 
 returns : tie.Need-returns Inv-loop μ-loop
 unfolding dropPagesB
-returns c = let e = drop-last _ _ _ _ (c .before .before .before .before .before .before .before .loop .inv .2) (c .before .before .before .before .before .before .loop-test .left) in cc
+returns c = let e = each-last dropPageB 32 _ (c .before .before .before .before .before .before .loop-test .left) (c .before .before .before .before .before .before .before .loop .inv .1) in cc
 
 pub drop-pages-spec : {M : Type 1} → statement M
 drop-pages-spec =

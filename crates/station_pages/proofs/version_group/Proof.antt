@@ -1,21 +1,21 @@
--- `station_pages::version_group` meets its contract. The loop's invariant: the state is that of the changes passed.
-use Prim.Native.Nat.{_≤_, _-_, _*_}
-use mathlib.Core.Path.{_≡_, sym, ap, _∙_}
-use native.Mathlib.Numerals.{add-one}
+-- `station_pages::version_group` meets its contract. The loop's invariant: what is left leads to the definition's state.
+use Prim.Native.Nat.{_+_, _*_}
+use mathlib.Core.Path.{_≡_}
 use native.Mathlib.Omega.{arith}
 use borrow.Author.Needs.{needs}
 use lib.ListN.{length}
-use Rattle.station_pages.specs.Pages.{versionPageB, versionsB}
+use Rattle.cells.specs.Lowest.{rest-less}
+use Rattle.cells.specs.Each.{Leads, each-next, each-last}
 use Rattle.station_state.specs.Runs.{run}
-use Rattle.station_pages.specs.Groups.{none-written}
+use Rattle.station_pages.specs.Versions.{versionAtB, versionIfB, word-each}
 use Rattle.station_pages.proofs.version_group.Statement.{statement}
 use Rattle.station_pages.proofs.version_group.Tie as tie
 
 abbrev Inv-loop : tie.InvT-loop
-Inv-loop s₀ n g p₀ s p = (p ≤ 8) × (length s ≡ length s₀) × (s ≡ run (versionPageB n) s₀ (g * 8) p)
+Inv-loop s₀ n g x₀ s x = (length s ≡ length s₀) × Leads (λ t b. versionAtB n t (g * 64 + b)) 64 x s (run (versionIfB n) s₀ (g * 64) 64)
 
 abbrev μ-loop : tie.MeasureT-loop
-μ-loop s₀ n g p₀ s p = 8 - p
+μ-loop s₀ n g x₀ s x = x
 
 mul-get-u64 : tie.Need-mul-get-u64 Inv-loop μ-loop
 mul-get-u64 c = search needs
@@ -26,40 +26,35 @@ add-get-u64 c = search needs
 get-u64-requires : tie.Need-get-u64-requires Inv-loop μ-loop
 get-u64-requires c κs = search needs
 
+loop-holds : tie.Need-loop-holds Inv-loop μ-loop
+loop-holds c = (search needs, (search needs, rw (c .get-u64 .ensures) (word-each _ _ _ (λ k. c .before .before .slice-known .given k .fits) (c .before .before .before .pre .1) 64 (omega arith))))
+
+mul-version-at : tie.Need-mul-version-at Inv-loop μ-loop
+mul-version-at c = search needs
+
+lowest64-requires : tie.Need-lowest64-requires Inv-loop μ-loop
+lowest64-requires c κs = search needs
+
+add-version-at : tie.Need-add-version-at Inv-loop μ-loop
+add-version-at c = search needs
+
+version-at-requires : tie.Need-version-at-requires Inv-loop μ-loop
+version-at-requires c κs = search needs
+
+sub-x : tie.Need-sub-x Inv-loop μ-loop
+sub-x c = search needs
+
+loop-less : tie.Need-loop-less Inv-loop μ-loop
+loop-less c = rest-less _ (c .before .before .before .before .before .loop-test .taken)
+
+loop-again : tie.Need-loop-again Inv-loop μ-loop
+loop-again c = (search needs, each-next _ 64 _ (c .before .before .before .before .before .loop-test .taken) (c .before .before .before .lowest64 .ensures .0) (c .before .before .version-at .ensures) (c .before .before .before .before .before .before .loop .inv .1))
+
 same-length : tie.Need-same-length Inv-loop μ-loop
 same-length c = search needs
 
 returns : tie.Need-returns Inv-loop μ-loop
-returns c = none-written _ _ _ (sym (c .before .get-u64 .ensures) ∙ c .if1 .taken)
-
-loop-holds : tie.Need-loop-holds Inv-loop μ-loop
-unfolding run
-loop-holds c = search needs
-
-mul-version-page : tie.Need-mul-version-page Inv-loop μ-loop
-mul-version-page c = search needs
-
-add-version-page : tie.Need-add-version-page Inv-loop μ-loop
-add-version-page c = search needs
-
-version-page-requires : tie.Need-version-page-requires Inv-loop μ-loop
-version-page-requires c κs = search needs
-
-add-p : tie.Need-add-p Inv-loop μ-loop
-add-p c = search needs
-
-loop-less : tie.Need-loop-less Inv-loop μ-loop
-loop-less c = search needs
-
-loop-again : tie.Need-loop-again Inv-loop μ-loop
-unfolding run
-loop-again c = (search needs, search needs, rw (add-one (c .before .before .before .before .before .loop .p)) (cc))
-
-same-length-2 : tie.Need-same-length-2 Inv-loop μ-loop
-same-length-2 c = search needs
-
-returns-2 : tie.Need-returns-2 Inv-loop μ-loop
-returns-2 c = c .before .loop .inv .2 ∙ ap (run _ _ _) (omega arith)
+returns c = each-last _ 64 _ (c .loop-test .left) (c .before .loop .inv .1)
 
 pub version-group-spec : {M : Type 1} → statement M
 version-group-spec =
@@ -70,14 +65,13 @@ version-group-spec =
     mul-get-u64
     add-get-u64
     get-u64-requires
-    same-length
-    returns
     loop-holds
-    mul-version-page
-    add-version-page
-    version-page-requires
-    add-p
+    mul-version-at
+    lowest64-requires
+    add-version-at
+    version-at-requires
+    sub-x
     loop-less
     loop-again
-    same-length-2
-    returns-2)
+    same-length
+    returns)

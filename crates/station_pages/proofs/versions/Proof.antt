@@ -1,18 +1,17 @@
 -- `station_pages::versions` meets its contract. The loop's invariant: the state is that of the changes passed.
 use Prim.Native.Nat.{_≤_, _-_, _*_}
 use mathlib.Core.Path.{_≡_, sym, ap, _∙_}
-use native.Mathlib.Numerals.{add-one}
 use native.Mathlib.Omega.{arith}
 use borrow.Author.Needs.{needs}
 use lib.ListN.{length}
-use Rattle.station_pages.specs.Pages.{versionPageB, versionsB}
+use Rattle.station_pages.specs.Pages.{versionsB}
 use Rattle.station_state.specs.Runs.{run, run-group}
-use Rattle.station_pages.specs.Groups.{versions-run}
+use Rattle.station_pages.specs.Versions.{versionIfB, versions-run}
 use Rattle.station_pages.proofs.versions.Statement.{statement}
 use Rattle.station_pages.proofs.versions.Tie as tie
 
 abbrev Inv-loop : tie.InvT-loop
-Inv-loop s₀ n g₀ s g = (g ≤ 4) × (length s ≡ length s₀) × (s ≡ run (versionPageB n) s₀ 0 (g * 8))
+Inv-loop s₀ n g₀ s g = (g ≤ 4) × (length s ≡ length s₀) × (s ≡ run (versionIfB n) s₀ 0 (g * 64))
 
 abbrev μ-loop : tie.MeasureT-loop
 μ-loop s₀ n g₀ s g = 4 - g
@@ -38,7 +37,7 @@ same-length c = search needs
 
 returns : tie.Need-returns Inv-loop μ-loop
 unfolding versionsB
-returns c = let e : c .before .loop .g * 8 ≡ 32 = omega arith in c .before .loop .inv .2 ∙ ap (run _ _ _) e ∙ versions-run _ _ _
+returns c = let e : c .before .loop .g * 64 ≡ 32 * 8 = omega arith in c .before .loop .inv .2 ∙ ap (run _ _ _) e ∙ sym (versions-run _ _ 32 (omega arith))
 
 pub versions-spec : {M : Type 1} → statement M
 versions-spec =
