@@ -4,7 +4,7 @@ ghost use Prim.Native.Nat.{_+_, _*_, _^_, _≤_, _<_};
 ghost use lib.ListN.{length, replicate};
 ghost use lib.Seq.{sets};
 ghost use mathlib.Core.Bool.{cond};
-ghost use Rattle.message.specs.Layout.{setsFrom, setsLength, behindLength, messageLength, versionWidth, kindOf, stationOf, pageOf, objectOf, transactionOf, pagesOf, message as Layout·message, upMessage};
+ghost use Rattle.message.specs.Layout.{setsFrom, setsLength, behindLength, messageLength, versionWidth, kindOf, stationOf, pageOf, objectOf, transactionOf, pagesOf, setOf, message as Layout·message, upMessage};
 ghost use Rattle.message.specs.Range.{zeroAt, zeros as Range·zeros, requestOk, commitOk, abortOk, purgeOk, busyOk, doneOk, writtenSetOk, writeRequestOk, pageMessageOk, grantOk, deescalateOk, callbackOk, committedOk, abortedOk, invalidateOk, upFieldsOk, downFieldsOk};
 ghost use Rattle.layout.specs.Record.{headerLength, entryLength};
 ghost use Rattle.message.specs.Commit.{versionsAt, shortestCommit, countOf, recordAt as Commit·recordAt, addressesAt, sentReads, sentWrites, entriesOf, commitLengthOk, fewOk, versionOk, pagesTo, recordAgrees, commitNumber};
@@ -129,6 +129,14 @@ pub fn pages(m: &[u8]) -> u32
     ensures { λ r. ⌜ r ≡ pagesOf (now (m .entry)) ⌝ }
 {
     le::get_u32(m, PAGES)
+}
+
+// The set of a message that has one alone.
+pub fn set(m: &[u8]) -> u8
+    requires { ⌜ messageLength ≤ length (now m) ⌝ }
+    ensures { λ r. ⌜ r ≡ setOf (now (m .entry)) 0 ⌝ }
+{
+    m[SETS]
 }
 
 // Writes 0 to the n bytes from `at`.
@@ -296,7 +304,7 @@ fn write_request_ok(m: &[u8]) -> bool
     requires { ⌜ messageLength ≤ length (now m) ⌝ }
     ensures { λ r. ⌜ r ≡ writeRequestOk (now (m .entry)) ⌝ }
 {
-    (m[SETS] != 0) & written_set_ok(m)
+    (set(m) != 0) & written_set_ok(m)
 }
 
 fn page_message_ok(m: &[u8]) -> bool

@@ -63,7 +63,7 @@ fn on_write(s: &mut [u8], m: &[u8])
     ensures { λ _. ⌜ now (s .exit) ≡ onWriteB (now (m .entry)) (Posting·from (now (s .entry))) .state ⌝ }
 {
     noticed(s, m);
-    server_changes::join_write(s, station(m), named(m), m[message::SETS]);
+    server_changes::join_write(s, station(m), named(m), message::set(m));
 }
 
 // A locking commit installs without waiting: it has its locks. No number comes after the last.
@@ -146,7 +146,7 @@ fn on_written_set(s: &mut [u8], m: &[u8])
     let p = named(m);
     let t = message::transaction(m);
     if server_tests::open_ask(s, i, p, t) {
-        server_changes::heed(s, i, p, t, m[message::SETS]);
+        server_changes::heed(s, i, p, t, message::set(m));
         return;
     }
 }

@@ -168,7 +168,7 @@ fn free_on(s: &mut [u8], i: usize, p: usize)
     requires { ⌜ (length (now s) ≡ serverLength) × (i < 8) × (p < 32) ⌝ }
     ensures { λ _. ⌜ now (s .exit) ≡ run (freeOneB i) (now (s .entry)) (p * 8) 8 ⌝ }
 {
-    if le::get_u64(s, LOCK + p * OBJECTS) == 0 {
+    if server_state::locks_on(s, p) == 0 {
         return;
     }
     let mut o = 0;

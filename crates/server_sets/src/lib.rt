@@ -9,8 +9,6 @@ ghost use Rattle.server_tests.specs.Tests.{concernedSet, hinderedB, writtenPage
 ghost use Rattle.server_tests.specs.Blockers.{blockersB};
 ghost use Rattle.server_sets.specs.Sets.{listedB, listedSet, lockingSet, anyLockB, lockSet, writerSet, informedSet};
 use server_state::LISTED;
-use server_state::LOCK;
-use station_state::OBJECTS;
 use station_state::PAGE_SET_WIDTH;
 
 fn listed(s: &[u8], d: u32, j: usize) -> bool
@@ -53,7 +51,7 @@ fn any_lock(s: &[u8], p: usize) -> bool
     requires { ⌜ (length (now s) ≡ serverLength) × (p < 32) ⌝ }
     ensures { λ r. ⌜ r ≡ anyLockB (now (s .entry)) p ⌝ }
 {
-    (le::get_u64(s, LOCK + p * OBJECTS) != 0) | (server_state::whole(s, p) != 0)
+    (server_state::locks_on(s, p) != 0) | (server_state::whole(s, p) != 0)
 }
 
 // The stations with a lock on page p. A page without locks is seen at once.

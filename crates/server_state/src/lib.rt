@@ -1,9 +1,10 @@
 // The bytes of the server's state: number 1, a fresh state, the age counter.
 ghost use mathlib.Core.Path.{_≡_};
-ghost use Prim.Native.Nat.{_+_, _≤_, _<_};
+ghost use Prim.Native.Nat.{_+_, _*_, _≤_, _<_};
 ghost use lib.ListN.{length, replicate};
 ghost use Rattle.lists.specs.Tests.{allTo};
-ghost use Rattle.server_state.specs.Layout.{serverLength, ageOf, agesOf, arrivalsOf, workNumber, latestOf, arrivalOf, lastOf, askedOf, wholeForOf, lockOf, wholeOf, readSet, writtenSet, kindOf, wantOf, requestOf, pendOf, busyOf, unfinishedOf, lockingB, keepsB, otherB};
+ghost use Rattle.le.specs.Le.{u64At};
+ghost use Rattle.server_state.specs.Layout.{serverLength, lockFrom, ageOf, agesOf, arrivalsOf, workNumber, latestOf, arrivalOf, lastOf, askedOf, wholeForOf, lockOf, wholeOf, readSet, writtenSet, kindOf, wantOf, requestOf, pendOf, busyOf, unfinishedOf, lockingB, keepsB, otherB};
 ghost use Rattle.server_state.specs.Valid.{mostAt, most as Valid·most, rangesOk, countersOk, wordOf, onlyIn, pageOnlyAt, pageOnly, blankOk, fewOk, commitOk, writeOk, requestOk, waiterOk, entryOk, owesAt, callsOk, agedOk, stationOk, holderOk, holderAt, besideAt, givenOk, wholeOk, pageOk, askedAt, apartOk, valid as Valid·valid, kindsOk, kindsTo, freshened, freshOf, ageless};
 ghost use Rattle.server_state.specs.Eights.{groupFree, groupOk, lockFree, agesAt, arrivalsAt, agesApart, arrivalsApart};
 ghost use Rattle.server_state.specs.Ages.{agedOf};
@@ -183,6 +184,14 @@ pub fn lock(s: &[u8], a: usize) -> u8
     ensures { λ r. ⌜ r ≡ lockOf (now (s .entry)) a ⌝ }
 {
     s[LOCK + a]
+}
+
+// Those of the eight objects of page p, as a word: 0 where none of them is locked.
+pub fn locks_on(s: &[u8], p: usize) -> u64
+    requires { ⌜ (length (now s) ≡ serverLength) × (p < 32) ⌝ }
+    ensures { λ r. ⌜ r ≡ u64At (now (s .entry)) (lockFrom + p * 8) ⌝ }
+{
+    le::get_u64(s, LOCK + p * OBJECTS)
 }
 
 // Who holds page p whole.
@@ -566,7 +575,7 @@ fn besides_ok(s: &[u8], p: usize) -> bool
     requires { ⌜ (length (now s) ≡ serverLength) × (p < 32) ⌝ }
     ensures { λ r. ⌜ r ≡ allTo (besideAt (now (s .entry)) p) 8 ⌝ }
 {
-    let locks = le::get_u64(s, LOCK + p * OBJECTS);
+    let locks = locks_on(s, p);
     if locks == 0 {
         return true;
     }
@@ -606,7 +615,7 @@ fn holders_ok(s: &[u8], p: usize) -> bool
     requires { ⌜ (length (now s) ≡ serverLength) × (p < 32) ⌝ }
     ensures { λ r. ⌜ r ≡ allTo (holderAt (now (s .entry)) p) 8 ⌝ }
 {
-    if le::get_u64(s, LOCK + p * OBJECTS) == 0 {
+    if locks_on(s, p) == 0 {
         return true;
     }
     let mut ok = true;

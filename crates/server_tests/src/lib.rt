@@ -15,7 +15,6 @@ ghost use Rattle.server_tests.specs.Alone.{Alone, aheadAt, aheadOn};
 ghost use Rattle.server_tests.specs.Blockers.{joinTo, meetOn, meetSet, aheadB, aheadSet, holderAt, holdersOn, holderSet, blockersB};
 ghost use Rattle.server_tests.specs.Groups.{idleIn, staleIn, lockedIn, holdersIn};
 ghost use Rattle.server_tests.specs.Words.{wantedIn, OnlyIn};
-use server_state::LOCK;
 use server_state::READ_SET;
 use server_state::READ_VERSION;
 use server_state::VERSION;
@@ -78,7 +77,7 @@ pub fn lock_on(s: &[u8], i: usize, p: usize) -> bool
     ensures { λ r. ⌜ r ≡ lockOnB (now (s .entry)) i p ⌝ }
 {
     let whole = server_state::whole(s, p) as usize == i + 1;
-    if le::get_u64(s, LOCK + p * OBJECTS) == 0 {
+    if server_state::locks_on(s, p) == 0 {
         return whole;
     }
     let mut r = false;
@@ -433,7 +432,7 @@ fn holders_on(s: &[u8], i: usize, p: usize) -> u8
     requires { ⌜ (length (now s) ≡ serverLength) × (i < 8) × (p < 32) ⌝ }
     ensures { λ r. ⌜ r ≡ holdersOn (now (s .entry)) i p ⌝ }
 {
-    if le::get_u64(s, LOCK + p * OBJECTS) == 0 {
+    if server_state::locks_on(s, p) == 0 {
         return 0;
     }
     let mut x = wanted(s, i, p);
@@ -662,7 +661,7 @@ pub fn unavailable(s: &[u8], i: usize, a: usize) -> u8
     ensures { λ r. ⌜ r ≡ unavailableB (now (s .entry)) i a ⌝ }
 {
     let w = others_write(s, i, a / 8);
-    if le::get_u64(s, LOCK + a / 8 * OBJECTS) == 0 {
+    if server_state::locks_on(s, a / 8) == 0 {
         return w & !wanted(s, i, a / 8);
     }
     let mut d: u8 = 0;

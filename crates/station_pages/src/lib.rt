@@ -262,7 +262,7 @@ pub fn arrive(s: &mut [u8], m: &[u8], p: usize)
 {
     arrive_values(s, m, p);
     arrive_versions(s, m, p);
-    le::put_u8(s, UNAVAILABLE + p, m[message::SETS]);
+    le::put_u8(s, UNAVAILABLE + p, message::set(m));
     station_state::page_on(s, CACHED, p);
 }
 

@@ -4,16 +4,16 @@ use borrow.Author.Needs.{needs}
 use Rattle.message.proofs.write_request_ok.Statement.{statement}
 use Rattle.message.proofs.write_request_ok.Tie as tie
 
-shared-slice-read-result : tie.Need-shared-slice-read-result
-shared-slice-read-result c = search needs
+set-requires : tie.Need-set-requires
+set-requires c κs = search needs
 
 written-set-ok-requires : tie.Need-written-set-ok-requires
 written-set-ok-requires c κs = search needs
 
 returns : tie.Need-returns
 unfolding writeRequestOk
-returns c = rw (c .written-set-ok .ensures)
+returns c = cc
 
 pub write-request-ok-spec : {M : Type 1} → statement M
 write-request-ok-spec =
-    tie.close (tie.spec shared-slice-read-result written-set-ok-requires returns)
+    tie.close (tie.spec set-requires written-set-ok-requires returns)

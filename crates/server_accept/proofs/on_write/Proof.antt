@@ -14,8 +14,8 @@ station-requires c κs = search needs
 named-requires : tie.Need-named-requires
 named-requires c κs = search needs
 
-shared-slice-read-join-write : tie.Need-shared-slice-read-join-write
-shared-slice-read-join-write c = search needs
+set-requires : tie.Need-set-requires
+set-requires c κs = search needs
 
 join-write-requires : tie.Need-join-write-requires
 join-write-requires c κs = let h = arrivals-fit _ _ _ (c .before .before .before .before .before .before .before .before .before .before .pre .2) (c .before .before .before .before .before .before .before .before .before .before .pre .5) (c .before .before .before .before .before .before .noticed .ensures) in search needs
@@ -34,7 +34,7 @@ on-write-spec =
     noticed-requires
     station-requires
     named-requires
-    shared-slice-read-join-write
+    set-requires
     join-write-requires
     same-length
     returns)

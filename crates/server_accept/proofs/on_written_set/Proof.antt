@@ -1,4 +1,5 @@
 -- `server_accept::on_written_set` meets its contract.
+use mathlib.Core.Path.{sym}
 use Rattle.server_accept.specs.Chains.{set-open, set-late}
 use borrow.Author.Needs.{needs}
 use Rattle.server_accept.proofs.on_written_set.Statement.{statement}
@@ -16,8 +17,8 @@ transaction-requires c κs = search needs
 open-ask-requires : tie.Need-open-ask-requires
 open-ask-requires c κs = search needs
 
-shared-slice-read-heed : tie.Need-shared-slice-read-heed
-shared-slice-read-heed c = search needs
+set-requires : tie.Need-set-requires
+set-requires c κs = search needs
 
 heed-requires : tie.Need-heed-requires
 heed-requires c κs = search needs
@@ -26,7 +27,7 @@ same-length : tie.Need-same-length
 same-length c = search needs
 
 returns : tie.Need-returns
-returns c = set-open _ _ (c .before .before .before .before .before .before .before .before .before .before .station .ensures) (c .before .before .before .before .before .before .before .before .before .named .ensures) (c .before .before .before .before .before .before .before .before .transaction .ensures) (c .before .before .before .before .before .before .open-ask .ensures) (c .before .before .before .before .before .if1 .taken) (c .before .before .heed .ensures)
+returns c = set-open _ _ (c .before .before .before .before .before .before .before .before .before .before .station .ensures) (c .before .before .before .before .before .before .before .before .before .named .ensures) (c .before .before .before .before .before .before .before .before .transaction .ensures) (c .before .before .before .before .before .before .open-ask .ensures) (c .before .before .before .before .before .if1 .taken) (rw (sym (c .before .before .before .set .ensures)) (c .before .before .heed .ensures))
 
 same-length-2 : tie.Need-same-length-2
 same-length-2 c = search needs
@@ -42,7 +43,7 @@ on-written-set-spec =
     named-requires
     transaction-requires
     open-ask-requires
-    shared-slice-read-heed
+    set-requires
     heed-requires
     same-length
     returns

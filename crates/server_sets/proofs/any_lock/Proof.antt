@@ -4,14 +4,8 @@ use borrow.Author.Needs.{needs}
 use Rattle.server_sets.proofs.any_lock.Statement.{statement}
 use Rattle.server_sets.proofs.any_lock.Tie as tie
 
-mul-get-u64 : tie.Need-mul-get-u64
-mul-get-u64 c = search needs
-
-add-get-u64 : tie.Need-add-get-u64
-add-get-u64 c = search needs
-
-get-u64-requires : tie.Need-get-u64-requires
-get-u64-requires c κs = search needs
+locks-on-requires : tie.Need-locks-on-requires
+locks-on-requires c κs = search needs
 
 whole-requires : tie.Need-whole-requires
 whole-requires c κs = search needs
@@ -22,4 +16,4 @@ returns c = cc
 
 pub any-lock-spec : {M : Type 1} → statement M
 any-lock-spec =
-    tie.close (tie.spec mul-get-u64 add-get-u64 get-u64-requires whole-requires returns)
+    tie.close (tie.spec locks-on-requires whole-requires returns)

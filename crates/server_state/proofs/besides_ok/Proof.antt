@@ -16,17 +16,11 @@ Inv-loop s p locks ok₀ o₀ ok o = (o ≤ 8) × (ok ≡ allTo (besideAt s p) o
 abbrev μ-loop : tie.MeasureT-loop
 μ-loop s p locks ok₀ o₀ ok o = 8 - o
 
-mul-get-u64 : tie.Need-mul-get-u64 Inv-loop μ-loop
-mul-get-u64 c = search needs
-
-add-get-u64 : tie.Need-add-get-u64 Inv-loop μ-loop
-add-get-u64 c = search needs
-
-get-u64-requires : tie.Need-get-u64-requires Inv-loop μ-loop
-get-u64-requires c κs = search needs
+locks-on-requires : tie.Need-locks-on-requires Inv-loop μ-loop
+locks-on-requires c κs = search needs
 
 returns : tie.Need-returns Inv-loop μ-loop
-returns c = none-beside _ _ (sym (c .before .get-u64 .ensures) ∙ c .if1 .taken)
+returns c = none-beside _ _ (sym (c .before .locks-on .ensures) ∙ c .if1 .taken)
 
 loop-holds : tie.Need-loop-holds Inv-loop μ-loop
 unfolding allTo
@@ -54,9 +48,7 @@ besides-ok-spec =
     (tie.spec
     Inv-loop
     μ-loop
-    mul-get-u64
-    add-get-u64
-    get-u64-requires
+    locks-on-requires
     returns
     loop-holds
     beside-at-requires

@@ -15,18 +15,12 @@ Inv-loop s i p x₀ d₀ x d = (x < 256) × (d < 256) × Left (holderAt s i p) x
 abbrev μ-loop : tie.MeasureT-loop
 μ-loop s i p x₀ d₀ x d = x
 
-mul-get-u64 : tie.Need-mul-get-u64 Inv-loop μ-loop
-mul-get-u64 c = search needs
-
-add-get-u64 : tie.Need-add-get-u64 Inv-loop μ-loop
-add-get-u64 c = search needs
-
-get-u64-requires : tie.Need-get-u64-requires Inv-loop μ-loop
-get-u64-requires c κs = search needs
+locks-on-requires : tie.Need-locks-on-requires Inv-loop μ-loop
+locks-on-requires c κs = search needs
 
 returns : tie.Need-returns Inv-loop μ-loop
 unfolding holdersOn
-returns c = simp (sym (c .before .get-u64 .ensures), eq-eqb _ _ (c .if1 .taken))
+returns c = simp (sym (c .before .locks-on .ensures), eq-eqb _ _ (c .if1 .taken))
 
 wanted-requires : tie.Need-wanted-requires Inv-loop μ-loop
 wanted-requires c κs = search needs
@@ -50,7 +44,7 @@ loop-again : tie.Need-loop-again Inv-loop μ-loop
 loop-again c = holders-next _ _ _ (c .before .before .before .loop .inv .0) (c .before .before .loop-test .taken) (c .before .before .before .loop .inv .1) (c .before .lowest8 .ensures .0) (c .holder-at .ensures) (c .before .before .before .loop .inv .2)
 
 returns-2 : tie.Need-returns-2 Inv-loop μ-loop
-returns-2 c = holders-last _ _ _ (λ e. c .before .before .before .if1 .left (c .before .before .before .before .get-u64 .ensures ∙ e)) (c .loop-test .left) (c .before .loop .inv .1) (c .before .loop .inv .2)
+returns-2 c = holders-last _ _ _ (λ e. c .before .before .before .if1 .left (c .before .before .before .before .locks-on .ensures ∙ e)) (c .loop-test .left) (c .before .loop .inv .1) (c .before .loop .inv .2)
 
 pub holders-on-spec : {M : Type 1} → statement M
 holders-on-spec =
@@ -58,9 +52,7 @@ holders-on-spec =
     (tie.spec
     Inv-loop
     μ-loop
-    mul-get-u64
-    add-get-u64
-    get-u64-requires
+    locks-on-requires
     returns
     wanted-requires
     loop-holds

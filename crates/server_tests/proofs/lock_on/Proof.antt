@@ -25,17 +25,11 @@ cast-whole c = search needs
 add-whole : tie.Need-add-whole Inv-loop μ-loop
 add-whole c = search needs
 
-mul-get-u64 : tie.Need-mul-get-u64 Inv-loop μ-loop
-mul-get-u64 c = search needs
-
-add-get-u64 : tie.Need-add-get-u64 Inv-loop μ-loop
-add-get-u64 c = search needs
-
-get-u64-requires : tie.Need-get-u64-requires Inv-loop μ-loop
-get-u64-requires c κs = search needs
+locks-on-requires : tie.Need-locks-on-requires Inv-loop μ-loop
+locks-on-requires c κs = search needs
 
 returns : tie.Need-returns Inv-loop μ-loop
-returns c = rw (lock-whole _ _ _ (sym (c .before .get-u64 .ensures) ∙ c .if1 .taken)) (cc)
+returns c = rw (lock-whole _ _ _ (sym (c .before .locks-on .ensures) ∙ c .if1 .taken)) (cc)
 
 loop-holds : tie.Need-loop-holds Inv-loop μ-loop
 unfolding anyTo
@@ -67,9 +61,7 @@ lock-on-spec =
     whole-requires
     cast-whole
     add-whole
-    mul-get-u64
-    add-get-u64
-    get-u64-requires
+    locks-on-requires
     returns
     loop-holds
     lock-at-requires

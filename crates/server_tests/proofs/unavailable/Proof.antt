@@ -19,20 +19,14 @@ abbrev μ-loop : tie.MeasureT-loop
 others-write-requires : tie.Need-others-write-requires Inv-loop μ-loop
 others-write-requires c κs = search needs
 
-mul-get-u64 : tie.Need-mul-get-u64 Inv-loop μ-loop
-mul-get-u64 c = search needs
-
-add-get-u64 : tie.Need-add-get-u64 Inv-loop μ-loop
-add-get-u64 c = search needs
-
-get-u64-requires : tie.Need-get-u64-requires Inv-loop μ-loop
-get-u64-requires c κs = search needs
+locks-on-requires : tie.Need-locks-on-requires Inv-loop μ-loop
+locks-on-requires c κs = search needs
 
 wanted-requires : tie.Need-wanted-requires Inv-loop μ-loop
 wanted-requires c κs = search needs
 
 returns : tie.Need-returns Inv-loop μ-loop
-returns c = unavailable-free _ _ _ (sym (c .before .before .get-u64 .ensures) ∙ c .before .if1 .taken) (search needs) (search needs) (c .before .before .before .others-write .ensures) (c .wanted .ensures)
+returns c = unavailable-free _ _ _ (sym (c .before .before .locks-on .ensures) ∙ c .before .if1 .taken) (search needs) (search needs) (c .before .before .before .others-write .ensures) (c .wanted .ensures)
 
 loop-holds : tie.Need-loop-holds Inv-loop μ-loop
 unfolding maskTo
@@ -65,9 +59,7 @@ unavailable-spec =
     Inv-loop
     μ-loop
     others-write-requires
-    mul-get-u64
-    add-get-u64
-    get-u64-requires
+    locks-on-requires
     wanted-requires
     returns
     loop-holds

@@ -13,8 +13,8 @@ arrive-versions-requires c κs = search needs
 add-put-u8 : tie.Need-add-put-u8
 add-put-u8 c = search needs
 
-shared-slice-read-put-u8 : tie.Need-shared-slice-read-put-u8
-shared-slice-read-put-u8 c = search needs
+set-requires : tie.Need-set-requires
+set-requires c κs = search needs
 
 put-u8-requires : tie.Need-put-u8-requires
 put-u8-requires c κs = search needs
@@ -36,7 +36,7 @@ arrive-spec =
     arrive-values-requires
     arrive-versions-requires
     add-put-u8
-    shared-slice-read-put-u8
+    set-requires
     put-u8-requires
     page-on-requires
     same-length
