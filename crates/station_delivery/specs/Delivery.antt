@@ -6,8 +6,7 @@ use mathlib.Core.List.{List, [], _∷_}
 use mathlib.Core.Bool.{Bool, true, false, not, _&&_, _||_, cond}
 use lib.Dec.{eqb, ltb}
 use Rattle.message.specs.Layout.{setsFrom, kindOf, pageOf, requesterOf, objectOf, causeOf, transactionOf, versionOf, upMessage}
-use Rattle.station_state.specs.Layout.{wholeFrom, copyOf, number, whole, writtenSet, station, opened, wait, address, waitingSet, hasBit, lockingB, keepsB}
-use Rattle.station_state.specs.Facts.{Closed}
+use Rattle.station_state.specs.Layout.{wholeFrom, copyOf, number, whole, writtenSet, station, wait, address, waitingSet, hasBit, lockingB, keepsB}
 use Rattle.station_state.specs.Changes.{pageOn, recordReadB, writeAllB, waitingValues, idleB, lockWaitingB, loosenB, keepB}
 use Rattle.station_pages.specs.Pages.{inUseB, markB, arriveB, versionsB}
 use Rattle.station_callbacks.specs.Callbacks.{sends, setsAt, doCallbackB, closeB, undoB}
@@ -23,10 +22,6 @@ ForStations m = (16 ≤ kindOf m) × (kindOf m < 24)
 -- .. and number 4: 20 names a requester; 16 to 19 name a page (21 to 23 have zeros there)
 abbrev pub Named : List ℕ → Type 0
 Named m = (kindOf m ≢ 20 → pageOf m < 32) × (kindOf m ≡ 20 → requesterOf m < 8) × ForStations m
-
--- what number 1 says of a station that has no transaction open: it has read and written nothing
-abbrev pub Settled : List ℕ → Type 0
-Settled s = opened s ≡ 0 → Closed s
 
 -- the address that a page message names
 abbrev pub addressOf : List ℕ → ℕ

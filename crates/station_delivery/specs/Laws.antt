@@ -12,7 +12,7 @@ use lib.Dec.{eqb}
 use borrow.Author.Tests.{eq-eqb, ne-eqb}
 use Rattle.message.specs.Layout.{setsFrom, pageOf, requesterOf, causeOf, transactionOf, versionOf, upMessage}
 use Rattle.cells.specs.Loops.{any-to}
-use Rattle.station_state.specs.Layout.{readSetFrom, writtenSetFrom, copyOf, station, wait, address, waitingSet}
+use Rattle.station_state.specs.Layout.{readSetFrom, writtenSetFrom, copyOf, station, opened, wait, address, waitingSet}
 use Rattle.station_state.specs.Facts.{Closed}
 use Rattle.station_state.specs.Sets.{row-bytes}
 use Rattle.station_state.specs.Changes.{recordReadB, writeAllB, waitingValues, keepB}
@@ -88,6 +88,10 @@ module _ (m s o : List ℕ) {t : ℕ} {b : Bool} where
       → delivered s₁ p y ≡ handed o (onCallbackB m s)
   unfolding onCallbackB
   callback-done s₁ p k et eb h e ey = rw (← et, ← eb, h) (done-sent (station s) (requesterOf m) _ _ s o _ s₁ p k e ey)
+
+-- what number 1 says of a station that has no transaction open: it has read and written nothing
+abbrev pub Settled : List ℕ → Type 0
+Settled s = opened s ≡ 0 → Closed s
 
 -- of a station at rest nothing is in use
 pub closed-unused : (x s : List ℕ) → Closed s → false ≡ (inUseB x s && not (eqb (wait s) 3))
