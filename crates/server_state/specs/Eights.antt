@@ -243,18 +243,22 @@ groups-pages s =
     ap (pageOk s) (sym whole) ∙ allTo-at (groupAt s (p / 8)) 8 (allTo-at (groupOk s) 4 h (p / 8) (omega arith)) (p % 8) (omega arith)))
     (λ h. allTo-of (groupOk s) 4 (λ g l. allTo-of (groupAt s g) 8 (λ p q. allTo-at (pageOk s) 32 h (g * 8 + p) (omega arith))))
 
+-- the bytes of the numbers beside whole locks, and of the locks on objects behind them
+abbrev locksLength : ℕ
+locksLength = wholeFrom - wholeForFrom
+
 -- no page is locked whole, and no object: their locks stand behind the numbers beside whole locks
 unfoldable pub lockFree : List ℕ → Bool
-lockFree s = noneIn s wholeFrom && eqb (over s wholeForFrom 384) 0
+lockFree s = noneIn s wholeFrom && eqb (over s wholeForFrom locksLength) 0
 
 lock-groups : (s : List ℕ) → lockFree s ≡ true → (g : ℕ) → g < 4 → groupFree s g ≡ true
 unfolding lockFree groupFree
 lock-groups s h g l =
-    let none : noneIn s wholeFrom ≡ true = and-l (noneIn s wholeFrom) (eqb (over s wholeForFrom 384) 0) h in
-    let each : (k : ℕ) → k < 384 → getD s (wholeForFrom + k) 0 ≡ 0 =
-    over-each s wholeForFrom 384 (eqb-true _ _ (and-r (noneIn s wholeFrom) (eqb (over s wholeForFrom 384) 0) h)) in
+    let none : noneIn s wholeFrom ≡ true = and-l (noneIn s wholeFrom) (eqb (over s wholeForFrom locksLength) 0) h in
+    let each : (k : ℕ) → k < locksLength → getD s (wholeForFrom + k) 0 ≡ 0 =
+    over-each s wholeForFrom locksLength (eqb-true _ _ (and-r (noneIn s wholeFrom) (eqb (over s wholeForFrom locksLength) 0) h)) in
     let objects : over s (lockFrom + g * 64) 64 ≡ 0 =
-    each-over s (lockFrom + g * 64) 64 (λ k q. let at : lockFrom + g * 64 + k ≡ wholeForFrom + (128 + (g * 64 + k)) = omega arith in rw at (each (128 + (g * 64 + k)) (omega arith))) in
+    each-over s (lockFrom + g * 64) 64 (λ k q. let at : lockFrom + g * 64 + k ≡ wholeForFrom + (lockFrom - wholeForFrom + (g * 64 + k)) = omega arith in rw at (each (lockFrom - wholeForFrom + (g * 64 + k)) (omega arith))) in
     let wholes : over s (wholeFrom + g * 8) 8 ≡ 0 =
     each-over s (wholeFrom + g * 8) 8 (λ k q. let at : wholeFrom + g * 8 + k ≡ wholeFrom + (g * 8 + k) = omega arith in rw at (row-bytes s wholeFrom none (g * 8 + k) (omega arith))) in
     let givens : over s (wholeForFrom + g * 32) 32 ≡ 0 =

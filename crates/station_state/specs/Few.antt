@@ -1,17 +1,17 @@
 -- Few members: where the words of two rows of sets, laid over each other, have at most three, each row has at most twelve, and no limit
 -- is near.
 use Prim.Native.Nat.{ℕ, _+_, _-_, _*_, _/_, _^_, _≤_, _<_}
-use mathlib.Core.Path.{_≡_, refl, sym, _∙_}
-use mathlib.Core.Bool.{Bool, true, false, not, _&&_, _||_, or-true}
+use mathlib.Core.Path.{_≡_, refl, _∙_}
+use mathlib.Core.Bool.{Bool, true, not, _&&_, _||_, or-true}
 use mathlib.Core.List.{List}
 use native.Mathlib.Omega.{arith}
 use lib.Bits.{bitAnd, bitOr, or-lt, and-le-l, and-le-r}
 use lib.Count.{ones, ones-le, trailingZeros}
 use lib.Dec.{eqb}
-use borrow.Author.Tests.{lt-ltb, le-leb, eq-eqb}
+use borrow.Author.Tests.{lt-ltb, le-leb}
 use Rattle.limits.specs.Limit.{limit}
 use Rattle.sets.specs.Laws.{byB, byEq, eqb-yes, eqb-no}
-use Rattle.sets.specs.Size.{size, size-part, size-joined}
+use Rattle.sets.specs.Size.{size-part, size-joined}
 use Rattle.le.specs.Le.{u64At}
 use Rattle.le.specs.Laws.{u64At-is}
 use Rattle.cells.specs.Num.{AllBytes, num-lt}
