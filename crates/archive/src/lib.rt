@@ -1,3 +1,4 @@
+#![tactic(auto)]
 // The archive reader of document 01: records of a lent archive, one behind the other, and the parts of one record.
 ghost use Rattle.std.specs.Prelude.{◌≡◌, ◌+◌, ◌*◌, ◌^◌, ◌≤◌, ◌<◌, eqb, length, drop};
 ghost use Rattle.std.proofs.lemmas.List.Edits.{sets};
@@ -32,7 +33,7 @@ pub const VALUE: usize = ADDRESS + 1;
 pub const ENTRY_FIELDS: usize = VALUE + 1;
 
 // A record's fields, with the positions where it starts and ends.
-#[derive(Drop)]
+#[derive(Clone, Copy)]
 pub struct Fields {
     pub at: usize,
     pub end: usize,
@@ -45,7 +46,7 @@ pub struct Fields {
 }
 
 // What stands at a position of an archive.
-#[derive(Drop)]
+#[derive(Clone, Copy)]
 pub enum Answer {
     Record(Fields),
     End,
@@ -53,7 +54,7 @@ pub enum Answer {
 }
 
 // An entry of a record.
-#[derive(Drop)]
+#[derive(Clone, Copy)]
 pub enum Found {
     Entry { address: u8, value: u64 },
     Nothing,
@@ -176,8 +177,7 @@ fn put_fields(out: &mut [u64], f: Fields)
 
 // `read` for C. A record's end, reads, writes, commit, transaction, station and kind go to the first seven places of `out`:
 // 1 where it has fewer, 255 at the end of the archive, else the number of document 01. Only 0 changes `out`.
-#[unsafe(no_mangle)]
-pub extern "C" fn wax_archive_read(archive: &[u8], at: usize, last: u32, out: &mut [u64]) -> u32
+pub fn wax_archive_read(archive: &[u8], at: usize, last: u32, out: &mut [u64]) -> u32
     ensures { told out.new result ≡ told_read_of archive.now at last out.old }
 {
     if out.len() < FIELDS {
@@ -195,14 +195,7 @@ pub extern "C" fn wax_archive_read(archive: &[u8], at: usize, last: u32, out: &m
 
 // `entry` for C. Its address and value go to the first two places of `out`: 1 where it has fewer, 255 where there is no
 // such entry. Only 0 changes `out`.
-#[unsafe(no_mangle)]
-pub extern "C" fn wax_archive_entry(
-    archive: &[u8],
-    at: usize,
-    entries: u32,
-    i: u32,
-    out: &mut [u64],
-) -> u32
+pub fn wax_archive_entry(archive: &[u8], at: usize, entries: u32, i: u32, out: &mut [u64]) -> u32
     ensures { told out.new result ≡ told_entry_of archive.now at entries i out.old }
 {
     if out.len() < ENTRY_FIELDS {

@@ -3,11 +3,13 @@ use Rattle.std.specs.Prelude.{ℕ, zero, suc, ◌+◌, ◌≤◌, ◌<◌, ◌�
 use Rattle.std.proofs.Common.{ap, ◌∙◌, arith}
 use Rattle.std.proofs.Math.Path.{fun_ext}
 use Rattle.sets.specs.Base.{Val, none, some, val_or}
-use Rattle.sets.specs.Laws.{by_b, by_eq, eqb_same, eqb_yes, eqb_no, ltb_yes, ltb_no}
+use Rattle.sets.specs.Laws.{by_b, by_eq}
+use Rattle.sets.proofs.Laws.{eqb_same, eqb_yes, eqb_no, ltb_yes, ltb_no}
 use Rattle.layout.specs.Record.{Entry}
 use Rattle.layout.specs.Replay.{Values, wrote, ReadsAgree, Replays}
 use Rattle.layout.specs.Replay as Laid
-use Rattle.entries.specs.Entries.{entry_if, entries_from_lem, entries_of, value_in, Within, says}
+use Rattle.entries.specs.Entries.{entry_if, entries_from_lem, entries_of, value_in, Within}
+use Rattle.entries.proofs.Entries.{says}
 use Rattle.recs.specs.Recs.{records_of, Narrow}
 use Rattle.line.specs.All.{All}
 use Rattle.line.specs.Messages.{Rec}

@@ -4,13 +4,15 @@ use Rattle.std.specs.Prelude.{ℕ, suc, ◌+◌, ◌≤◌, ◌≡◌, refl, Boo
 use Rattle.std.proofs.Common.{sym, ap, ◌∙◌, arith}
 use Rattle.std.proofs.lemmas.Bool.{false≢true}
 use Rattle.sets.specs.Base.{Val, none, some, has, val_or}
-use Rattle.sets.specs.Laws.{by_b, eqb_yes, and_l, and_r}
+use Rattle.sets.specs.Laws.{by_b}
+use Rattle.sets.proofs.Laws.{eqb_yes, and_l, and_r}
 use Rattle.layout.specs.Record.{Record, WellFormed, AllWellFormed, Numbered, archive_of}
 use Rattle.layout.specs.Replay.{zeros, Replays}
 use Rattle.layout.specs.Replay as Laid
 use Rattle.replay.specs.Played.{Played, archive_played}
-use Rattle.archive_meaning.specs.Reader.{Parsed, parsed, archive_read, written_is_read}
-use Rattle.archive_meaning.specs.Replay.{archive_plays}
+use Rattle.archive_meaning.specs.Reader.{Parsed, parsed, archive_read}
+use Rattle.archive_meaning.proofs.Reader.{written_is_read}
+use Rattle.archive_meaning.proofs.Replay.{archive_plays}
 use Rattle.archive_meaning.specs.Replay as Playback
 use Rattle.kinds.specs.Kinds.{most_kind}
 use Rattle.line.specs.All.{All, all_map}
@@ -18,9 +20,10 @@ use Rattle.line.specs.Messages.{Rec}
 use Rattle.line.specs.Line.{World, Call, Told, ToldRead, ToldWrite, ToldCommit, ToldAbort, run, fresh}
 use Rattle.line.specs.Truth as Line
 use Rattle.line.specs.Truth.{In, here, there, left_before, NumberedFrom, last_write, first_of, first_read, True}
-use Rattle.truth.specs.Truth.{truth}
-use Rattle.entries.specs.Entries.{entries_rise, entries_count, entries_fit}
-use Rattle.recs.specs.Recs.{as_record, records_of, recs_of, Narrow, all_given_back}
+use Rattle.truth.proofs.Truth.{truth}
+use Rattle.entries.proofs.Entries.{entries_rise, entries_count, entries_fit}
+use Rattle.recs.specs.Recs.{as_record, records_of, recs_of, Narrow}
+use Rattle.recs.proofs.Recs.{all_given_back}
 use Rattle.archive_truth.specs.Bytes.{left_is, ReadsLeft, replays_of}
 use Rattle.archive_truth.specs.Fits.{FitRec, FitCalls, fits_run}
 

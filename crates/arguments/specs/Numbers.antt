@@ -1,11 +1,11 @@
 -- A word's number, read digit by digit, and that the text of a commit number gives it back.
-use Rattle.std.specs.Prelude.{ℕ, zero, suc, ◌+◌, ◌*◌, ◌-◌, ◌/◌, ◌%◌, ◌^◌, ◌≤◌, ◌<◌, ◌≡◌, refl, List, [], ◌∷◌, ◌++◌, Bool, true, false, ◌&&◌, not, cond, length, drop, get_or, eqb, ltb, leb}
-use Rattle.std.proofs.Common.{sym, ap, ◌∙◌, arith, add-one, drop_of_length-le, length-append}
+use Rattle.std.specs.Prelude.{ℕ, zero, suc, ◌+◌, ◌*◌, ◌-◌, ◌/◌, ◌%◌, ◌≤◌, ◌<◌, ◌≡◌, refl, List, [], ◌∷◌, ◌++◌, Bool, true, false, ◌&&◌, cond, length, drop, get_or, ltb, leb}
+use Rattle.std.proofs.Common.{sym, arith, add-one, drop_of_length-le, length-append}
 use Rattle.std.proofs.Math.Seq.{drop-cons}
 use borrow.Author.Tests.{ltb-true, leb-true, leb-false, le-leb, lt-leb, eq-eqb, ne_eqb}
 use Rattle.lists.specs.Tests.{and_l, and_r, and_both}
 use Rattle.text.specs.Text.{decimal_to}
-use Rattle.text.specs.Decimal.{number_from, number, number_decimal}
+use Rattle.text.specs.Decimal.{number_from, number_decimal}
 use Rattle.arguments.specs.declared.Commit.{Commit}
 use Rattle.arguments.specs.declared.Commit.TheVariants.{Number, Nothing}
 use Rattle.arguments.specs.Words.{is_digit, all_digits}

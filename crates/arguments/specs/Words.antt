@@ -1,5 +1,5 @@
 -- Words as bytes: digits, and whether two are the same.
-use Rattle.std.specs.Prelude.{ℕ, ◌<◌, ◌≡◌, refl, List, [], ◌∷◌, Bool, true, ◌&&◌, length, get_or, eqb, leb}
+use Rattle.std.specs.Prelude.{ℕ, ◌≡◌, refl, List, [], ◌∷◌, Bool, true, ◌&&◌, length, get_or, eqb, leb}
 use Rattle.std.proofs.Common.{ext_get_or, eqb-true, eq-eqb}
 use Rattle.lists.specs.Tests.{all_to, all_to_at, all_to_of, and_l, and_r, and_both}
 

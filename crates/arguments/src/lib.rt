@@ -1,3 +1,4 @@
+#![tactic(auto)]
 // What the playback program is asked for, told by the words behind its name (docs/PLAYBACK.md, "Arguments").
 ghost use Rattle.std.specs.Prelude.{◌≡◌, ◌+◌, ◌≤◌, ◌<◌, length};
 ghost use Rattle.arguments.specs.Words.{is_digit, same_at, same_word};
@@ -5,7 +6,7 @@ ghost use Rattle.text.specs.Text.{ascii, put, line_within};
 ghost use Rattle.arguments.specs.Modes.{commit_of, listing_of, other_of, is_name, name_taken, listing_taken, other_taken, option_taken, number_fits, place_for, number_taken, word_taken, ranges, settled, fresh, shown_length, shown, unclear_line, longest};
 
 // A commit number that a word gives.
-#[derive(Drop)]
+#[derive(Clone, Copy)]
 pub enum Commit {
     Number(u32),
     Nothing,

@@ -1,3 +1,4 @@
+#![tactic(auto)]
 // Document 02's blocks, up to 64 records laid out by column: where a block has what, and whether it is one. The check is one pass, and
 // rebuilds nothing.
 ghost use Rattle.std.specs.Prelude.{◌≡◌, true, ◌+◌, ◌*◌, ◌≤◌, ◌<◌, length, take, drop};
@@ -63,7 +64,7 @@ pub fn copy_part(to: &mut [u8], at: usize, from: &[u8], start: usize, n: usize)
 {
     let e = at + n;
     let f = start + n;
-    bytes::copy(&from[start..f], &mut to[at..e]);
+    to[at..e].copy_from_slice(&from[start..f]);
 }
 
 // The entries that the first c headers of a block claim.

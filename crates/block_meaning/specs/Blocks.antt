@@ -7,8 +7,8 @@ use Rattle.lists.specs.Bytes.{Bytes, bytes_append}
 use Rattle.lists.specs.Stores.{sets_front}
 use Rattle.layout.specs.Record.{Record, AllWellFormed, longest_record, bytes_of, archive_of}
 use Rattle.record.specs.Write.{Written, written}
-use Rattle.record_meaning.specs.Layout.{bytes_of_are}
-use Rattle.record_meaning.specs.Meaning.{archive_one_way}
+use Rattle.record_meaning.proofs.LayoutLaws.{bytes_of_are}
+use Rattle.record_meaning.proofs.Meaning.{archive_one_way}
 use Rattle.block.specs.Block.{Blocked, block_of}
 use Rattle.block.specs.Places.{counts_length, record_count}
 use Rattle.block.specs.Check.{counts_agree, all_fit, block_number, place_number}

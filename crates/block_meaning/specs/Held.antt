@@ -18,8 +18,9 @@ use Rattle.layout.specs.Record.{header_length, value_length, Entry, Record, AllW
 use Rattle.record.specs.Check.{check_of, length_of}
 use Rattle.record.specs.Stores.{length_header}
 use Rattle.record_meaning.specs.Parse.{record_of}
-use Rattle.record_meaning.specs.Layout.{length_bytes_of, addresses_append, length_addresses}
-use Rattle.record_meaning.specs.Meaning.{WrittenBack, read_written}
+use Rattle.record_meaning.proofs.LayoutLaws.{length_bytes_of, addresses_append, length_addresses}
+use Rattle.record_meaning.specs.Meaning.{WrittenBack}
+use Rattle.record_meaning.proofs.Meaning.{read_written}
 use Rattle.block.specs.Block.{Blocked, all_entries, headers, plane, joined, block_of}
 use Rattle.block.specs.Places.{record_count_from, entry_total_from, counts_length, record_count, entry_total, header_at, planes_at, size_at, entries_to}
 use Rattle.block.specs.Check.{record_fits, record_fits_at, all_fit}

@@ -15,9 +15,9 @@ use Rattle.le.specs.Laws.{u16_at_is}
 use Rattle.layout.specs.Record.{header_length, value_length, most_entries, Entry, Record, WellFormed, AllWellFormed, entries, header, addresses, bytes_of, archive_of}
 use Rattle.record.specs.Check.{check_of}
 use Rattle.record.specs.Stores.{length_header}
-use Rattle.record_meaning.specs.Layout.{addresses_append, length_addresses}
-use Rattle.record_meaning.specs.Head.{header_read}
-use Rattle.record_meaning.specs.Meaning.{written_read}
+use Rattle.record_meaning.proofs.LayoutLaws.{addresses_append, length_addresses}
+use Rattle.record_meaning.proofs.Head.{header_read}
+use Rattle.record_meaning.proofs.Meaning.{written_read}
 use Rattle.block.specs.Block.{most_records, Blocked, all_entries, headers, plane, joined, block_of}
 use Rattle.block.specs.Places.{record_count_from, entry_total_from, counts_length, record_count, entry_total, header_at, planes_at, block_length, size_at, entries_to}
 use Rattle.block.specs.Check.{shape_of, counts_agree, record_fits, record_fits_at, all_fit, block_number}

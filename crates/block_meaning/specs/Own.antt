@@ -13,7 +13,7 @@ use Rattle.lists.specs.Parts.{all_to_same}
 use Rattle.layout.specs.Record.{header_length, longest_record}
 use Rattle.record.specs.Check.{read_count_from, write_count_from, head_at, rises}
 use Rattle.record.specs.Write.{written}
-use Rattle.record_meaning.specs.Rise.{rises_behind}
+use Rattle.record_meaning.proofs.Rise.{rises_behind}
 use Rattle.block.specs.Places.{record_count_from, entry_total_from, record_count, entry_total, header_at, planes_at, reads_at, writes_at, size_at, entries_to}
 use Rattle.block.specs.Check.{shape_of, counts_agree, record_fits, record_fits_at, all_fit, place_number}
 use Rattle.block.specs.Facts.{Agreed, agreed, found, entries_within}

@@ -13,8 +13,9 @@ use Rattle.layout.specs.Record.{header_length, value_length, Entry, Record, AllW
 use Rattle.record.specs.Check.{check_of, length_of}
 use Rattle.record.specs.Stores.{length_header}
 use Rattle.record_meaning.specs.Parse.{record_of}
-use Rattle.record_meaning.specs.Layout.{length_bytes_of, addresses_append, length_addresses}
-use Rattle.record_meaning.specs.Meaning.{written_read, WrittenBack, read_written}
+use Rattle.record_meaning.proofs.LayoutLaws.{length_bytes_of, addresses_append, length_addresses}
+use Rattle.record_meaning.specs.Meaning.{WrittenBack}
+use Rattle.record_meaning.proofs.Meaning.{written_read, read_written}
 use Rattle.block.specs.Block.{most_records, Blocked, all_entries, headers, plane, block_of}
 use Rattle.block.specs.Places.{size_at}
 use Rattle.block.specs.Parts.{length_part}

@@ -8,7 +8,7 @@ use borrow.Author.Tests.{le-ltb}
 use Rattle.le.specs.Le.{u16_at}
 use Rattle.layout.specs.Record.{header_length}
 use Rattle.record.specs.Check.{read_count_from, write_count_from, transaction_number_from, station_number_from, station_kind_from, zero_bytes_from, read_count, write_count, length_of, head_at, rises, addresses_rise, laid_out_lem, check_of}
-use Rattle.record_meaning.specs.Rise.{rises_behind}
+use Rattle.record_meaning.proofs.Rise.{rises_behind}
 use Rattle.block.specs.Places.{reads_at, writes_at, size_at}
 use Rattle.block.specs.Check.{record_fits}
 use Rattle.block.specs.Facts.{u16_at_drop}

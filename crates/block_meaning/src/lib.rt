@@ -1,1 +1,2 @@
+#![tactic(auto)]
 // Blocks by column mean document 02: theorems alone, in specs/.

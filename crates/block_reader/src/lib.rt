@@ -1,3 +1,4 @@
+#![tactic(auto)]
 // Document 02's blocks: reading one gives its records back, one behind the other; a look-up gives one of them. Both check the block first.
 ghost use Rattle.std.specs.Prelude.{◌≡◌, true, ◌+◌, ◌-◌, ◌*◌, ◌≤◌, ◌<◌, length};
 ghost use Rattle.std.proofs.lemmas.List.Edits.{sets};
@@ -97,8 +98,7 @@ fn records_length(n: usize) -> usize
 // Reads a block: its records, one behind the other, at the start of `out`. 1 where `out` is under the block's length less 4; 21 where
 // the block has not 1 to 64 records, or its counts disagree with each other or with its length; 5 where a record breaks a record's
 // rules, else 0. A refusal changes nothing.
-#[unsafe(no_mangle)]
-pub extern "C" fn wax_block_read(block: &[u8], out: &mut [u8]) -> u32
+pub fn wax_block_read(block: &[u8], out: &mut [u8]) -> u32
     ensures { written out.new result ≡ block_read_of block.now out.old }
 {
     if out.len() < records_length(block.len()) {
@@ -115,8 +115,7 @@ pub extern "C" fn wax_block_read(block: &[u8], out: &mut [u8]) -> u32
 // Looks up the record at a place of a block, from 0: at the start of `out`, as reading the whole block would give it, and nothing else
 // is put together. 1 where `out` is under 4,624 bytes; 21 as for reading, and where the block has no such place; then 5 where any
 // record of the block breaks a record's rules, else 0. A refusal changes nothing.
-#[unsafe(no_mangle)]
-pub extern "C" fn wax_block_record(block: &[u8], place: u32, out: &mut [u8]) -> u32
+pub fn wax_block_record(block: &[u8], place: u32, out: &mut [u8]) -> u32
     ensures { written out.new result ≡ block_record_of block.now place out.old }
 {
     if out.len() < record::LONGEST {

@@ -1,3 +1,4 @@
+#![tactic(auto)]
 // Document 02's blocks: writing one. The records are checked first, one behind the other; then one pass puts headers and addresses, and
 // another the values' bytes into the eight planes. Nothing of a block is kept beside the output.
 ghost use Rattle.std.specs.Prelude.{◌≡◌, ◌∷◌, [], ◌+◌, ◌*◌, ◌≤◌, ◌<◌, length, take, drop, get_or};
@@ -10,7 +11,7 @@ ghost use Rattle.block_writer.specs.Write.{scanned, scan_of, start_of, entries_i
 ghost use Rattle.block_writer.specs.Stripes.{stripes};
 
 // What a scan of records finds: the number that refuses them or 0, and the records and entries before that.
-#[derive(Drop)]
+#[derive(Clone, Copy)]
 struct Scanned {
     number: u32,
     count: usize,
@@ -136,8 +137,7 @@ fn put_block(to: &mut [u8], s: &[u8], c: usize, t: usize)
 // Writes these records, one behind the other, as a block to the start of `out`. 1 where `out` is under their length plus 4; 21 where there
 // is no record; then record by record 21 at a 65th, 12 where the bytes end inside it, 5 where it breaks a record's rules; else 0. Any
 // commit numbers are taken. A refusal changes nothing.
-#[unsafe(no_mangle)]
-pub extern "C" fn wax_block_write(records: &[u8], out: &mut [u8]) -> u32
+pub fn wax_block_write(records: &[u8], out: &mut [u8]) -> u32
     ensures { written out.new result ≡ block_write_of records.now out.old }
 {
     if out.len() < records.len() + block::COUNTS {

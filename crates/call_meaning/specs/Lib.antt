@@ -2,10 +2,8 @@
 pub mod Relation
 pub mod Callbacks
 pub mod Valid
-pub mod Owner
 pub mod Sets
 pub mod Delivery
-pub mod Names
 pub mod Commit
 pub mod Buffers
 pub mod Calls

@@ -2,7 +2,6 @@
 -- that the server reads as those sent.
 use Rattle.std.specs.Prelude.{ℕ, ◌≤◌, ◌<◌, ◌≡◌, true, ◌≢◌, List, [], ◌∷◌}
 use Rattle.kinds.specs.Kinds.{most_kind}
-use Rattle.sets.specs.Base.{snoc}
 use Rattle.line.specs.Messages.{Up}
 use Rattle.line.specs.Messages as Line
 use Rattle.line.specs.Station.{Station, NotKept}
@@ -45,12 +44,6 @@ AllRead i [] [] = Unit {0}
 AllRead i [] (u ∷ us) = ⊥
 AllRead i (m ∷ ms) [] = ⊥
 AllRead i (m ∷ ms) (u ∷ us) = ReadAs i m u × AllRead i ms us
-
-pub all_snoc : (i : ℕ) (ms : List (List ℕ)) (us : List Up) (m : List ℕ) (u : Up) → AllRead i ms us → ReadAs i m u → AllRead i (snoc ms m) (snoc us u)
-all_snoc i [] [] m u h k = (k, tt)
-all_snoc i [] (v ∷ us) m u h k = absurd h
-all_snoc i (x ∷ ms) [] m u h k = absurd h
-all_snoc i (x ∷ ms) (v ∷ us) m u h k = (h.0, all_snoc i ms us m u h.1 k)
 
 -- state and messages so far
 pub record Sending (i : ℕ) (b : Sends) (d : Model.Did) : Type 0 where

@@ -1,1 +1,2 @@
+#![tactic(auto)]
 // No code: a station's calls mean document 01's steps.

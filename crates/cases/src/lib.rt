@@ -1,1 +1,2 @@
+#![tactic(auto)]
 // No code: document 01's cases, computed, are in specs/.

@@ -1,12 +1,9 @@
 -- A list of bytes as cells, and bits as sets. Knows no layout and nothing of the line.
 pub mod Upd
 pub mod Num
-pub mod Le
 pub mod Bits
-pub mod Lowest
 pub mod Each
 pub mod Cells
-pub mod Sets
 pub mod Tells
 pub mod Loops
 pub mod Pages

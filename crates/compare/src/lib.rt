@@ -1,3 +1,4 @@
+#![tactic(auto)]
 // Which of two archives is the longer truth (document 02, wish 14): both are played, and compared record by record. What they have
 // in common is played once.
 ghost use Rattle.std.specs.Prelude.{◌≡◌, true, ◌+◌, ◌≤◌, ◌<◌, length};
@@ -17,7 +18,7 @@ const WORD: usize = record::VALUE;
 const FEW_WORDS: usize = (record::HEADER + record::ENTRY * (2 * record::FEW)) / WORD;
 
 // What two archives are to each other, or the number that refuses one of them. They part at the first commit that differs.
-#[derive(Drop)]
+#[derive(Clone, Copy)]
 pub enum Order {
     Same,
     FirstEarly,
@@ -27,7 +28,7 @@ pub enum Order {
 }
 
 // Where the common records end, the last commit number before that, and the number that refuses the next one; 0 where it is not common.
-#[derive(Drop)]
+#[derive(Clone, Copy)]
 struct Reach {
     at: usize,
     last: u32,
@@ -188,13 +189,7 @@ pub fn compare(first: &[u8], second: &[u8]) -> Order
 
 // `compare` for C: 0, or the number of the archive that is refused. Only 0 changes `order` and `commit`: order is 0 same, 1 the first is
 // an early part of the second, 2 the second of the first, 3 they part, and then commit is the first commit that differs, else 0.
-#[unsafe(no_mangle)]
-pub extern "C" fn wax_archive_compare(
-    first: &[u8],
-    second: &[u8],
-    order: &mut u32,
-    commit: &mut u32,
-) -> u32
+pub fn wax_archive_compare(first: &[u8], second: &[u8], order: &mut u32, commit: &mut u32) -> u32
     ensures { told order.new commit.new result ≡ told_of order.old commit.old (compare_of first.now second.now) }
 {
     let answer = compare(first, second);

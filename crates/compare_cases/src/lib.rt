@@ -1,1 +1,2 @@
+#![tactic(auto)]
 // No code: cases of the comparison of two archives as rows of one table, in specs/.

@@ -15,12 +15,14 @@ use Rattle.archive.specs.Facts.{recorded}
 use Rattle.replay.specs.Replay.{replay_of}
 use Rattle.replay.specs.Played.{Played, onward, play_from, archive_played}
 use Rattle.replay.specs.Fuel.{replay_read}
-use Rattle.archive_meaning.specs.Replay.{fresh, fresh_archive}
+use Rattle.archive_meaning.specs.Replay.{fresh}
+use Rattle.archive_meaning.proofs.Replay.{fresh_archive}
 use Rattle.totals.specs.Tally.{Tallied, tallied, noted, tally_for, tally_from, tally_of}
 use Rattle.totals_meaning.specs.Written.{writers_of}
-use Rattle.totals_meaning.specs.Counters.{Counters, table_means}
+use Rattle.totals_meaning.specs.Counters.{Counters}
+use Rattle.totals_meaning.proofs.Counters.{table_means}
 use Rattle.compare_terms.specs.Relation.{EarlyPart}
-use Rattle.compare_terms.specs.Order.{early_part, as_long}
+use Rattle.compare_terms.proofs.Order.{early_part, as_long}
 use Rattle.compare_meaning.specs.Meaning.{Accepted, records_in, only_records, begins_with, EarlyOrSame, to_records}
 
 module _ (s : List ℕ) (until : ℕ) where

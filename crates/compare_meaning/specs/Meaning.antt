@@ -4,16 +4,18 @@ use Rattle.std.proofs.Common.{sym, ap, ◌∙◌, append_assoc, arith, length-ap
 use borrow.Author.Tests.{eq-eqb, ne_eqb}
 use Rattle.lists.specs.Bytes.{Bytes}
 use Rattle.layout.specs.Record.{Record, AllWellFormed, bytes_of, archive_of}
-use Rattle.record_meaning.specs.Layout.{length_bytes_of}
-use Rattle.record_meaning.specs.Meaning.{same_bytes, archive_one_way}
+use Rattle.record_meaning.proofs.LayoutLaws.{length_bytes_of}
+use Rattle.record_meaning.proofs.Meaning.{same_bytes, archive_one_way}
 use Rattle.replay.specs.Played.{archive_played}
-use Rattle.archive_meaning.specs.Replay.{fresh, fresh_archive}
+use Rattle.archive_meaning.specs.Replay.{fresh}
+use Rattle.archive_meaning.proofs.Replay.{fresh_archive}
 use Rattle.compare.specs.declared.Order.{Order}
 use Rattle.compare.specs.declared.Order.TheVariants.{Same, FirstEarly, SecondEarly, Parts, Refused}
 use Rattle.compare.specs.Compare.{walk_of, compare_from, compare_of}
 use Rattle.compare_terms.specs.Relation.{Relation, same, first_early, second_early, part, compared, is_early, EarlyPart}
+use Rattle.compare_terms.proofs.Order as termsLaws
 use Rattle.compare_terms.specs.Order as terms
-use Rattle.compare_terms.specs.Order.{same_compared, early_part, part_early}
+use Rattle.compare_terms.proofs.Order.{same_compared, early_part, part_early}
 use Rattle.compare_meaning.specs.Walk.{answer_of, walk_is}
 
 -- THE ANSWER
@@ -129,7 +131,7 @@ module _ (a b : List ℕ) (ha : Accepted a) (hb : Accepted b) where
   pub antisymmetric : EarlyOrSame a b → EarlyOrSame b a → a ≡ b
   antisymmetric e f =
       let swapped : terms.EarlyOrSame (records_in b hb) (records_in a ha) = sym (ap answers_early (records_compared b a hb ha) ∙ early_is (compared (records_in b hb) (records_in a ha))) ∙ f in
-      sym bytes_a ∙ ap archive_of (terms.antisymmetric (records_in a ha) (records_in b hb) (to_records e) swapped) ∙ bytes_b
+      sym bytes_a ∙ ap archive_of (termsLaws.antisymmetric (records_in a ha) (records_in b hb) (to_records e) swapped) ∙ bytes_b
 
 -- two archives are answered same exactly if they are
 pub same_answer : (a : List ℕ) → Accepted a → compare_of a a ≡ Same
@@ -141,4 +143,4 @@ reflexive a ha = ap answers_early (same_answer a ha)
 pub transitive : (a b c : List ℕ) → Accepted a → Accepted b → Accepted c → EarlyOrSame a b → EarlyOrSame b c → EarlyOrSame a c
 transitive a b c ha hb hc e f =
     of_records a c ha hc
-    (terms.transitive (records_in a ha) (records_in b hb) (records_in c hc) (to_records a b ha hb e) (to_records b c hb hc f))
+    (termsLaws.transitive (records_in a ha) (records_in b hb) (records_in c hc) (to_records a b ha hb e) (to_records b c hb hc f))

@@ -3,12 +3,12 @@ use Rattle.std.specs.Prelude.{ℕ, suc, ◌+◌, ◌≡◌, refl, List, [], ◌�
 use Rattle.std.proofs.Common.{sym, ◌∙◌, arith}
 use Rattle.std.proofs.Math.Path.{ap}
 use Rattle.layout.specs.Record.{Record, WellFormed, AllWellFormed, Numbered, bytes_of, archive_of}
-use Rattle.archive_meaning.specs.Replay.{fresh_archive}
+use Rattle.archive_meaning.proofs.Replay.{fresh_archive}
 use Rattle.compare.specs.declared.Order.{Order}
 use Rattle.compare.specs.declared.Order.TheVariants.{Same, FirstEarly, SecondEarly, Parts, Refused}
 use Rattle.compare.specs.Compare.{compare_of}
 use Rattle.compare_terms.specs.Relation.{Relation, same, first_early, second_early, part, compared, Earlier, Parting, Says}
-use Rattle.compare_terms.specs.Order.{compared_says}
+use Rattle.compare_terms.proofs.Order.{compared_says}
 use Rattle.compare_meaning.specs.Walk.{answer_of}
 use Rattle.compare_meaning.specs.Meaning.{Accepted, records_in, records_compared, archive_join}
 

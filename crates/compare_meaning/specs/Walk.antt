@@ -8,15 +8,15 @@ use Rattle.lists.specs.Tests.{all_to, all_to_of}
 use Rattle.layout.specs.Record.{Record, WellFormed, AllWellFormed, bytes_of, archive_of}
 use Rattle.record.specs.Check.{length_of, claimed_length, commit_number}
 use Rattle.record_meaning.specs.Parse.{record_of}
-use Rattle.record_meaning.specs.Layout.{length_bytes_of}
-use Rattle.record_meaning.specs.Meaning.{written_read, same_bytes}
+use Rattle.record_meaning.proofs.LayoutLaws.{length_bytes_of}
+use Rattle.record_meaning.proofs.Meaning.{written_read, same_bytes}
 use Rattle.compare.specs.declared.Order.{Order}
 use Rattle.compare.specs.declared.Order.TheVariants.{Same, FirstEarly, SecondEarly, Parts}
 use Rattle.compare.specs.Compare as bytes
 use Rattle.compare.specs.Compare.{same_byte, same_to, commit_at, ending_of, walk_of}
 use Rattle.compare.specs.Steps.{same_to_lem, take_same, claims, walk_on, walk_ends}
 use Rattle.compare_terms.specs.Relation.{Relation, same, first_early, second_early, part, same_record, compared}
-use Rattle.compare_terms.specs.Order.{record_is, record_same}
+use Rattle.compare_terms.proofs.Order.{record_is, record_same}
 
 abbrev pub answer_of : Relation → Order
 answer_of same = Same

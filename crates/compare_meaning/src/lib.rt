@@ -1,1 +1,2 @@
+#![tactic(auto)]
 // No code: what the comparison of two archives means is in specs/.

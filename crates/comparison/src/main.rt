@@ -1,17 +1,15 @@
+#![tactic(auto)]
 // Says which of two archive files is the longer truth (docs/COMPARE.md): record by record as far as they are the same, then each to its end.
 //
 // Memory is constant: a buffer and 256 values for each archive. A buffer holds the longest record that two size fields can claim,
 // 16 + 9 * (65,535 + 65,535) bytes, so that a record is called short only where the archive itself ends inside it.
-ghost use Rattle.std.specs.Prelude.{◌≤◌, length};
+ghost use Rattle.std.specs.Prelude.{◌≤◌, ◌≡◌, ◌%◌, length};
+ghost use Rattle.std.specs.Process.{exit_status};
 
 use archive::{Answer, Fields, Found};
-use libc::{STDERR_FILENO, STDOUT_FILENO};
-
-// Bytes asked of one read: few enough to stay in the processor's cache while they are played.
-const CHUNK: usize = 131072;
-
-// Where `--status` has the exit status written: a Rattle program has none.
-const STATUS_FILENO: i32 = 3;
+use std::fs::File;
+use std::process::ExitCode;
+use streams::{More, read_more, tell};
 
 // The exit statuses.
 const SAME: u32 = 0;
@@ -25,11 +23,10 @@ const FAILED: u32 = 3;
 // In place of a number: the archive could not be read.
 const UNREAD: u32 = 255;
 
-// One of the archives: its descriptor, the bytes of its buffer that are not played yet, where in the archive they start, whether all of it
+// How far one of the archives is: the bytes of its buffer that are not played yet, where in the archive they start, whether all of it
 // is read, its last commit number, the number that refuses it, and whether there is more to do.
-#[derive(Drop)]
+#[derive(Clone, Copy)]
 struct Side {
-    fd: i32,
     at: usize,
     len: usize,
     byte: u64,
@@ -37,6 +34,13 @@ struct Side {
     last: u32,
     number: u32,
     going: bool,
+}
+
+// Both archives' files.
+#[derive(Drop)]
+struct Files {
+    first: File,
+    second: File,
 }
 
 // Both, and whether the next record may be common.
@@ -48,20 +52,12 @@ struct Pair {
 }
 
 // The field in which two records differ first, its two values, and the counter that it is of.
-#[derive(Drop)]
+#[derive(Clone, Copy)]
 struct Difference {
     field: u32,
     first: u64,
     second: u64,
     counter: u8,
-}
-
-// What a read brings: the bytes that the buffer now has, the end, or a failure.
-#[derive(Drop)]
-enum More {
-    Bytes(usize),
-    End,
-    Failed,
 }
 
 fn least(a: usize, b: usize) -> usize
@@ -72,53 +68,33 @@ fn least(a: usize, b: usize) -> usize
 
 // Each function below that says something writes it unless an earlier one could not, and answers whether the next may.
 
-fn say(going: bool, text: &[u8]) -> bool {
+fn say(rt: HostRuntime, going: bool, text: &[u8]) -> bool {
     if !going {
         return false;
     }
-    if io::write_all(STDOUT_FILENO, text) {
-        return true;
+    match rt.write_all(text) {
+        Ok(()) => true,
+        Err(error) => {
+            streams::fail(rt, b"compare: standard output", error);
+            false
+        }
     }
-    os::fail(b"compare: standard output");
-    false
 }
 
-fn say_number(going: bool, n: u64) -> bool {
+fn say_number(rt: HostRuntime, going: bool, n: u64) -> bool {
     let mut text = [0u8; player::DIGITS];
-    let k = io::decimal(n, &mut text);
-    say(going, &text[..k])
-}
-
-// A message goes to standard error. Where that fails there is nobody to tell.
-fn tell(text: &[u8]) {
-    io::write_all(STDERR_FILENO, text);
-}
-
-// One read behind the first `len` bytes of the buffer.
-fn read_more(fd: i32, input: &mut [u8], len: usize) -> More
-    requires { len ≤ length input.old }
-{
-    let e = len + least(CHUNK, input.len() - len);
-    let part = &mut input[len..e];
-    let got = libc::read(fd, part);
-    if got < 0 {
-        return More::Failed;
-    }
-    let n = io::count(got, part);
-    if n == 0 {
-        return More::End;
-    }
-    More::Bytes(len + n)
+    let k = streams::decimal(n, &mut text);
+    say(rt, going, &text[..k])
 }
 
 // Keeps what is not played and reads behind it.
-fn refill(input: &mut [u8], s: Side) -> Side {
+fn refill(rt: HostRuntime, file: &File, input: &mut [u8], s: Side) -> Side {
     let len = least(s.len, input.len());
     let at = least(s.at, len);
     let left = player::move_down(input, at, len);
-    match read_more(s.fd, input, left) {
+    let mut from = file;
+    match read_more(&mut from, input, left) {
         More::Bytes(n) => Side {
-            fd: s.fd,
             at: 0,
             len: n,
             byte: s.byte,
@@ -128,7 +104,6 @@ fn refill(input: &mut [u8], s: Side) -> Side {
             going: s.going,
         },
         More::End => Side {
-            fd: s.fd,
             at: 0,
             len: left,
             byte: s.byte,
@@ -137,8 +112,8 @@ fn refill(input: &mut [u8], s: Side) -> Side {
             number: s.number,
             going: s.going,
         },
-        More::Failed => {
-            os::fail(b"compare: an archive cannot be read");
+        More::Failed(error) => {
+            streams::fail(rt, b"compare: an archive cannot be read", error);
             stopped(s, UNREAD)
         }
     }
@@ -147,7 +122,6 @@ fn refill(input: &mut [u8], s: Side) -> Side {
 // Nothing more is done, for this number.
 fn stopped(s: Side, number: u32) -> Side {
     Side {
-        fd: s.fd,
         at: s.at,
         len: s.len,
         byte: s.byte,
@@ -173,7 +147,7 @@ fn is_whole(input: &[u8], s: Side) -> bool {
 
 // Reads until the next record is whole in the buffer or the archive ends. A proved loop has to end, and nothing says that a file does: it
 // counts down from a number that no run uses up.
-fn fetch(input: &mut [u8], s: Side) -> Side {
+fn fetch(rt: HostRuntime, file: &File, input: &mut [u8], s: Side) -> Side {
     let mut t = s;
     let mut turns = u64::MAX;
     while turns > 0 {
@@ -183,7 +157,7 @@ fn fetch(input: &mut [u8], s: Side) -> Side {
         if is_whole(input, t) {
             return t;
         }
-        t = refill(input, t);
+        t = refill(rt, file, input, t);
         turns -= 1;
     }
     t
@@ -200,7 +174,6 @@ fn further(s: Side, length: usize) -> usize {
 // Behind a record of so many bytes.
 fn behind(s: Side, length: usize, commit: u32) -> Side {
     Side {
-        fd: s.fd,
         at: further(s, length),
         len: s.len,
         byte: words::further(s.byte, length),
@@ -221,7 +194,7 @@ fn play_one(input: &[u8], values: &mut [u64; 256], s: Side) -> Side {
 }
 
 // Plays the next record of an archive; it is read first only where it is not whole in the buffer.
-fn step(input: &mut [u8], values: &mut [u64; 256], s: Side) -> Side {
+fn step(rt: HostRuntime, file: &File, input: &mut [u8], values: &mut [u64; 256], s: Side) -> Side {
     let there = play_one(input, values, s);
     if there.going {
         return there;
@@ -232,7 +205,7 @@ fn step(input: &mut [u8], values: &mut [u64; 256], s: Side) -> Side {
     if !player::wants_more(there.number) {
         return there;
     }
-    let t = fetch(input, s);
+    let t = fetch(rt, file, input, s);
     if !t.going {
         return t;
     }
@@ -240,14 +213,20 @@ fn step(input: &mut [u8], values: &mut [u64; 256], s: Side) -> Side {
 }
 
 // Plays an archive to its end.
-fn finish(input: &mut [u8], values: &mut [u64; 256], s: Side) -> Side {
+fn finish(
+    rt: HostRuntime,
+    file: &File,
+    input: &mut [u8],
+    values: &mut [u64; 256],
+    s: Side,
+) -> Side {
     let mut t = s;
     let mut turns = u64::MAX;
     while turns > 0 {
         if !t.going {
             return t;
         }
-        t = step(input, values, t);
+        t = step(rt, file, input, values, t);
         turns -= 1;
     }
     t
@@ -283,20 +262,29 @@ fn play_both(a: &[u8], b: &[u8], values: &mut [u64; 256], p: Side, q: Side) -> P
 }
 
 // Plays the next record of both where it is common; it is read first only where it is not found so in the buffers.
-fn step_both(a: &mut [u8], b: &mut [u8], values: &mut [u64; 256], pair: Pair) -> Pair {
+fn step_both(
+    rt: HostRuntime,
+    files: &Files,
+    a: &mut [u8],
+    b: &mut [u8],
+    values: &mut [u64; 256],
+    pair: Pair,
+) -> Pair {
     let first = pair.first;
     let second = pair.second;
     let there = play_both(a, b, values, first, second);
     if there.going {
         return there;
     }
-    let p = fetch(a, first);
-    let q = fetch(b, second);
+    let p = fetch(rt, &files.first, a, first);
+    let q = fetch(rt, &files.second, b, second);
     play_both(a, b, values, p, q)
 }
 
 // Plays what both have in common.
 fn together(
+    rt: HostRuntime,
+    files: &Files,
     a: &mut [u8],
     b: &mut [u8],
     values: &mut [u64; 256],
@@ -309,7 +297,7 @@ fn together(
         if !pair.going {
             return pair;
         }
-        pair = step_both(a, b, values, pair);
+        pair = step_both(rt, files, a, b, values, pair);
         turns -= 1;
     }
     pair
@@ -434,51 +422,51 @@ fn first_difference(a: &[u8], b: &[u8], last: u32) -> Difference {
 }
 
 // What is said in front of the two values of a field.
-fn say_field(on: bool, d: Difference) -> bool {
+fn say_field(rt: HostRuntime, on: bool, d: Difference) -> bool {
     let field = d.field;
     match field {
-        0 => say(on, b"its reads are "),
-        1 => say(on, b"its writes are "),
-        2 => say(on, b"its transaction is "),
-        3 => say(on, b"its station is "),
-        4 => say(on, b"its station's kind is "),
-        5 => say(on, b"it reads counter "),
-        6 => say(on, b"it writes counter "),
+        0 => say(rt, on, b"its reads are "),
+        1 => say(rt, on, b"its writes are "),
+        2 => say(rt, on, b"its transaction is "),
+        3 => say(rt, on, b"its station is "),
+        4 => say(rt, on, b"its station's kind is "),
+        5 => say(rt, on, b"it reads counter "),
+        6 => say(rt, on, b"it writes counter "),
         _ => {
-            let on = say(on, b"counter ");
-            let on = say_number(on, le::long(le::wide(d.counter)));
+            let on = say(rt, on, b"counter ");
+            let on = say_number(rt, on, le::long(le::wide(d.counter)));
             if field == 7 {
-                return say(on, b" is read as ");
+                return say(rt, on, b" is read as ");
             }
-            say(on, b" is written as ")
+            say(rt, on, b" is written as ")
         }
     }
 }
 
-fn say_both(on: bool, first: u64, second: u64) -> bool {
-    let on = say_number(on, first);
-    let on = say(on, b" in the first and ");
-    let on = say_number(on, second);
-    say(on, b" in the second\n")
+fn say_both(rt: HostRuntime, on: bool, first: u64, second: u64) -> bool {
+    let on = say_number(rt, on, first);
+    let on = say(rt, on, b" in the first and ");
+    let on = say_number(rt, on, second);
+    say(rt, on, b" in the second\n")
 }
 
 // A line for each counter that ends otherwise.
-fn say_counters(on: bool, first: &[u64; 256], second: &[u64; 256]) -> bool {
+fn say_counters(rt: HostRuntime, on: bool, first: &[u64; 256], second: &[u64; 256]) -> bool {
     let mut going = on;
     let mut none = true;
     let mut i: usize = 0;
     while i < 256 {
         if first[i] != second[i] {
             none = false;
-            let more = say(going, b"counter ");
-            let more = say_number(more, i as u64);
-            let more = say(more, b" ends as ");
-            going = say_both(more, first[i], second[i]);
+            let more = say(rt, going, b"counter ");
+            let more = say_number(rt, more, i as u64);
+            let more = say(rt, more, b" ends as ");
+            going = say_both(rt, more, first[i], second[i]);
         }
         i += 1;
     }
     if none {
-        return say(going, b"every counter ends the same\n");
+        return say(rt, going, b"every counter ends the same\n");
     }
     going
 }
@@ -487,64 +475,74 @@ fn status(on: bool, number: u32) -> u32 {
     if on { number } else { FAILED }
 }
 
-fn commits(on: bool, from: u32, to: u32) -> bool {
+fn commits(rt: HostRuntime, on: bool, from: u32, to: u32) -> bool {
     if to < from {
-        return say(on, b"0 commits");
+        return say(rt, on, b"0 commits");
     }
     if to - from == 1 {
-        return say(on, b"1 commit");
+        return say(rt, on, b"1 commit");
     }
-    let on = say_number(on, le::long(to - from));
-    say(on, b" commits")
+    let on = say_number(rt, on, le::long(to - from));
+    say(rt, on, b" commits")
 }
 
-fn say_same(last: u32, byte: u64) -> u32 {
-    let on = say(true, b"the archives are the same: ");
-    let on = commits(on, 0, last);
-    let on = say(on, b", ");
-    let on = say_number(on, byte);
-    status(say(on, b" bytes\n"), SAME)
+fn say_same(rt: HostRuntime, last: u32, byte: u64) -> u32 {
+    let on = say(rt, true, b"the archives are the same: ");
+    let on = commits(rt, on, 0, last);
+    let on = say(rt, on, b", ");
+    let on = say_number(rt, on, byte);
+    status(say(rt, on, b" bytes\n"), SAME)
 }
 
 // One archive is an early part of the other.
-fn say_early(first: bool, last: u32, to: u32) -> bool {
+fn say_early(rt: HostRuntime, first: bool, last: u32, to: u32) -> bool {
     let on = if first {
         say(
+            rt,
             true,
             b"the first archive is an early part of the second: it ends behind commit ",
         )
     } else {
         say(
+            rt,
             true,
             b"the second archive is an early part of the first: it ends behind commit ",
         )
     };
-    let on = say_number(on, le::long(last));
-    let on = say(on, b", and the other has ");
-    let on = commits(on, last, to);
-    say(on, b" more\n")
+    let on = say_number(rt, on, le::long(last));
+    let on = say(rt, on, b", and the other has ");
+    let on = commits(rt, on, last, to);
+    say(rt, on, b" more\n")
 }
 
 // They part behind a common commit, at a byte.
-fn say_parts(last: u32, byte: u64, d: Difference, first: u32, second: u32) -> bool {
-    let on = say(true, b"the archives part at commit ");
-    let on = say_number(on, le::long(last) + 1);
-    let on = say(on, b", byte ");
-    let on = say_number(on, byte);
-    let on = say(on, b": ");
-    let on = say_field(on, d);
-    let on = say_both(on, d.first, d.second);
-    let on = say(on, b"behind commit ");
-    let on = say_number(on, le::long(last));
-    let on = say(on, b" the first has ");
-    let on = commits(on, last, first);
-    let on = say(on, b" more, the second ");
-    let on = commits(on, last, second);
-    say(on, b" more\n")
+fn say_parts(
+    rt: HostRuntime,
+    last: u32,
+    byte: u64,
+    d: Difference,
+    first: u32,
+    second: u32,
+) -> bool {
+    let on = say(rt, true, b"the archives part at commit ");
+    let on = say_number(rt, on, le::long(last) + 1);
+    let on = say(rt, on, b", byte ");
+    let on = say_number(rt, on, byte);
+    let on = say(rt, on, b": ");
+    let on = say_field(rt, on, d);
+    let on = say_both(rt, on, d.first, d.second);
+    let on = say(rt, on, b"behind commit ");
+    let on = say_number(rt, on, le::long(last));
+    let on = say(rt, on, b" the first has ");
+    let on = commits(rt, on, last, first);
+    let on = say(rt, on, b" more, the second ");
+    let on = commits(rt, on, last, second);
+    say(rt, on, b" more\n")
 }
 
 // Both are accepted: `common` is the state of the first behind the common records.
 fn say_order(
+    rt: HostRuntime,
     common: Side,
     byte: u64,
     d: Difference,
@@ -556,49 +554,48 @@ fn say_order(
     let last = common.last;
     if p.last == last {
         if q.last == last {
-            return say_same(last, p.byte);
+            return say_same(rt, last, p.byte);
         }
-        let on = say_early(true, last, q.last);
-        return status(say_counters(on, first, second), OTHER);
+        let on = say_early(rt, true, last, q.last);
+        return status(say_counters(rt, on, first, second), OTHER);
     }
     if q.last == last {
-        let on = say_early(false, last, p.last);
-        return status(say_counters(on, first, second), OTHER);
+        let on = say_early(rt, false, last, p.last);
+        return status(say_counters(rt, on, first, second), OTHER);
     }
-    let on = say_parts(last, byte, d, p.last, q.last);
-    status(say_counters(on, first, second), OTHER)
+    let on = say_parts(rt, last, byte, d, p.last, q.last);
+    status(say_counters(rt, on, first, second), OTHER)
 }
 
 // The words of `words`, which begin with the playback program's name.
-fn say_fault(part: &[u8], start: u64, last: u32, values: &[u64; 256]) {
+fn say_fault(rt: HostRuntime, part: &[u8], start: u64, last: u32, values: &[u64; 256]) {
     let mut line = [0u8; words::LINE];
     let e = words::fault_line(&mut line, 0, start, fault::first_fault(part, last, values));
     let length = least(e, words::LINE);
     if length < words::PREFIX {
         return;
     }
-    tell(b"compare: ");
-    tell(&line[words::PREFIX..length]);
+    tell(rt, b"compare: ");
+    tell(rt, &line[words::PREFIX..length]);
 }
 
 // `the first archive is refused: N after K`, and what is wrong with its next record.
-fn say_refused(name: &[u8], input: &[u8], s: Side, values: &[u64; 256]) -> u32 {
+fn say_refused(rt: HostRuntime, name: &[u8], input: &[u8], s: Side, values: &[u64; 256]) -> u32 {
     if s.number == UNREAD {
         return FAILED;
     }
-    let on = say(true, name);
-    let on = say(on, b" archive: refused ");
-    let on = say_number(on, le::long(s.number));
-    let on = say(on, b" after ");
-    let on = say_number(on, le::long(s.last));
-    let on = say(on, b"\n");
-    say_fault(rest(input, s), s.byte, s.last, values);
+    let on = say(rt, true, name);
+    let on = say(rt, on, b" archive: refused ");
+    let on = say_number(rt, on, le::long(s.number));
+    let on = say(rt, on, b" after ");
+    let on = say_number(rt, on, le::long(s.last));
+    let on = say(rt, on, b"\n");
+    say_fault(rt, rest(input, s), s.byte, s.last, values);
     status(on, REFUSED)
 }
 
-fn opened(fd: i32) -> Side {
+fn opened() -> Side {
     Side {
-        fd,
         at: 0,
         len: 0,
         byte: 0,
@@ -611,6 +608,8 @@ fn opened(fd: i32) -> Side {
 
 // The second archive, where the first is accepted.
 fn finish_second(
+    rt: HostRuntime,
+    files: &Files,
     b: &mut [u8],
     values: &[u64; 256],
     others: &mut [u64; 256],
@@ -620,15 +619,17 @@ fn finish_second(
     byte: u64,
     d: Difference,
 ) -> u32 {
-    let q = finish(b, others, second);
+    let q = finish(rt, &files.second, b, others, second);
     if q.number != 0 {
-        return say_refused(b"the second", b, q, others);
+        return say_refused(rt, b"the second", b, q, others);
     }
-    say_order(common, byte, d, first, q, values, others)
+    say_order(rt, common, byte, d, first, q, values, others)
 }
 
 // Both archives behind the common records, the first one first.
 fn finish_both(
+    rt: HostRuntime,
+    files: &Files,
     a: &mut [u8],
     b: &mut [u8],
     values: &mut [u64; 256],
@@ -638,15 +639,22 @@ fn finish_both(
     byte: u64,
     d: Difference,
 ) -> u32 {
-    let p = finish(a, values, first);
+    let p = finish(rt, &files.first, a, values, first);
     if p.number != 0 {
-        return say_refused(b"the first", a, p, values);
+        return say_refused(rt, b"the first", a, p, values);
     }
-    finish_second(b, values, others, first, p, second, byte, d)
+    finish_second(rt, files, b, values, others, first, p, second, byte, d)
 }
 
 // What differs is looked up while both records are in the buffers.
-fn part_ways(a: &mut [u8], b: &mut [u8], values: &mut [u64; 256], pair: Pair) -> u32 {
+fn part_ways(
+    rt: HostRuntime,
+    files: &Files,
+    a: &mut [u8],
+    b: &mut [u8],
+    values: &mut [u64; 256],
+    pair: Pair,
+) -> u32 {
     let p = pair.first;
     let q = pair.second;
     let part = rest(a, p);
@@ -654,58 +662,65 @@ fn part_ways(a: &mut [u8], b: &mut [u8], values: &mut [u64; 256], pair: Pair) ->
     let d = first_difference(part, other, p.last);
     let byte = words::further(p.byte, common_bytes(part, other));
     let mut others = *values;
-    finish_both(a, b, values, &mut others, p, q, byte, d)
+    finish_both(rt, files, a, b, values, &mut others, p, q, byte, d)
 }
 
-fn run(a: &mut [u8], b: &mut [u8], first: i32, second: i32) -> u32 {
+fn run(rt: HostRuntime, files: &Files, a: &mut [u8], b: &mut [u8]) -> u32 {
     let mut values = [0u64; 256];
-    let pair = together(a, b, &mut values, opened(first), opened(second));
-    part_ways(a, b, &mut values, pair)
+    let pair = together(rt, files, a, b, &mut values, opened(), opened());
+    part_ways(rt, files, a, b, &mut values, pair)
 }
 
 // The buffers come as arrays: their lengths are then known by their types, and nothing has to be computed of their bytes.
-fn start(a: &mut [u8; player::INPUT], b: &mut [u8; player::INPUT], first: i32, second: i32) -> u32 {
-    run(a, b, first, second)
+fn start(
+    rt: HostRuntime,
+    files: &Files,
+    a: &mut [u8; player::INPUT],
+    b: &mut [u8; player::INPUT],
+) -> u32 {
+    run(rt, files, a, b)
 }
 
-fn compare_files(first: i32, second: i32) -> u32 {
+fn compare_files(rt: HostRuntime, files: &Files) -> u32 {
     let mut a = [0u8; player::INPUT];
     let mut b = [0u8; player::INPUT];
-    start(&mut a, &mut b, first, second)
+    start(rt, files, &mut a, &mut b)
 }
 
 // Opens the archive that word i names.
-fn open(i: usize) -> i32 {
-    let mut word = io::buffer();
-    let n = os::arg(i, &mut word);
-    let fd = os::open_read(&word[..n]);
-    if fd < 0 {
-        tell(b"compare: ");
-        os::fail(&word[..n]);
+fn open(rt: HostRuntime, i: usize) -> Option<File> {
+    let mut word = streams::buffer();
+    let n = streams::argument(&rt, i, &mut word);
+    match streams::open(rt, &word[..n]) {
+        Ok(file) => Some(file),
+        Err(error) => {
+            tell(rt, b"compare: ");
+            streams::fail(rt, &word[..n], error);
+            None
+        }
     }
-    fd
 }
 
 // Compares the archives that two words name.
-fn compare_words(i: usize, j: usize) -> u32 {
-    let first = open(i);
-    if first < 0 {
+fn compare_words(rt: HostRuntime, i: usize, j: usize) -> u32 {
+    let Some(first) = open(rt, i) else {
         return FAILED;
-    }
-    let second = open(j);
-    if second < 0 {
+    };
+    let Some(second) = open(rt, j) else {
         return FAILED;
-    }
-    compare_files(first, second)
+    };
+    compare_files(rt, &Files { first, second })
 }
 
-fn help() -> u32 {
+fn help(rt: HostRuntime) -> u32 {
     let on = say(
+        rt,
         true,
         b"usage: compare FIRST SECOND\nSays of two archives whether they are the same, one is an early part of the other, or they part, and where,\n",
     );
     status(
         say(
+            rt,
             on,
             b"and which counters end otherwise. Exits with 0 same, 1 not the same, 2 an archive is refused, 3 failed or not understood.\n",
         ),
@@ -713,8 +728,11 @@ fn help() -> u32 {
     )
 }
 
-fn misunderstood() -> u32 {
-    tell(b"compare: two archives are wanted: compare FIRST SECOND; --help says more\n");
+fn misunderstood(rt: HostRuntime) -> u32 {
+    tell(
+        rt,
+        b"compare: two archives are wanted: compare FIRST SECOND; --help says more\n",
+    );
     FAILED
 }
 
@@ -726,37 +744,40 @@ fn is_word(word: &[u8], text: &[u8]) -> bool {
     compare::same_bytes(word, text, text.len())
 }
 
-fn tell_status(number: u32) {
-    io::write_all(STATUS_FILENO, &[48 + (number % 4) as u8]);
+// The exit status for the front end, which asks for it; by itself the program ends with 0.
+fn tell_status(number: u32) -> ExitCode
+    ensures { exit_status result ≡ number % 4 }
+{
+    ExitCode::from((number % 4) as u8)
 }
 
-fn is_help(i: usize) -> bool {
-    let mut word = io::buffer();
-    let n = os::arg(i, &mut word);
+fn is_help(rt: HostRuntime, i: usize) -> bool {
+    let mut word = streams::buffer();
+    let n = streams::argument(&rt, i, &mut word);
     is_word(&word[..n], b"--help")
 }
 
 // Does what the words `first` and `second` ask for, which must be the last ones.
-fn answer(first: usize, second: usize, count: usize) -> u32 {
-    if is_help(first) {
-        return help();
+fn answer(rt: HostRuntime, first: usize, second: usize, count: usize) -> u32 {
+    if is_help(rt, first) {
+        return help(rt);
     }
     if count <= second {
-        return misunderstood();
+        return misunderstood(rt);
     }
     if count - second != 1 {
-        return misunderstood();
+        return misunderstood(rt);
     }
-    compare_words(first, second)
+    compare_words(rt, first, second)
 }
 
-fn main() {
-    let mut word = io::buffer();
-    let n = os::arg(1, &mut word);
-    let count = os::arg_count();
+fn main(rt: HostRuntime) -> ExitCode {
+    let mut word = streams::buffer();
+    let n = streams::argument(&rt, 1, &mut word);
+    let count = streams::argument_count(&rt);
     if is_word(&word[..n], b"--status") {
-        tell_status(answer(2, 3, count));
-        return;
+        return tell_status(answer(rt, 2, 3, count));
     }
-    answer(1, 2, count);
+    answer(rt, 1, 2, count);
+    ExitCode::SUCCESS
 }

@@ -1,1 +1,2 @@
+#![tactic(auto)]
 // No code: what additions to one counter come to is in specs/.

@@ -9,7 +9,7 @@ use Rattle.le.specs.Laws.{set_u16_is, set_u32_is}
 use Rattle.layout.specs.Record.{header_length, value_length, most_entries}
 use Rattle.record.specs.Check.{read_count, write_count, commit_number, length_of, check_of}
 use Rattle.record.specs.Facts.{accepted}
-use Rattle.record_meaning.specs.Answers.{laid}
+use Rattle.record_meaning.proofs.Answers.{laid}
 use Rattle.archive.specs.declared.Fields.{Fields}
 use Rattle.archive.specs.declared.Answer.{Answer}
 use Rattle.archive.specs.Facts.{recorded}

@@ -1,3 +1,4 @@
+#![tactic(auto)]
 // The counts of a record (docs/COUNTS.md): its commit number, the addresses that it writes and their values, in a layout of their own.
 ghost use Rattle.std.specs.Prelude.{◌≡◌, ◌+◌, ◌≤◌, length};
 ghost use Rattle.std.proofs.lemmas.List.Edits.{sets};
@@ -25,7 +26,7 @@ fn put_part(out: &mut [u8], at: usize, from: &[u8])
     ensures { out.new ≡ sets out.old at from.now }
 {
     let e = at + from.len();
-    bytes::copy(from, &mut out[at..e]);
+    out[at..e].copy_from_slice(from);
 }
 
 fn put_head(out: &mut [u8], commit: u32, writes: u32)
@@ -55,8 +56,7 @@ pub fn put_counts(part: &[u8], out: &mut [u8])
 
 // Plays the first record of these bytes on lent values behind a lent last commit number, and puts its counts at the start of
 // `out`: 1 where `out` has no room for the longest, 12 (also for no bytes), 5, 13 or 14, else 0. Only 0 changes anything.
-#[unsafe(no_mangle)]
-pub extern "C" fn wax_counts_record(
+pub fn wax_counts_record(
     bytes: &[u8],
     values: &mut [u64; 256],
     last: &mut u32,

@@ -1,3 +1,4 @@
+#![tactic(auto)]
 // The reader of a counts file (docs/COUNTS.md): the counts of an archive's records, one behind the other.
 ghost use Rattle.std.specs.Prelude.{◌≡◌, ◌+◌, ◌≤◌, length, eqb};
 ghost use Rattle.record.specs.Check.{rises};
@@ -14,7 +15,7 @@ const COMMIT: usize = WRITES + 1;
 const COUNTS_FIELDS: usize = COMMIT + 1;
 
 // Where the counts of a record end, how many objects it writes, and its commit number.
-#[derive(Drop)]
+#[derive(Clone, Copy)]
 pub struct Counted {
     pub end: usize,
     pub writes: u32,
@@ -22,7 +23,7 @@ pub struct Counted {
 }
 
 // What stands at a position of a counts file.
-#[derive(Drop)]
+#[derive(Clone, Copy)]
 pub enum Next {
     Counts(Counted),
     End,
@@ -30,7 +31,7 @@ pub enum Next {
 }
 
 // An address written, and its value.
-#[derive(Drop)]
+#[derive(Clone, Copy)]
 pub enum Written {
     Entry { address: u8, value: u64 },
     Nothing,
@@ -135,8 +136,7 @@ pub fn entry(file: &[u8], at: usize, writes: u32, i: u32) -> Written
 
 // `read` for C. Where the counts end, their writes and their commit number go to the first three places of `out`: 1 where it has
 // fewer, 255 at the end of the file, else the number of document 01. Only 0 changes `out`.
-#[unsafe(no_mangle)]
-pub extern "C" fn wax_counts_read(file: &[u8], at: usize, last: u32, out: &mut [u64]) -> u32
+pub fn wax_counts_read(file: &[u8], at: usize, last: u32, out: &mut [u64]) -> u32
     ensures { told out.new result ≡ told_counts_read file.now at last out.old }
 {
     if out.len() < COUNTS_FIELDS {
@@ -156,14 +156,7 @@ pub extern "C" fn wax_counts_read(file: &[u8], at: usize, last: u32, out: &mut [
 
 // `entry` for C. Its address and value go to the first two places of `out`: 1 where it has fewer, 255 where there is no such write.
 // Only 0 changes `out`.
-#[unsafe(no_mangle)]
-pub extern "C" fn wax_counts_entry(
-    file: &[u8],
-    at: usize,
-    writes: u32,
-    i: u32,
-    out: &mut [u64],
-) -> u32
+pub fn wax_counts_entry(file: &[u8], at: usize, writes: u32, i: u32, out: &mut [u64]) -> u32
     ensures { told out.new result ≡ told_counts_entry file.now at writes i out.old }
 {
     if out.len() < archive::ENTRY_FIELDS {

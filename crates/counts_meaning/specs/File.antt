@@ -17,9 +17,9 @@ use Rattle.layout.specs.Record.{value_length, most_entries, Entry, AllFit, addre
 use Rattle.lists.specs.Tests.{all_to}
 use Rattle.record.specs.Check.{head_ok_lem, rises}
 use Rattle.record.specs.Write.{fits, write_of}
-use Rattle.record_meaning.specs.Layout.{length_addresses}
-use Rattle.record_meaning.specs.Rise.{rises_of_rising, rises_behind}
-use Rattle.record_meaning.specs.Writer.{WroteRecord, writer_accepts_only}
+use Rattle.record_meaning.proofs.LayoutLaws.{length_addresses}
+use Rattle.record_meaning.proofs.Rise.{rises_of_rising, rises_behind}
+use Rattle.record_meaning.proofs.Writer.{WroteRecord, writer_accepts_only}
 use Rattle.archive_meaning.specs.Parts.{nth}
 use Rattle.counts.specs.Counts.{counts_header_length, counts_length, counts_head}
 use Rattle.counts.specs.Facts.{length_counts_head}

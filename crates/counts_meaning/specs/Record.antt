@@ -8,10 +8,10 @@ use Rattle.lists.specs.Bytes.{Bytes}
 use Rattle.layout.specs.Record.{header_length, value_length, Record, WellFormed, addresses, values, bytes_of}
 use Rattle.record.specs.Check.{read_count, write_count, commit_number, length_of, check_of}
 use Rattle.record_meaning.specs.Parse.{record_of}
-use Rattle.record_meaning.specs.Layout.{length_addresses, length_values, places}
-use Rattle.record_meaning.specs.Meaning.{read_written}
+use Rattle.record_meaning.proofs.LayoutLaws.{length_addresses, length_values, places}
+use Rattle.record_meaning.proofs.Meaning.{read_written}
 use Rattle.archive.specs.Read.{fields_of}
-use Rattle.archive_meaning.specs.Facts.{fields_said}
+use Rattle.archive_meaning.proofs.Facts.{fields_said}
 use Rattle.counts.specs.Counts.{counts_length, written_addresses, written_values, counts_of, counts_on}
 use Rattle.counts.specs.Facts.{length_counts_head}
 use Rattle.counts_meaning.specs.View.{Counts, shown_of, counts_bytes, put_out}

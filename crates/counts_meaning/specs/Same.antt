@@ -8,7 +8,8 @@ use Rattle.archive.specs.declared.Answer.{Answer}
 use Rattle.archive.specs.Told.{told, nothing_there}
 use Rattle.replay.specs.Replay.{replay_of}
 use Rattle.replay.specs.Played.{archive_played}
-use Rattle.archive_meaning.specs.Reader.{parsed, archive_read, read_is_written}
+use Rattle.archive_meaning.specs.Reader.{parsed, archive_read}
+use Rattle.archive_meaning.proofs.Reader.{read_is_written}
 use Rattle.archive_meaning.specs.Replay.{fresh}
 use Rattle.seek.specs.Seek.{sought_of}
 use Rattle.counts.specs.Counts.{longest_counts}

@@ -14,7 +14,8 @@ use Rattle.archive.specs.declared.Answer.{Answer}
 use Rattle.archive.specs.Read.{fields_of, read_of}
 use Rattle.archive.specs.Told.{told, nothing_there}
 use Rattle.archive.specs.Facts.{recorded}
-use Rattle.archive_meaning.specs.Facts.{ReadRefusal, refused_number, tells}
+use Rattle.archive_meaning.specs.Facts.{ReadRefusal}
+use Rattle.archive_meaning.proofs.Facts.{refused_number, tells}
 use Rattle.replay.specs.Replay.{reads_agree, stored, replayed, on_answer, replay_of}
 use Rattle.replay.specs.Played.{Played, onward, play_from, archive_played}
 use Rattle.replay.specs.Fuel.{replay_read, onwards}

@@ -7,13 +7,13 @@ use Rattle.layout.specs.Record.{Record}
 use Rattle.layout.specs.Replay.{wrote}
 use Rattle.record.specs.Check.{check_of}
 use Rattle.record_meaning.specs.Parse.{record_of}
-use Rattle.record_meaning.specs.Meaning.{written_read, same_bytes}
+use Rattle.record_meaning.proofs.Meaning.{written_read, same_bytes}
 use Rattle.archive.specs.declared.Answer.{Answer}
 use Rattle.replay.specs.Replay.{replay_of}
 use Rattle.replay.specs.Played.{on_record, record_played}
 use Rattle.archive_meaning.specs.Facts.{Begins}
 use Rattle.archive_meaning.specs.Stored.{values_of}
-use Rattle.archive_meaning.specs.Playback.{played_record}
+use Rattle.archive_meaning.proofs.Playback.{played_record}
 use Rattle.counts.specs.Counts.{longest_counts, counts_on}
 use Rattle.counts.specs.Record.{shown, on_shown, record_counts}
 use Rattle.counts_meaning.specs.View.{Counts, shown_of, AlikeShown, put_out}

@@ -1,15 +1,16 @@
 -- DRAINS: deliveries alone come to an end, whatever their order. Each that is taken lowers the weight, in every world, so no list of
 -- them is longer than the weight of the world that it starts from; and the weight is bounded by the messages under way.
-use Rattle.std.specs.Prelude.{◌≡◌, refl, Bool, true, false, cond, List, [], ◌∷◌, ◌++◌, ℕ, zero, suc, ◌+◌, ◌*◌, ◌≤◌, ◌<◌, eqb, ltb, length}
-use Rattle.std.proofs.Common.{sym, ap, ◌∙◌, arith, length-append}
+use Rattle.std.specs.Prelude.{◌≡◌, refl, Bool, true, false, List, [], ◌∷◌, ℕ, zero, suc, ◌+◌, ◌*◌, ◌≤◌, ◌<◌, ltb, length}
+use Rattle.std.proofs.Common.{sym, ◌∙◌, arith}
 use Rattle.std.proofs.lemmas.Bool.{false≢true}
 use Rattle.sets.specs.Base.{upd}
-use Rattle.sets.specs.Laws.{by_b, by_eq, eqb_same, eqb_yes, eqb_no, ltb_yes}
+use Rattle.sets.specs.Laws.{by_b, by_eq}
+use Rattle.sets.proofs.Laws.{eqb_same, eqb_yes, ltb_yes}
 use Rattle.line.specs.Messages.{Up, ReadRequest, WriteRequest, Commit, Abort, Purge, Busy, Done, WrittenSet, Down, Answer, Nothing, Begun, Value, Waits, Written, CommittedAs, AbortedFor, Purged, Refused, Empty}
-use Rattle.line.specs.Station.{Station, Did, station_step, Kept}
+use Rattle.line.specs.Station.{Did, station_step, Kept}
 use Rattle.line.specs.Server.{unexpected}
 use Rattle.line.specs.Fuel.{sum_to, sum_le, sum_at, sum_1, nb, nb_1}
-use Rattle.line.specs.Bounds.{room, room_104}
+use Rattle.line.specs.Bounds.{room_104}
 use Rattle.line.specs.Line.{World, world_down, Op, Call, Owner, ServerTakes, StationTakes, Broken, tell, carry_up, is_refused, station_takes, server_takes, act, run}
 use Rattle.truth.specs.Inv.{after_station}
 use Rattle.progress.specs.Clauses.{is_kept}

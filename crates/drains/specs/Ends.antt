@@ -1,18 +1,14 @@
 -- What deliveries and ends do to a station: nobody begins, so who is closed stays closed; a locking station that does not wait goes on
 -- so until its owner ends its transaction, and whose owner has ended it is closed or waits for its commit's answer.
-use Rattle.std.specs.Prelude.{◌≡◌, refl, Bool, true, false, not, ◌&&◌, cond, List, [], ◌∷◌, ◌⊎◌, ℕ, ◌+◌, ◌≤◌, ◌<◌, eqb, ltb}
-use Rattle.std.proofs.Common.{sym, ap, ◌∙◌, inl, inr, arith}
+use Rattle.std.specs.Prelude.{◌≡◌, refl, Bool, true, false, ◌&&◌, cond, List, [], ◌⊎◌, ℕ, eqb}
+use Rattle.std.proofs.Common.{sym, ap, ◌∙◌, inl, inr}
 use Rattle.std.proofs.lemmas.Bool.{false≢true}
-use Rattle.sets.specs.Base.{upd}
-use Rattle.sets.specs.Laws.{by_b, by_eq, eqb_yes, and_l, and_r}
-use Rattle.line.specs.All.{All}
-use Rattle.line.specs.Messages.{locking, Lock, NoLock, ObjectLock, WholeLock, Up, Down, Answer, Nothing, Begun, Value, Waits, Written, CommittedAs, AbortedFor, Purged, Refused, Empty}
-use Rattle.line.specs.Station.{Station, Did, does, did_station, set_kept, set_wait, Wait, Idle, ForRead, ForWrite, ForCommit, waiting, for_commit, NotKept, KeptCall, record_read, write_local, arrive, take_lock, loosen, live, drop_pages, mark, do_callback, closed, close, undo, read_local, read_ask, write_ask, own_commit, own_abort, on_deescalate, on_committed, on_aborted, station_step, gives_up}
-use Rattle.line.specs.Server.{unexpected}
-use Rattle.line.specs.Truth.{count}
-use Rattle.line.specs.Line.{World, world_down, Op, Begin, Read, WriteSet, Commits, Aborts, Purges, Call, Owner, ServerTakes, StationTakes, Broken, perform, tell, carry_up, carry_down, is_refused, owner_acts, station_takes, server_takes, act, run}
-use Rattle.truth.specs.Frame.{Owns, performs, closes, Takes, takes}
-use Rattle.truth.specs.ValidatedMoves.{perform_kind, step_kind}
+use Rattle.sets.proofs.Laws.{and_l}
+use Rattle.line.specs.Messages.{locking, Lock, NoLock, ObjectLock, WholeLock, Up, Down, Waits, Refused}
+use Rattle.line.specs.Station.{Station, Did, does, set_wait, Wait, ForRead, ForWrite, ForCommit, waiting, for_commit, take_lock, loosen, live, drop_pages, mark, do_callback, closed, close, own_commit, own_abort, on_deescalate, on_committed, on_aborted, station_step, gives_up}
+use Rattle.line.specs.Line.{Op, Begin, Read, WriteSet, Commits, Aborts, Purges, Call, Owner, ServerTakes, StationTakes, Broken, perform}
+use Rattle.truth.proofs.Frame.{performs, closes, takes}
+use Rattle.truth.proofs.ValidatedMoves.{step_kind}
 
 -- the ends: commit and abort
 abbrev pub is_ending : Op → Bool

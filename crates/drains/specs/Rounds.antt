@@ -1,19 +1,20 @@
 -- Rounds: from a world without messages under way, each owner that does not wait ends its transaction, and what is sent is delivered,
 -- in any order, until nothing is under way. Nobody begins, so open transactions only close.
-use Rattle.std.specs.Prelude.{◌≡◌, refl, Bool, true, false, not, ◌&&◌, cond, ◌⊎◌, ℕ, zero, suc, ◌+◌, ◌≤◌, ◌<◌, eqb, ltb, length}
+use Rattle.std.specs.Prelude.{◌≡◌, refl, Bool, true, false, cond, ℕ, ◌+◌, ◌≤◌, ◌<◌, eqb, ltb, length}
 use Rattle.std.proofs.Common.{sym, ap, ◌∙◌, inl, inr, arith}
 use Rattle.std.proofs.lemmas.Bool.{false≢true}
-use mathlib.Core.List.{List, [], ◌∷◌, ◌++◌}
+use mathlib.Core.List.{List, [], ◌∷◌}
 use Rattle.sets.specs.Base.{upd, any}
-use Rattle.sets.specs.Laws.{by_b, by_eq, eqb_yes, eqb_same, and_l, and_r, any_no, any_some, ltb_no}
+use Rattle.sets.specs.Laws.{by_b, by_eq}
+use Rattle.sets.proofs.Laws.{eqb_yes, eqb_same, and_l, and_r, any_no, any_some, ltb_no}
 use Rattle.line.specs.All.{All}
 use Rattle.line.specs.Messages.{locking, Up, Down, Answer, Nothing, Begun, Value, Waits, Written, CommittedAs, AbortedFor, Purged, Refused, Empty}
-use Rattle.line.specs.Station.{Station, Did, waiting, for_commit, station_step}
+use Rattle.line.specs.Station.{Station, waiting, for_commit, station_step}
 use Rattle.line.specs.Server.{unexpected}
-use Rattle.line.specs.Fuel.{sum_to, sum_le, sum_at, sum_1, nb, nb_1}
+use Rattle.line.specs.Fuel.{sum_to, sum_at, sum_1, nb, nb_1}
 use Rattle.line.specs.Truth.{count}
-use Rattle.line.specs.Line.{World, world_down, Op, Begin, Read, Write, Commits, Aborts, Purges, Call, Owner, ServerTakes, StationTakes, Broken, perform, tell, carry_up, carry_down, is_refused, owner_acts, station_takes, server_takes, act, run, fresh}
-use Rattle.truth.specs.ValidatedMoves.{perform_kind, step_kind}
+use Rattle.line.specs.Line.{World, Op, Call, Owner, ServerTakes, StationTakes, Broken, perform, tell, carry_up, carry_down, is_refused, owner_acts, station_takes, server_takes, act, run}
+use Rattle.truth.proofs.ValidatedMoves.{perform_kind, step_kind}
 use Rattle.progress.specs.Out.{Quiet}
 use Rattle.drains.specs.Ends.{is_ending, calm, ends_of, Ended, AtWork, step_ended, step_at_work, step_closed, end_ended, end_closed, work_ends}
 

@@ -1,11 +1,12 @@
 -- Of every run: deliveries alone end with nothing under way; and from there, after eight rounds, nobody waits.
-use Rattle.std.specs.Prelude.{◌≡◌, refl, Bool, true, false, ◌&&◌, cond, List, [], ◌∷◌, ◌++◌, ◌⊎◌, ℕ, ◌+◌, ◌≤◌, ◌<◌, length}
+use Rattle.std.specs.Prelude.{◌≡◌, refl, Bool, true, false, List, [], ◌∷◌, ◌++◌, ◌⊎◌, ℕ, ◌≤◌, ◌<◌, length}
 use Rattle.std.proofs.Common.{sym, ap, ◌∙◌, inl, inr, arith}
 use Rattle.std.proofs.lemmas.Bool.{false≢true}
-use Rattle.sets.specs.Laws.{by_b, any_some, and_l, and_r}
+use Rattle.sets.specs.Laws.{by_b}
+use Rattle.sets.proofs.Laws.{any_some, and_r}
 use Rattle.line.specs.Messages.{locking, Up, Down, page_of}
-use Rattle.line.specs.Station.{Station, Wait, Idle, ForRead, ForWrite, ForCommit, waiting, for_read, writes_to, for_commit}
-use Rattle.line.specs.Server.{Want, NoWant, WantRead, WantWrite, WantCommit, is_want, waits}
+use Rattle.line.specs.Station.{Wait, Idle, ForRead, ForWrite, ForCommit, waiting, for_read, writes_to, for_commit}
+use Rattle.line.specs.Server.{Want, NoWant, WantRead, WantWrite, WantCommit, is_want}
 use Rattle.line.specs.Truth.{count}
 use Rattle.line.specs.Line.{World, Call, ServerTakes, StationTakes, is_refused, act, run, fresh}
 use Rattle.truth.specs.Clauses.{stale, tokens, FitWaiter}
@@ -16,8 +17,7 @@ use Rattle.jams.specs.Clauses.{Orderly, abort_of}
 use Rattle.jams.specs.Theorem.{NothingJams}
 use Rattle.jams.specs.Jams.{orderly, nothing_jams}
 use Rattle.drains.specs.Drains.{delivers, Deliveries}
-use Rattle.drains.specs.Ends.{AtWork}
-use Rattle.drains.specs.Rounds.{Round, Rounds, runs, some_waits, CanAct, Known, AllKnown, waits_end}
+use Rattle.drains.specs.Rounds.{Rounds, runs, some_waits, CanAct, Known, AllKnown, waits_end}
 
 run_more : (cs ds : List Call) (w : World) → run (cs ++ ds) w ≡ run ds (run cs w)
 unfolding run

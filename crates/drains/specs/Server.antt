@@ -1,16 +1,17 @@
 -- A server step on an accepted message lowers the weight: what it sends and what it may still send was in the message's weight.
-use Rattle.std.specs.Prelude.{◌≡◌, refl, Bool, true, false, not, ◌&&◌, cond, List, [], ◌∷◌, ◌++◌, ℕ, suc, ◌+◌, ◌*◌, ◌≤◌, ◌<◌, eqb, length}
-use Rattle.std.proofs.Common.{ap, ◌∙◌, arith, length-append}
+use Rattle.std.specs.Prelude.{◌≡◌, refl, Bool, true, false, List, ◌∷◌, ℕ, ◌+◌, ◌*◌, ◌≤◌, ◌<◌, eqb, length}
+use Rattle.std.proofs.Common.{ap, arith, length-append}
 use Rattle.sets.specs.Base.{upd}
-use Rattle.sets.specs.Laws.{by_b, by_eq, eqb_same, eqb_yes, eqb_no}
+use Rattle.sets.specs.Laws.{by_b, by_eq}
+use Rattle.sets.proofs.Laws.{eqb_same, eqb_yes}
 use Rattle.line.specs.Messages.{last_number, locking, Work, Up, ReadRequest, WriteRequest, Commit, Abort, Purge, Busy, Done, WrittenSet}
-use Rattle.line.specs.Server.{End, ByMessage, Server, Serving, Waiter, waiter_busy, waiter_pend, read_waiter, write_waiter, commit_waiter, is_want, unexpected, notice, finish, join, send_page, serve_now, join_read, join_write, join_commit, commit_now, abort, install, unlist, open_call, mark_busy, answered, open_ask, loosen, accept, start, server_step, heeded, heed}
+use Rattle.line.specs.Server.{End, ByMessage, Server, Serving, Waiter, waiter_busy, waiter_pend, read_waiter, write_waiter, commit_waiter, notice, finish, join, send_page, serve_now, join_read, join_write, join_commit, commit_now, unlist, open_call, mark_busy, answered, open_ask, loosen, accept, start, server_step, heeded, heed}
 use Rattle.line.specs.Pass.{step_keeps, met_keeps}
-use Rattle.line.specs.Fuel.{sum_to, sum_le, sum_at, nb, frees, loose_at}
+use Rattle.line.specs.Fuel.{sum_to, sum_le, sum_at, frees, loose_at}
 use Rattle.line.specs.Bounds.{left, room, total, both_n, left_9, abort_sent, abort_room, install_sent, install_room, atomic_total, notice_sent}
-use Rattle.line.specs.Line.{World, world_up, carry_down, sent_to}
+use Rattle.line.specs.Line.{World, carry_down, sent_to}
 use Rattle.truth.specs.Inv.{taken}
-use Rattle.drains.specs.Weights.{weigh_up, weigh_ups, weigh_kept, weigh_line, weight, sum_more, sum_add, sum_three, sent_once}
+use Rattle.drains.specs.Weights.{weigh_up, weigh_line, weight, sum_more, sum_add, sum_three, sent_once}
 
 -- what may come of the message itself, in messages down
 abbrev pub share : Up → ℕ

@@ -1,14 +1,15 @@
 -- A station's step sends and keeps at most what the message down weighed, less one.
-use Rattle.std.specs.Prelude.{◌≡◌, refl, Bool, true, false, not, ◌&&◌, cond, List, [], ◌∷◌, ◌++◌, ℕ, zero, suc, ◌+◌, ◌*◌, ◌≤◌, ◌<◌, eqb}
-use Rattle.std.proofs.Common.{ap, ◌∙◌, arith}
-use Rattle.sets.specs.Base.{upd, snoc, any, turned, has}
-use Rattle.sets.specs.Laws.{by_b, by_eq, eqb_same, eqb_yes, eqb_no}
-use Rattle.line.specs.Messages.{locking, Up, Done, Lock, NoLock, ObjectLock, WholeLock, Down, Page, Deescalate, Callback, Committed, Aborted, Invalidate, Nothing, CommittedAs, AbortedFor, page_of}
-use Rattle.line.specs.Station.{Station, Did, did_station, does, unless, set_kept, set_cver, Wait, Idle, ForRead, ForWrite, ForCommit, for_commit, Kept, NotKept, KeptCall, drop_pages, mark, do_callback, do_kept, do_all_kept, closed, close, undo, ended, fits, record_read, write_local, arrive, take_lock, answer_wait, on_page, loosen, live, on_deescalate, in_use, on_callback, on_committed, on_aborted, on_invalidate, on_down, station_step, gives_up}
-use Rattle.line.specs.Fuel.{sum_to, sum_at, nb}
+use Rattle.std.specs.Prelude.{◌≡◌, refl, Bool, not, ◌&&◌, cond, [], ℕ, zero, suc, ◌+◌, ◌≤◌, ◌<◌}
+use Rattle.std.proofs.Common.{ap, arith}
+use Rattle.sets.specs.Base.{upd, has}
+use Rattle.sets.specs.Laws.{by_b, by_eq}
+use Rattle.sets.proofs.Laws.{eqb_same, eqb_yes}
+use Rattle.line.specs.Messages.{Lock, NoLock, ObjectLock, WholeLock, Down, Page, Deescalate, Callback, Committed, Aborted, Invalidate, Nothing, CommittedAs, AbortedFor, page_of}
+use Rattle.line.specs.Station.{Station, Did, did_station, does, set_kept, set_cver, Wait, Idle, ForRead, ForWrite, ForCommit, for_commit, Kept, NotKept, KeptCall, drop_pages, mark, do_callback, do_kept, do_all_kept, closed, close, undo, ended, fits, record_read, write_local, arrive, take_lock, answer_wait, on_page, loosen, on_deescalate, in_use, on_callback, on_committed, on_aborted, on_invalidate, on_down, station_step, gives_up}
+use Rattle.line.specs.Fuel.{sum_at, nb}
 use Rattle.line.specs.Bounds.{undo_kept}
 use Rattle.progress.specs.Clauses.{is_kept}
-use Rattle.drains.specs.Weights.{weigh_up, weigh_ups, weigh_kept, ups_append, sum_more}
+use Rattle.drains.specs.Weights.{weigh_ups, weigh_kept, ups_append, sum_more}
 
 -- what a call of a station left: messages sent and callbacks kept
 abbrev pub weigh_did : Did → ℕ

@@ -1,13 +1,13 @@
 -- What is still to come of a world if nobody calls but to deliver: a weight that every delivery lowers.
 -- A message down weighs 3: of a 20 comes a 6 and a kept callback. A kept callback weighs 1, like the 7 that it becomes, and so do
 -- kinds 4 to 8. Kinds 1 to 3 weigh 28: of a request or commit come at most 9 messages down (crate line's `room`).
-use Rattle.std.specs.Prelude.{◌≡◌, refl, Bool, true, false, cond, List, [], ◌∷◌, ◌++◌, ◌≢◌, ℕ, zero, suc, ◌+◌, ◌*◌, ◌≤◌, ◌<◌, eqb, length}
-use Rattle.std.proofs.Common.{arith, length-append}
-use Rattle.sets.specs.Base.{upd}
-use Rattle.sets.specs.Laws.{by_b, by_eq, eqb_same, eqb_yes, eqb_no}
-use Rattle.line.specs.Messages.{Up, ReadRequest, WriteRequest, Commit, Abort, Purge, Busy, Done, WrittenSet, Sent, To, Down}
-use Rattle.line.specs.Station.{Station, Kept}
-use Rattle.line.specs.Fuel.{sum_to, sum_le, nb}
+use Rattle.std.specs.Prelude.{◌≡◌, refl, List, [], ◌∷◌, ◌++◌, ◌≢◌, ℕ, zero, suc, ◌+◌, ◌*◌, ◌≤◌, length}
+use Rattle.std.proofs.Common.{arith}
+use Rattle.sets.specs.Laws.{by_eq}
+use Rattle.sets.proofs.Laws.{eqb_same, eqb_yes, eqb_no}
+use Rattle.line.specs.Messages.{Up, ReadRequest, WriteRequest, Commit, Abort, Purge, Busy, Done, WrittenSet, Sent, To}
+use Rattle.line.specs.Station.{Kept}
+use Rattle.line.specs.Fuel.{sum_to, nb}
 use Rattle.line.specs.Bounds.{room}
 use Rattle.line.specs.Line.{World, sent_to}
 use Rattle.progress.specs.Clauses.{is_kept}

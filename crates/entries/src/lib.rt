@@ -1,1 +1,2 @@
+#![tactic(auto)]
 // No code: a record's entries as functions by address are in specs/.

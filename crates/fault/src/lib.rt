@@ -1,3 +1,4 @@
+#![tactic(auto)]
 // What is wrong with a record that replay refuses, and at which of its bytes (docs/PLAYBACK.md, "What is wrong, in words").
 ghost use Rattle.std.specs.Prelude.{◌≡◌, ◌+◌, ◌≤◌, length};
 ghost use Rattle.layout.specs.Record.{header_length};
@@ -5,7 +6,7 @@ ghost use Rattle.record.specs.Check.{length_of};
 ghost use Rattle.fault.specs.Fault.{number_of, place_of, or_else, count_fault, byte_fault, order_fault, address_fault, sequence_fault, read_fault, whole_fault, cut_fault, fault_of};
 
 // A fault of a record. Places are counted from the record's first byte.
-#[derive(Drop)]
+#[derive(Clone, Copy)]
 pub enum Fault {
     // The record is accepted.
     Nothing,

@@ -1,3 +1,4 @@
+#![tactic(auto)]
 // The fees of an archive from standard input by a tariff file, over a stretch of commits (docs/LICENCE.md, "The program").
 //
 // Memory is constant: the values at the stretch's ends and a mark for each address. The input buffer holds the longest record
@@ -8,27 +9,25 @@ ghost use Rattle.tariff.specs.Table.{longest_table};
 
 use archive::{Answer, Fields, Found};
 use arguments::Commit;
-use libc::{STDERR_FILENO, STDIN_FILENO, STDOUT_FILENO};
 use signed::Change;
+use std::io::IsTerminal;
+use streams::{More, read_more, tell};
 use tariff::Fee;
 use tariff_file::Line;
-
-// Bytes asked of one read: few enough to stay in the processor's cache while they are played.
-const CHUNK: usize = 131072;
 
 // So many bytes apart the progress is shown.
 const SHOWN: u64 = 67108864;
 
 const MEGABYTE: u64 = 1000000;
 
-// Bytes of `io::buffer()`: a tariff's text has fewer.
+// Bytes of `streams::buffer()`: a tariff's text has fewer.
 const TARIFF_ROOM: usize = 4096;
 
 // Lines that are read of a tariff: one more than it may have.
 const LINES: usize = tariff::STEPS + 1;
 
 // A stretch of commits.
-#[derive(Drop)]
+#[derive(Clone, Copy)]
 struct Stretch {
     first: u32,
     last: u32,
@@ -36,7 +35,7 @@ struct Stretch {
 
 // How far the program has come: where in the archive the input buffer starts, bytes there that are not played yet, last commit
 // number, where the progress was shown last, whether it is shown, and whether there is more to do.
-#[derive(Drop)]
+#[derive(Clone, Copy)]
 struct State {
     start: u64,
     len: usize,
@@ -52,14 +51,6 @@ struct Stop {
     at: usize,
     last: u32,
     number: u32,
-}
-
-// What a read brings: the bytes that the buffer now has, the end, or a failure.
-#[derive(Drop)]
-enum More {
-    Bytes(usize),
-    End,
-    Failed,
 }
 
 // Cents that are charged and cents that are given back, and whether all of them are there.
@@ -78,43 +69,43 @@ fn least(a: usize, b: usize) -> usize
 
 // Each function below that says something writes it unless an earlier one could not, and answers whether the next may.
 
-fn say(going: bool, text: &[u8]) -> bool {
+fn say(rt: HostRuntime, going: bool, text: &[u8]) -> bool {
     if !going {
         return false;
     }
-    if io::write_all(STDOUT_FILENO, text) {
-        return true;
+    match rt.write_all(text) {
+        Ok(()) => true,
+        Err(error) => {
+            streams::fail(rt, b"standard output", error);
+            false
+        }
     }
-    os::fail(b"standard output");
-    false
 }
 
-fn say_number(going: bool, n: u64) -> bool {
+fn say_number(rt: HostRuntime, going: bool, n: u64) -> bool {
     let mut text = [0u8; player::DIGITS];
-    let k = io::decimal(n, &mut text);
-    say(going, &text[..k])
+    let k = streams::decimal(n, &mut text);
+    say(rt, going, &text[..k])
 }
 
-fn say_signed(going: bool, n: i64) -> bool {
-    let on = if n < 0 { say(going, b"-") } else { going };
-    say_number(on, signed::magnitude(n))
+fn say_signed(rt: HostRuntime, going: bool, n: i64) -> bool {
+    let on = if n < 0 { say(rt, going, b"-") } else { going };
+    say_number(rt, on, signed::magnitude(n))
 }
 
 // A message's parts go to standard error. Where that fails there is nobody to tell.
 
-fn tell(text: &[u8]) {
-    io::write_all(STDERR_FILENO, text);
-}
-
-fn tell_number(n: u64) {
-    io::print_decimal(STDERR_FILENO, n);
+fn tell_number(rt: HostRuntime, n: u64) {
+    let mut text = [0u8; player::DIGITS];
+    let k = streams::decimal(n, &mut text);
+    tell(rt, &text[..k]);
 }
 
 // `refused N`, where no commit can be named.
-fn refused(number: u64) {
-    let on = say(true, b"refused ");
-    let on = say_number(on, number);
-    say(on, b"\n");
+fn refused(rt: HostRuntime, number: u64) {
+    let on = say(rt, true, b"refused ");
+    let on = say_number(rt, on, number);
+    say(rt, on, b"\n");
 }
 
 // Copies the values.
@@ -238,54 +229,37 @@ fn move_down(input: &mut [u8], at: usize, len: usize) -> usize
     left
 }
 
-// One read behind the first `len` bytes of the buffer.
-fn read_more(input: &mut [u8], len: usize) -> More
-    requires { len ≤ length input.old }
-{
-    let e = len + least(CHUNK, input.len() - len);
-    let part = &mut input[len..e];
-    let got = libc::read(STDIN_FILENO, part);
-    if got < 0 {
-        return More::Failed;
-    }
-    let n = io::count(got, part);
-    if n == 0 {
-        return More::End;
-    }
-    More::Bytes(len + n)
-}
-
 // The words of `words`, which begin with the playback program's name.
-fn say_fault(part: &[u8], start: u64, last: u32, values: &[u64; 256]) {
+fn say_fault(rt: HostRuntime, part: &[u8], start: u64, last: u32, values: &[u64; 256]) {
     let mut line = [0u8; words::LINE];
     let e = words::fault_line(&mut line, 0, start, fault::first_fault(part, last, values));
     let length = least(e, words::LINE);
     if length < words::PREFIX {
         return;
     }
-    tell(b"fees: ");
-    tell(&line[words::PREFIX..length]);
+    tell(rt, b"fees: ");
+    tell(rt, &line[words::PREFIX..length]);
 }
 
 // `refused N after K`, and what is wrong with the record at the start of these bytes.
-fn refuse(part: &[u8], start: u64, number: u32, last: u32, values: &[u64; 256]) {
-    let on = say(true, b"refused ");
-    let on = say_number(on, le::long(number));
-    let on = say(on, b" after ");
-    let on = say_number(on, le::long(last));
-    say(on, b"\n");
-    say_fault(part, start, last, values);
+fn refuse(rt: HostRuntime, part: &[u8], start: u64, number: u32, last: u32, values: &[u64; 256]) {
+    let on = say(rt, true, b"refused ");
+    let on = say_number(rt, on, le::long(number));
+    let on = say(rt, on, b" after ");
+    let on = say_number(rt, on, le::long(last));
+    say(rt, on, b"\n");
+    say_fault(rt, part, start, last, values);
 }
 
 // Takes the line that shows the progress away.
-fn clear(terminal: bool) {
+fn clear(rt: HostRuntime, terminal: bool) {
     if terminal {
-        tell(b"\r                                        \r");
+        tell(rt, b"\r                                        \r");
     }
 }
 
 // Shows how far the archive is read, on a terminal, and answers where that was.
-fn show(s: State, start: u64, last: u32) -> u64 {
+fn show(rt: HostRuntime, s: State, start: u64, last: u32) -> u64 {
     if !s.terminal {
         return s.shown;
     }
@@ -295,10 +269,10 @@ fn show(s: State, start: u64, last: u32) -> u64 {
     if start - s.shown < SHOWN {
         return s.shown;
     }
-    tell(b"\rfees: ");
-    tell_number(start / MEGABYTE);
-    tell(b" MB, commit ");
-    tell_number(le::long(last));
+    tell(rt, b"\rfees: ");
+    tell_number(rt, start / MEGABYTE);
+    tell(rt, b" MB, commit ");
+    tell_number(rt, le::long(last));
     start
 }
 
@@ -315,6 +289,7 @@ fn stopped() -> State {
 
 // Plays the first `len` bytes of the buffer and keeps the record that is cut by its end for the next turn.
 fn advance(
+    rt: HostRuntime,
     input: &mut [u8],
     len: usize,
     stretch: Stretch,
@@ -330,7 +305,7 @@ fn advance(
     let at = least(stop.at, len);
     let start = words::further(s.start, at);
     if stop.number == 0 || stop.number == 12 {
-        let shown = show(s, start, stop.last);
+        let shown = show(rt, s, start, stop.last);
         return State {
             start,
             len: move_down(input, at, len),
@@ -340,26 +315,29 @@ fn advance(
             going: true,
         };
     }
-    clear(s.terminal);
-    refuse(&input[at..len], start, stop.number, stop.last, values);
+    clear(rt, s.terminal);
+    refuse(rt, &input[at..len], start, stop.number, stop.last, values);
     stopped()
 }
 
 // Says why the stretch is not in an archive whose last commit has this number.
-fn say_outside(stretch: Stretch, last: u32) {
+fn say_outside(rt: HostRuntime, stretch: Stretch, last: u32) {
     if stretch.first == 0 {
-        tell(b"fees: there is no commit 0: the first is 1\n");
+        tell(rt, b"fees: there is no commit 0: the first is 1\n");
         return;
     }
     if stretch.last < stretch.first {
-        tell(b"fees: the stretch is backwards: its first commit is behind its last\n");
+        tell(
+            rt,
+            b"fees: the stretch is backwards: its first commit is behind its last\n",
+        );
         return;
     }
-    tell(b"fees: there is no commit ");
-    tell_number(le::long(stretch.last));
-    tell(b": the archive ends behind commit ");
-    tell_number(le::long(last));
-    tell(b"\n");
+    tell(rt, b"fees: there is no commit ");
+    tell_number(rt, le::long(stretch.last));
+    tell(rt, b": the archive ends behind commit ");
+    tell_number(rt, le::long(last));
+    tell(rt, b"\n");
 }
 
 // Whether the stretch is in an archive whose last commit has this number.
@@ -403,9 +381,9 @@ fn charged(total: Total, cents: i64) -> Total {
 }
 
 // The line of an address that 18 is given to.
-fn beyond(going: bool, address: u64, total: Total) -> Total {
-    let on = say_number(going, address);
-    say(on, b" refused 18\n");
+fn beyond(rt: HostRuntime, going: bool, address: u64, total: Total) -> Total {
+    let on = say_number(rt, going, address);
+    say(rt, on, b" refused 18\n");
     Total {
         charged: total.charged,
         returned: total.returned,
@@ -414,26 +392,34 @@ fn beyond(going: bool, address: u64, total: Total) -> Total {
 }
 
 // The line of an address with these values at the stretch's ends, and the total behind it.
-fn bill(table: &[u8], address: u64, mark: u8, new: u64, old: u64, total: Total) -> Total
+fn bill(
+    rt: HostRuntime,
+    table: &[u8],
+    address: u64,
+    mark: u8,
+    new: u64,
+    old: u64,
+    total: Total,
+) -> Total
     requires { length table.now ≤ longest_table }
 {
     if mark == 2 {
-        return beyond(true, address, total);
+        return beyond(rt, true, address, total);
     }
     let sum = signed::between(new, old);
     match sum {
-        Change::Beyond => beyond(true, address, total),
+        Change::Beyond => beyond(rt, true, address, total),
         Change::By(frames) => {
             let owed = tariff::fee_for(table, frames);
             match owed {
-                Fee::Beyond => beyond(true, address, total),
+                Fee::Beyond => beyond(rt, true, address, total),
                 Fee::Owed(cents) => {
-                    let on = say_number(true, address);
-                    let on = say(on, b" ");
-                    let on = say_signed(on, frames);
-                    let on = say(on, b" ");
-                    let on = say_signed(on, cents);
-                    say(on, b"\n");
+                    let on = say_number(rt, true, address);
+                    let on = say(rt, on, b" ");
+                    let on = say_signed(rt, on, frames);
+                    let on = say(rt, on, b" ");
+                    let on = say_signed(rt, on, cents);
+                    say(rt, on, b"\n");
                     charged(total, cents)
                 }
             }
@@ -442,29 +428,35 @@ fn bill(table: &[u8], address: u64, mark: u8, new: u64, old: u64, total: Total) 
 }
 
 // The last line: what is charged less what is given back.
-fn say_total(total: Total) {
-    let on = say(true, b"total ");
+fn say_total(rt: HostRuntime, total: Total) {
+    let on = say(rt, true, b"total ");
     if !total.whole {
-        say(on, b"refused 18\n");
+        say(rt, on, b"refused 18\n");
         return;
     }
     let sum = signed::between(total.charged, total.returned);
     match sum {
         Change::Beyond => {
-            say(on, b"refused 18\n");
+            say(rt, on, b"refused 18\n");
         }
         Change::By(cents) => {
-            let on = say_signed(on, cents);
-            say(on, b"\n");
+            let on = say_signed(rt, on, cents);
+            say(rt, on, b"\n");
         }
     }
 }
 
 // Heading, a line for each address written in the stretch, and the total.
-fn print_bills(table: &[u8], before: &[u64; 256], after: &[u64; 256], marks: &[u8; 256])
+fn print_bills(
+    rt: HostRuntime,
+    table: &[u8],
+    before: &[u64; 256],
+    after: &[u64; 256],
+    marks: &[u8; 256],
+)
     requires { length table.now ≤ longest_table }
 {
-    say(true, b"address frames cents\n");
+    say(rt, true, b"address frames cents\n");
     let mut total = Total {
         charged: 0,
         returned: 0,
@@ -474,15 +466,16 @@ fn print_bills(table: &[u8], before: &[u64; 256], after: &[u64; 256], marks: &[u
     while a < 256 {
         let m = marks[a];
         if m != 0 {
-            total = bill(table, a as u64, m, after[a], before[a], total);
+            total = bill(rt, table, a as u64, m, after[a], before[a], total);
         }
         a += 1;
     }
-    say_total(total);
+    say_total(rt, total);
 }
 
 // The end of the archive. Bytes that are left are a record cut short.
 fn ended(
+    rt: HostRuntime,
     left: &[u8],
     table: &[u8],
     stretch: Stretch,
@@ -494,21 +487,22 @@ fn ended(
 )
     requires { length table.now ≤ longest_table }
 {
-    clear(s.terminal);
+    clear(rt, s.terminal);
     if left.len() != 0 {
-        refuse(left, s.start, 12, s.last, values);
+        refuse(rt, left, s.start, 12, s.last, values);
         return;
     }
     if !is_in(stretch, s.last) {
-        refused(13);
-        say_outside(stretch, s.last);
+        refused(rt, 13);
+        say_outside(rt, stretch, s.last);
         return;
     }
-    print_bills(table, before, after, marks);
+    print_bills(rt, table, before, after, marks);
 }
 
 // One read, and the play of what is then there.
 fn turn(
+    rt: HostRuntime,
     input: &mut [u8],
     table: &[u8],
     stretch: Stretch,
@@ -521,13 +515,14 @@ fn turn(
     requires { length table.now ≤ longest_table }
 {
     let len = least(s.len, input.len());
-    match read_more(input, len) {
+    match read_more(&mut rt.stdin(), input, len) {
         More::Bytes(n) => {
             let have = least(n, input.len());
-            advance(input, have, stretch, values, before, after, marks, s)
+            advance(rt, input, have, stretch, values, before, after, marks, s)
         }
         More::End => {
             ended(
+                rt,
                 &input[..len],
                 table,
                 stretch,
@@ -539,16 +534,16 @@ fn turn(
             );
             stopped()
         }
-        More::Failed => {
-            clear(s.terminal);
-            os::fail(b"standard input");
+        More::Failed(error) => {
+            clear(rt, s.terminal);
+            streams::fail(rt, b"standard input", error);
             stopped()
         }
     }
 }
 
 // A proved loop has to end, and nothing says that standard input does: it counts down from a number that no run uses up.
-fn run(input: &mut [u8], table: &[u8], stretch: Stretch)
+fn run(rt: HostRuntime, input: &mut [u8], table: &[u8], stretch: Stretch)
     requires { length table.now ≤ longest_table }
 {
     let mut values = [0u64; 256];
@@ -560,7 +555,7 @@ fn run(input: &mut [u8], table: &[u8], stretch: Stretch)
         len: 0,
         last: 0,
         shown: 0,
-        terminal: libc::isatty(STDERR_FILENO) == 1,
+        terminal: rt.stderr().is_terminal(),
         going: true,
     };
     let mut turns = u64::MAX;
@@ -569,6 +564,7 @@ fn run(input: &mut [u8], table: &[u8], stretch: Stretch)
             return;
         }
         s = turn(
+            rt,
             input,
             table,
             stretch,
@@ -583,17 +579,17 @@ fn run(input: &mut [u8], table: &[u8], stretch: Stretch)
 }
 
 // The buffer comes as an array: its length is then known by its type, and nothing has to be computed of its bytes.
-fn start(input: &mut [u8; player::INPUT], table: &[u8], stretch: Stretch)
+fn start(rt: HostRuntime, input: &mut [u8; player::INPUT], table: &[u8], stretch: Stretch)
     requires { length table.now ≤ longest_table }
 {
-    run(input, table, stretch);
+    run(rt, input, table, stretch);
 }
 
-fn bill_archive(table: &[u8], stretch: Stretch)
+fn bill_archive(rt: HostRuntime, table: &[u8], stretch: Stretch)
     requires { length table.now ≤ longest_table }
 {
     let mut input = [0u8; player::INPUT];
-    start(&mut input, table, stretch);
+    start(rt, &mut input, table, stretch);
 }
 
 // Where the line that starts at `at` ends: at its byte 10, or where the text does.
@@ -617,13 +613,13 @@ fn behind(e: usize, len: usize) -> usize {
 }
 
 // Says what is wrong with a line of the tariff file, and refuses it.
-fn wrong_line(line: u64, words: &[u8]) {
-    refused(17);
-    tell(b"fees: tariff, line ");
-    tell_number(line);
-    tell(b": ");
-    tell(words);
-    tell(b"\n");
+fn wrong_line(rt: HostRuntime, line: u64, words: &[u8]) {
+    refused(rt, 17);
+    tell(rt, b"fees: tariff, line ");
+    tell_number(rt, line);
+    tell(rt, b": ");
+    tell(rt, words);
+    tell(rt, b"\n");
 }
 
 // How far a tariff file is read: bytes, steps, the last upper count, and whether there is more to do.
@@ -653,15 +649,22 @@ fn line_of(steps: usize) -> u64 {
 }
 
 // Takes a step behind the others into the table.
-fn take_step(table: &mut [u8], r: Reading, e: usize, upper: u64, price: u32) -> Reading {
+fn take_step(
+    rt: HostRuntime,
+    table: &mut [u8],
+    r: Reading,
+    e: usize,
+    upper: u64,
+    price: u32,
+) -> Reading {
     let i = r.steps;
     let line = line_of(i);
     if tariff::STEPS <= i {
-        wrong_line(line, b"a tariff has at most 16 steps");
+        wrong_line(rt, line, b"a tariff has at most 16 steps");
         return unread();
     }
     if 0 < i && upper <= r.upper {
-        wrong_line(line, b"the upper count is not above the one before");
+        wrong_line(rt, line, b"the upper count is not above the one before");
         return unread();
     }
     if table.len() < tariff::LONGEST {
@@ -678,24 +681,27 @@ fn take_step(table: &mut [u8], r: Reading, e: usize, upper: u64, price: u32) -> 
 }
 
 // Reads the line at `r.at`.
-fn take_line(text: &[u8], table: &mut [u8], r: Reading) -> Reading {
+fn take_line(rt: HostRuntime, text: &[u8], table: &mut [u8], r: Reading) -> Reading {
     let at = least(r.at, text.len());
     let e = line_end(text, at);
     let said = tariff_file::step_of(&text[at..e]);
     match said {
         Line::Wrong => {
             wrong_line(
+                rt,
                 line_of(r.steps),
                 b"not an upper count of 0 to 9223372036854775807, a space and a price of 0 to 4294967295",
             );
             unread()
         }
-        Line::Step { upper, price } => { take_step(table, r, behind(e, text.len()), upper, price) }
+        Line::Step { upper, price } => {
+            take_step(rt, table, r, behind(e, text.len()), upper, price)
+        }
     }
 }
 
 // Reads a tariff's text into a table, and answers how many bytes of it are used; 0 where it is refused.
-fn take_tariff(text: &[u8], table: &mut [u8]) -> usize {
+fn take_tariff(rt: HostRuntime, text: &[u8], table: &mut [u8]) -> usize {
     let mut r = Reading {
         at: 0,
         steps: 0,
@@ -708,22 +714,23 @@ fn take_tariff(text: &[u8], table: &mut [u8]) -> usize {
             return 0;
         }
         if text.len() <= r.at {
-            return whole_tariff(r);
+            return whole_tariff(rt, r);
         }
-        r = take_line(text, table, r);
+        r = take_line(rt, text, table, r);
         turns -= 1;
     }
-    if r.good { whole_tariff(r) } else { 0 }
+    if r.good { whole_tariff(rt, r) } else { 0 }
 }
 
 // The end of a tariff's text: the bytes of its steps, 0 where the last of them does not end it.
-fn whole_tariff(r: Reading) -> usize {
+fn whole_tariff(rt: HostRuntime, r: Reading) -> usize {
     if r.steps == 0 {
-        wrong_line(1, b"there is no step");
+        wrong_line(rt, 1, b"there is no step");
         return 0;
     }
     if r.upper != 9223372036854775807 {
         wrong_line(
+            rt,
             r.steps as u64,
             b"the last upper count is not 9223372036854775807",
         );
@@ -736,74 +743,82 @@ fn whole_tariff(r: Reading) -> usize {
 }
 
 // The tariff is the first bytes of a table.
-fn with_table(table: &[u8], length: usize, stretch: Stretch) {
+fn with_table(rt: HostRuntime, table: &[u8], length: usize, stretch: Stretch) {
     let n = least(length, table.len());
     let part = &table[..n];
     if tariff::LONGEST < part.len() {
         return;
     }
     if !tariff::keeps_rules(part) {
-        refused(17);
+        refused(rt, 17);
         return;
     }
-    bill_archive(part, stretch);
+    bill_archive(rt, part, stretch);
 }
 
 // The tariff's text is in hand.
-fn with_tariff(text: &[u8], stretch: Stretch) {
+fn with_tariff(rt: HostRuntime, text: &[u8], stretch: Stretch) {
     let mut table = [0u8; tariff::LONGEST];
-    let length = take_tariff(text, &mut table);
+    let length = take_tariff(rt, text, &mut table);
     if length == 0 {
         return;
     }
-    with_table(&table, length, stretch);
+    with_table(rt, &table, length, stretch);
 }
 
 // Reads the tariff file of this name.
-fn with_file(path: &[u8], stretch: Stretch) {
-    let fd = os::open_read(path);
-    if fd < 0 {
-        os::fail(path);
-        return;
+fn with_file(rt: HostRuntime, path: &[u8], stretch: Stretch) {
+    match streams::open(rt, path) {
+        Err(error) => streams::fail(rt, path, error),
+        Ok(mut file) => {
+            let mut text = streams::buffer();
+            let n = streams::read_full(&mut file, &mut text);
+            drop(file);
+            if n == TARIFF_ROOM {
+                refused(rt, 17);
+                tell(rt, b"fees: tariff: the file is longer than ");
+                tell_number(rt, (TARIFF_ROOM - 1) as u64);
+                tell(rt, b" bytes\n");
+                return;
+            }
+            with_tariff(rt, &text[..n], stretch);
+        }
     }
-    let mut text = io::buffer();
-    let n = io::read_full(fd, &mut text);
-    libc::close(fd);
-    if n == TARIFF_ROOM {
-        refused(17);
-        tell(b"fees: tariff: the file is longer than ");
-        tell_number((TARIFF_ROOM - 1) as u64);
-        tell(b" bytes\n");
-        return;
-    }
-    with_tariff(&text[..n], stretch);
 }
 
-fn help() {
+fn help(rt: HostRuntime) {
     let on = say(
+        rt,
         true,
         b"usage: fees TARIFF FIRST LAST <ARCHIVE\n       fees --help\n",
     );
     let on = say(
+        rt,
         on,
         b"Prints the chargeable frames and the fee in cents of each counter that the commits FIRST to LAST write, and the total.\n",
     );
     let on = say(
+        rt,
         on,
         b"TARIFF is a file of 1 to 16 lines `upper price`: the step's last frame, and its price per 1,000 frames in hundredths of\n",
     );
     let on = say(
+        rt,
         on,
         b"a cent. Upper counts rise, and the last is 9223372036854775807.\n",
     );
     say(
+        rt,
         on,
         b"The last line is `total CENTS`, or `refused N` or `refused N after K`; what is wrong goes to standard error.\n",
     );
 }
 
-fn misunderstood() {
-    tell(b"fees: the arguments are not understood; fees --help says which there are\n");
+fn misunderstood(rt: HostRuntime) {
+    tell(
+        rt,
+        b"fees: the arguments are not understood; fees --help says which there are\n",
+    );
 }
 
 fn is_help(word: &[u8]) -> bool {
@@ -819,33 +834,33 @@ fn is_help(word: &[u8]) -> bool {
 }
 
 // The three words are these.
-fn asked(path: &[u8], first: &[u8], last: &[u8]) {
+fn asked(rt: HostRuntime, path: &[u8], first: &[u8], last: &[u8]) {
     let a = arguments::commit_of(first);
     let b = arguments::commit_of(last);
     match a {
-        Commit::Nothing => misunderstood(),
+        Commit::Nothing => misunderstood(rt),
         Commit::Number(f) => match b {
-            Commit::Nothing => misunderstood(),
-            Commit::Number(l) => with_file(path, Stretch { first: f, last: l }),
+            Commit::Nothing => misunderstood(rt),
+            Commit::Number(l) => with_file(rt, path, Stretch { first: f, last: l }),
         },
     }
 }
 
-fn main() {
-    let mut path = io::buffer();
-    let mut first = io::buffer();
-    let mut last = io::buffer();
-    let n = os::arg(1, &mut path);
-    let m = os::arg(2, &mut first);
-    let k = os::arg(3, &mut last);
-    let count = os::arg_count();
+fn main(rt: HostRuntime) {
+    let mut path = streams::buffer();
+    let mut first = streams::buffer();
+    let mut last = streams::buffer();
+    let n = streams::argument(&rt, 1, &mut path);
+    let m = streams::argument(&rt, 2, &mut first);
+    let k = streams::argument(&rt, 3, &mut last);
+    let count = streams::argument_count(&rt);
     if count == 2 && is_help(&path[..n]) {
-        help();
+        help(rt);
         return;
     }
     if count != 4 {
-        misunderstood();
+        misunderstood(rt);
         return;
     }
-    asked(&path[..n], &first[..m], &last[..k]);
+    asked(rt, &path[..n], &first[..m], &last[..k]);
 }

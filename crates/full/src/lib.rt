@@ -1,3 +1,4 @@
+#![tactic(auto)]
 // One record in full (docs/PLAYBACK.md, "--record N"), put into a lent output.
 ghost use Rattle.std.specs.Prelude.{◌≡◌, ◌+◌, ◌≤◌, length};
 ghost use Rattle.record.specs.Check.{claimed_length};

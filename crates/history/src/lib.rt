@@ -1,3 +1,4 @@
+#![tactic(auto)]
 // The changes of one counter (docs/PLAYBACK.md, "--counter A"): which records write it, and a line for each.
 ghost use Rattle.std.specs.Prelude.{◌≡◌, ◌<◌, eqb, length};
 ghost use Rattle.text.specs.Text.{columns, put};

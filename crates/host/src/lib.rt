@@ -1,3 +1,4 @@
+#![tactic(auto)]
 // A station for C: numbers and byte slices. Every function of the station crates that a host calls is here under its C name.
 ghost use Rattle.std.specs.Prelude.{◌≡◌, ◌≤◌, length};
 ghost use Rattle.std.proofs.lemmas.List.Edits.{sets};
@@ -63,15 +64,13 @@ pub fn tell(x: Said, told: &mut [u64]) -> u32
     put_told(told, 2, v, x.messages, x.commit)
 }
 
-#[unsafe(no_mangle)]
-pub extern "C" fn wax_station_fresh(station: u32, kind: u32, state: &mut [u8]) -> u32
+pub fn wax_station_fresh(station: u32, kind: u32, state: &mut [u8]) -> u32
     ensures { freshened state.new result ≡ fresh_of station kind state.old }
 {
     station_state::fresh(station, kind, state)
 }
 
-#[unsafe(no_mangle)]
-pub extern "C" fn wax_station_begin(
+pub fn wax_station_begin(
     state: &mut [u8],
     messages: &mut [u8],
     commit: &mut [u8],
@@ -86,8 +85,7 @@ pub extern "C" fn wax_station_begin(
     tell(x, told)
 }
 
-#[unsafe(no_mangle)]
-pub extern "C" fn wax_station_read(
+pub fn wax_station_read(
     address: u32,
     state: &mut [u8],
     messages: &mut [u8],
@@ -103,8 +101,7 @@ pub extern "C" fn wax_station_read(
     tell(x, told)
 }
 
-#[unsafe(no_mangle)]
-pub extern "C" fn wax_station_write(
+pub fn wax_station_write(
     address: u32,
     value: u64,
     state: &mut [u8],
@@ -135,8 +132,7 @@ fn eight(values: &[u64]) -> [u64; 8]
     v
 }
 
-#[unsafe(no_mangle)]
-pub extern "C" fn wax_station_write_set(
+pub fn wax_station_write_set(
     page: u32,
     set: u32,
     values: &[u64],
@@ -158,8 +154,7 @@ pub extern "C" fn wax_station_write_set(
     tell(x, told)
 }
 
-#[unsafe(no_mangle)]
-pub extern "C" fn wax_station_commit(
+pub fn wax_station_commit(
     state: &mut [u8],
     messages: &mut [u8],
     commit: &mut [u8],
@@ -174,8 +169,7 @@ pub extern "C" fn wax_station_commit(
     tell(x, told)
 }
 
-#[unsafe(no_mangle)]
-pub extern "C" fn wax_station_abort(
+pub fn wax_station_abort(
     state: &mut [u8],
     messages: &mut [u8],
     commit: &mut [u8],
@@ -190,8 +184,7 @@ pub extern "C" fn wax_station_abort(
     tell(x, told)
 }
 
-#[unsafe(no_mangle)]
-pub extern "C" fn wax_station_purge(
+pub fn wax_station_purge(
     page: u32,
     state: &mut [u8],
     messages: &mut [u8],
@@ -207,8 +200,7 @@ pub extern "C" fn wax_station_purge(
     tell(x, told)
 }
 
-#[unsafe(no_mangle)]
-pub extern "C" fn wax_station_step(
+pub fn wax_station_step(
     message: &[u8],
     state: &mut [u8],
     messages: &mut [u8],
@@ -224,15 +216,13 @@ pub extern "C" fn wax_station_step(
     tell(x, told)
 }
 
-#[unsafe(no_mangle)]
-pub extern "C" fn wax_down_check(station: u32, message: &[u8]) -> u32
+pub fn wax_down_check(station: u32, message: &[u8]) -> u32
     ensures { result ≡ down_number station message.now }
 {
     message::down_check(station, message)
 }
 
-#[unsafe(no_mangle)]
-pub extern "C" fn wax_up_check(kinds: &[u8], message: &[u8]) -> u32
+pub fn wax_up_check(kinds: &[u8], message: &[u8]) -> u32
     ensures { result ≡ up_number kinds.now message.now }
 {
     message::up_check(kinds, message)

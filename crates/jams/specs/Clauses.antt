@@ -1,11 +1,11 @@
 -- What "no message of a rule-keeper is refused" needs beside the invariant of crate truth: statements only. Each is over plain values of
 -- one station and its lines, so that an action that leaves these values is seen to keep the clause.
-use Rattle.std.specs.Prelude.{◌≡◌, Bool, true, false, not, ◌&&◌, ◌||◌, cond, List, [], ◌∷◌, ◌⊎◌, ◌≢◌, ℕ, suc, ◌+◌, ◌≤◌, ◌<◌, eqb}
+use Rattle.std.specs.Prelude.{◌≡◌, Bool, true, false, ◌&&◌, ◌||◌, List, [], ◌∷◌, ◌⊎◌, ◌≢◌, ℕ, suc, ◌+◌, ◌≤◌, ◌<◌, eqb}
 use Rattle.sets.specs.Base.{Val, has, any}
 use Rattle.line.specs.All.{All}
-use Rattle.line.specs.Messages.{page_of, address, locking, keeps, Up, ReadRequest, WriteRequest, Commit, Abort, Purge, Busy, Done, WrittenSet, Lock, NoLock, ObjectLock, WholeLock, Down, Page, Deescalate, Callback, Committed, Aborted, Invalidate}
+use Rattle.line.specs.Messages.{page_of, address, locking, keeps, Up, ReadRequest, WriteRequest, Commit, Abort, Purge, Busy, Done, WrittenSet, NoLock, ObjectLock, WholeLock, Down, Page, Deescalate, Callback, Committed, Aborted, Invalidate}
 use Rattle.line.specs.Station.{Station, NotKept, Wait, for_write, writes_to, some_on}
-use Rattle.line.specs.Server.{Server, Want, WantWrite, lock_on, Waiter}
+use Rattle.line.specs.Server.{Server, Want, WantWrite, Waiter}
 use Rattle.line.specs.Line.{World}
 use Rattle.line.specs.Truth.{count}
 use Rattle.truth.specs.Clauses.{dropped, ask_of, set_of, ask_tokens}

@@ -2,14 +2,15 @@
 use Rattle.std.specs.Prelude.{◌≡◌, refl, Bool, true, false, ◌&&◌, cond, List, [], ◌∷◌, ◌⊎◌, ◌≢◌, ℕ, zero, suc, ◌+◌, ◌≤◌, ◌<◌, eqb}
 use Rattle.std.proofs.Common.{sym, ap, ◌∙◌, inl, inr, arith}
 use Rattle.std.proofs.lemmas.Bool.{false≢true}
-use Rattle.sets.specs.Base.{upd, snoc, Val, some, has, none_at, none}
-use Rattle.sets.specs.Laws.{by_b, by_eq, eqb_same, eqb_yes, and_l, and_r}
+use Rattle.sets.specs.Base.{snoc, Val, some, has, none_at, none}
+use Rattle.sets.specs.Laws.{by_b, by_eq}
+use Rattle.sets.proofs.Laws.{eqb_same, eqb_yes, and_l, and_r}
 use Rattle.line.specs.All.{All, all_map}
 use Rattle.line.specs.Messages.{page_of, Up, ReadRequest, WriteRequest, Commit, Abort, Purge, Busy, Done, WrittenSet, Down, Page, Deescalate, Callback, Committed, Aborted, Invalidate}
 use Rattle.line.specs.Server.{Want, NoWant, WantRead, WantWrite, WantCommit}
 use Rattle.line.specs.Truth.{count}
 use Rattle.truth.specs.Clauses.{ask_of, set_of, ask_tokens}
-use Rattle.truth.specs.Frame.{one_most, count_snoc, all_snoc, count_none, none_count}
+use Rattle.truth.proofs.Frame.{one_most, count_snoc, all_snoc, count_none, none_count}
 use Rattle.truth.specs.GoalsLists.{either}
 use Rattle.jams.specs.Until.{until_snoc, until_none, until_pop}
 use Rattle.jams.specs.Clauses.{grants_whole, asks_lock, AskBelow, SetBelow, SetFull, SetWritten, NoWholeBehind, gives_up, Deescalation}

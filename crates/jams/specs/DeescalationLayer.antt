@@ -6,7 +6,8 @@ use Rattle.std.proofs.Math.Bool.{Bool}
 use Rattle.std.proofs.lemmas.Bool.{false≢true}
 use Prim.Native.Nat.{ℕ, suc, ◌≤◌, ◌<◌}
 use Rattle.sets.specs.Base.{upd, nowhere}
-use Rattle.sets.specs.Laws.{by_b, by_eq, eqb_same, eqb_yes, and_l, and_r, any_some}
+use Rattle.sets.specs.Laws.{by_b, by_eq}
+use Rattle.sets.proofs.Laws.{eqb_same, eqb_yes, and_l, and_r, any_some}
 use Rattle.line.specs.Messages.{page_of, keeps, Up, ReadRequest, WriteRequest, Commit, Abort, Purge, Busy, Done, WrittenSet, NoLock, Down, address}
 use Rattle.line.specs.Station.{Station, Did, station_step}
 use Rattle.line.specs.Server.{ByMessage, Server, Serving, WantWrite, Waiter, bad_number, unexpected, notice, finish, join, send_page, serve_now, join_read, join_write, join_commit, read_waiter, write_waiter, commit_waiter, commit_now, unlist, mark_busy, answered, open_ask, heeded, accept, install_waiter, start}
@@ -16,15 +17,17 @@ use Rattle.line.specs.Runs.{tell_keeps}
 use Rattle.line.specs.Line.{World, world_down, Op, perform, carry_up, carry_down, sent_to, is_refused, fresh}
 use Rattle.line.specs.Truth.{count}
 use Rattle.truth.specs.Clauses.{stale, token_up, tokens, Shape}
-use Rattle.truth.specs.Inv.{after_owner, after_station, taken, Acts, Over, heard_good}
-use Rattle.truth.specs.Frame.{append_nil, count_less, Accepts, accepts, noticed_kind, noticed_wl}
-use Rattle.truth.specs.ValidatedMoves.{perform_kind, step_kind}
+use Rattle.truth.specs.Inv.{after_owner, after_station, taken, Acts, Over}
+use Rattle.truth.proofs.Inv.{heard_good}
+use Rattle.truth.specs.Frame.{Accepts}
+use Rattle.truth.proofs.Frame.{append_nil, count_less, accepts, noticed_kind, noticed_wl}
+use Rattle.truth.proofs.ValidatedMoves.{perform_kind, step_kind}
 use Rattle.jams.specs.Clauses.{asks_lock, gives_up, DeescalationAt, DeescalationOf, Orderly}
 use Rattle.jams.specs.Freed.{answers_open}
 use Rattle.jams.specs.Deescalation.{is_write}
 use Rattle.jams.specs.DeescalationStation.{Known, owner_de, station_de}
 use Rattle.jams.specs.DeescalationServer.{DeIn, finished_free, finish_de, join_de, notice_de, taken_de, abort_de, install_de, commit_de, page_de, read_de, object_de, whole_de, ask_de, call_de, busy_de, answered_de, loosen_de}
-use Rattle.truth.specs.Tokens.{of_page_lem, in_page}
+use Rattle.truth.proofs.Tokens.{of_page_lem, in_page}
 
 -- THE START
 

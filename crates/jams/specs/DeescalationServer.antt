@@ -1,6 +1,6 @@
 -- The server's actions and de-escalation of page p at station j, under a server's step: t are the stations, u the up lines, d the down
 -- lines before the step.
-use Rattle.std.specs.Prelude.{◌≡◌, Bool, not, ◌&&◌, List, ◌∷◌, ◌++◌, ◌≢◌}
+use Rattle.std.specs.Prelude.{◌≡◌, Bool, List, ◌∷◌, ◌++◌, ◌≢◌}
 use Rattle.std.proofs.Math.Path.{refl, ap}
 use Rattle.std.proofs.Common.{sym, ◌∙◌, arith}
 use Rattle.std.proofs.Math.Bool.{true, false, cond}
@@ -8,7 +8,8 @@ use Rattle.std.proofs.lemmas.Bool.{false≢true}
 use Prim.Native.Nat.{ℕ, suc, ◌<◌}
 use Rattle.std.proofs.Math.Dec.{eqb}
 use Rattle.sets.specs.Base.{upd, upd2, snoc, has}
-use Rattle.sets.specs.Laws.{by_b, by_eq, eqb_yes, eqb_no}
+use Rattle.sets.specs.Laws.{by_b, by_eq}
+use Rattle.sets.proofs.Laws.{eqb_yes, eqb_no}
 use Rattle.line.specs.Messages.{page_of, last_number, keeps, Work, Up, WrittenSet, Lock, NoLock, ObjectLock, WholeLock, Down, Page, Deescalate, Callback, Committed, Aborted, Invalidate}
 use Rattle.line.specs.Station.{Station}
 use Rattle.line.specs.Server.{Server, Serving, on_server, send, set_listed, set_ol, set_queue, values_on, unavailable, Waiter, waiter_pend, waiter_called, NoWant, WantWrite, waits, bad_number, notice, finish, join, leave, send_page, abort, write, archive, install, commit_now, mark_busy, answered, loosen, ask, serve_read, concerned, call, grant_object, grant_page, End, ByCommit, ByCause}
@@ -16,9 +17,9 @@ use Rattle.line.specs.Apart.{Apart, GoodNumber, good_number}
 use Rattle.line.specs.Line.{sent_to}
 use Rattle.line.specs.Truth.{count}
 use Rattle.truth.specs.Clauses.{ask_of}
-use Rattle.truth.specs.Frame.{if_serving, installs, call_own, call_far, noticed_latest, noticed_fin, noticed_queue, noticed_ol, noticed_wl, noticed_sent}
-use Rattle.truth.specs.CallbacksServer.{send_to, send_past}
-use Rattle.truth.specs.ExclusionFields.{eqb_off}
+use Rattle.truth.proofs.Frame.{if_serving, installs, call_own, call_far, noticed_latest, noticed_fin, noticed_queue, noticed_ol, noticed_wl, noticed_sent}
+use Rattle.truth.proofs.CallbacksServer.{send_to, send_past}
+use Rattle.truth.proofs.ExclusionFields.{eqb_off}
 use Rattle.jams.specs.Freed.{freed_fore, released_none, released_back, released_not, new_whole}
 use Rattle.jams.specs.Clauses.{grants_whole, asks_lock, AskBelow, gives_up, DeescalationAt}
 use Rattle.jams.specs.Deescalation.{is_write, pop_up, push_down, waits_for, others, begun, over, asks, grants, loosens}

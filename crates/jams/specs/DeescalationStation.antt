@@ -9,7 +9,8 @@ use Rattle.std.proofs.Math.Logic.{inl, inr}
 use Prim.Native.Nat.{ℕ, suc, ◌≤◌}
 use Rattle.std.proofs.Math.Dec.{eqb}
 use Rattle.sets.specs.Base.{upd, Val, none, has}
-use Rattle.sets.specs.Laws.{by_b, by_eq, eqb_same, eqb_yes, and_r, or_yes, or_no, any_some, not_yes}
+use Rattle.sets.specs.Laws.{by_b, by_eq, or_yes}
+use Rattle.sets.proofs.Laws.{eqb_same, eqb_yes, and_r, or_no, any_some, not_yes}
 use Rattle.line.specs.All.{all_map}
 use Rattle.line.specs.Messages.{page_of, address, locking, keeps, Up, ReadRequest, WriteRequest, Commit, Abort, Purge, Busy, Done, WrittenSet, Lock, NoLock, ObjectLock, WholeLock, Down, Page, Deescalate, Callback, Committed, Aborted, Invalidate, Written}
 use Rattle.line.specs.Station as St
@@ -18,8 +19,9 @@ use Rattle.line.specs.Server.{Server}
 use Rattle.line.specs.Line.{Op, perform}
 use Rattle.line.specs.Truth.{count}
 use Rattle.truth.specs.Clauses.{stale, token_down, set_of, Tokens}
-use Rattle.truth.specs.Tokens.{idle_quiet, of_page_lem, undo_kind}
-use Rattle.truth.specs.Frame.{none_count, count_less, append_nil, append_assoc, Active, Owns, performs, closes, is_lock, arrived, Takes, takes, ForPage}
+use Rattle.truth.proofs.Tokens.{idle_quiet, of_page_lem, undo_kind}
+use Rattle.truth.specs.Frame.{Active, Owns, is_lock, arrived, Takes, ForPage}
+use Rattle.truth.proofs.Frame.{none_count, count_less, append_nil, append_assoc, performs, closes, takes}
 use Rattle.truth.specs.GoalsLists.{either}
 use Rattle.jams.specs.Clauses.{KindUp, Numbers, Locks, abort_of, grants_whole, gives_up, Deescalation, Sets}
 use Rattle.jams.specs.Deescalation.{pop_down, push_up, answers, opens, ends, writes, holds}

@@ -2,7 +2,8 @@
 use Rattle.std.specs.Prelude.{◌≡◌, refl, Bool, true, false, not, ◌&&◌, ◌||◌, cond, ◌≢◌, ℕ, suc, ◌<◌, eqb, ltb}
 use Rattle.std.proofs.Common.{sym, arith}
 use Rattle.std.proofs.lemmas.Bool.{false≢true}
-use Rattle.sets.specs.Laws.{by_b, by_eq, eqb_yes, eqb_no, ltb_no, or_no, not_yes}
+use Rattle.sets.specs.Laws.{by_b, by_eq}
+use Rattle.sets.proofs.Laws.{eqb_yes, eqb_no, ltb_no, or_no, not_yes}
 use Rattle.line.specs.Messages.{keeps}
 use Rattle.line.specs.Server.{Server, unlocks, waits, bad_number, open_ask}
 use Rattle.line.specs.Apart.{Holder, WholeHolder}

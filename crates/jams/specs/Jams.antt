@@ -2,7 +2,7 @@
 use Rattle.std.specs.Prelude.{ℕ, List}
 use Rattle.line.specs.Line.{Call, run, fresh}
 use Rattle.truth.specs.Inv.{Over}
-use Rattle.truth.specs.Theorem.{of_run}
+use Rattle.truth.proofs.Theorem.{of_run}
 use Rattle.jams.specs.Clauses.{Orderly}
 use Rattle.jams.specs.NumbersLayer.{numbers_layer, kept_layer}
 use Rattle.jams.specs.LocksLayer.{locks_layer}

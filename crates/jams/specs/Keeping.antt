@@ -1,16 +1,17 @@
 -- Keeping of page p at station i (K1, K4, K6, K10, N9, N12): what one event does to it. Over values only.
-use Rattle.std.specs.Prelude.{◌≡◌, refl, Bool, true, false, ◌&&◌, cond, List, [], ◌∷◌, ◌⊎◌, ◌≢◌, ℕ, zero, suc, ◌+◌, ◌≤◌, ◌<◌, eqb}
+use Rattle.std.specs.Prelude.{◌≡◌, refl, Bool, true, false, cond, List, [], ◌∷◌, ◌⊎◌, ◌≢◌, ℕ, suc, ◌+◌, ◌≤◌, eqb}
 use Rattle.std.proofs.Common.{sym, ap, ◌∙◌, inl, inr, arith}
 use Rattle.std.proofs.lemmas.Bool.{false≢true}
 use Rattle.sets.specs.Base.{snoc, Val, none, some, has, none_at}
-use Rattle.sets.specs.Laws.{by_b, by_eq, eqb_same, eqb_yes}
+use Rattle.sets.specs.Laws.{by_b}
+use Rattle.sets.proofs.Laws.{eqb_same}
 use Rattle.line.specs.All.{All, all_map}
 use Rattle.line.specs.Messages.{page_of, Up, ReadRequest, WriteRequest, Commit, Abort, Purge, Busy, Done, WrittenSet, Down, Deescalate}
 use Rattle.line.specs.Server.{Want, NoWant, WantWrite}
 use Rattle.line.specs.Station.{or_val}
 use Rattle.line.specs.Truth.{count}
 use Rattle.truth.specs.Clauses.{dropped}
-use Rattle.truth.specs.Frame.{count_snoc, all_snoc, all_both, count_none, none_count}
+use Rattle.truth.proofs.Frame.{count_snoc, all_snoc, count_none}
 use Rattle.truth.specs.GoalsLists.{either}
 use Rattle.jams.specs.Until.{until_add, until_snoc, until_none, until_pop}
 use Rattle.jams.specs.Clauses.{abort_of, is_end, grants_whole, asks_lock, answer_number, SetWritten, set_for, ask_for, KeptFull, NoneUntil, NoWholeAfter, Unended, SetClear, SetsClear, Keeping}

@@ -1,11 +1,12 @@
 -- The layer of keeping: every move from an orderly world leads to a world where stations of kind 2 keep their pages in order.
-use Rattle.std.specs.Prelude.{◌≡◌, Bool, false, List, ◌∷◌, ◌++◌, ◌≢◌, eqb}
+use Rattle.std.specs.Prelude.{◌≡◌, Bool, false, List, ◌∷◌, ◌≢◌, eqb}
 use Rattle.std.proofs.Math.Path.{refl}
 use Rattle.std.proofs.Common.{sym, ap, ◌∙◌, arith}
 use Rattle.std.proofs.Math.Bool.{true, false≢true}
 use Prim.Native.Nat.{ℕ, zero, suc, ◌≤◌, ◌<◌}
 use Rattle.sets.specs.Base.{upd, nowhere}
-use Rattle.sets.specs.Laws.{by_b, by_eq, eqb_same, eqb_yes}
+use Rattle.sets.specs.Laws.{by_eq}
+use Rattle.sets.proofs.Laws.{eqb_same, eqb_yes}
 use Rattle.line.specs.Messages.{page_of, locking, keeps, Up, ReadRequest, WriteRequest, Commit, Abort, Purge, Busy, Done, WrittenSet, NoLock, Down}
 use Rattle.line.specs.Station.{Station, Did, station_step}
 use Rattle.line.specs.Server.{ByMessage, Server, Serving, WantWrite, Waiter, bad_number, unexpected, notice, finish, join, send_page, serve_now, join_read, join_write, join_commit, read_waiter, write_waiter, commit_waiter, commit_now, unlist, mark_busy, answered, open_ask, heeded, accept, install_waiter, start}
@@ -14,13 +15,17 @@ use Rattle.line.specs.Runs.{tell_keeps}
 use Rattle.line.specs.Line.{World, world_down, Op, perform, carry_up, carry_down, is_refused, fresh}
 use Rattle.line.specs.Truth.{count}
 use Rattle.truth.specs.Clauses.{dropped}
-use Rattle.truth.specs.Inv.{after_owner, after_station, taken, Acts, Over, heard_good}
-use Rattle.truth.specs.Frame.{append_nil, Accepts, accepts, noticed_kind, noticed_wl}
+use Rattle.truth.specs.Inv.{after_owner, after_station, taken, Acts, Over}
+use Rattle.truth.proofs.Inv.{heard_good}
+use Rattle.truth.specs.Frame.{Accepts}
+use Rattle.truth.proofs.Frame.{append_nil, accepts, noticed_kind, noticed_wl}
 use Rattle.truth.specs.GoalsLists.{either}
-use Rattle.truth.specs.Exclusion.{lines, known_in}
-use Rattle.truth.specs.ExclusionPass.{write_page}
-use Rattle.truth.specs.Tokens.{both, of_page_lem}
-use Rattle.truth.specs.ValidatedMoves.{perform_kind, step_kind}
+use Rattle.truth.specs.Exclusion.{lines}
+use Rattle.truth.proofs.Exclusion.{known_in}
+use Rattle.truth.proofs.ExclusionPass.{write_page}
+use Rattle.truth.specs.Tokens.{both}
+use Rattle.truth.proofs.Tokens.{of_page_lem}
+use Rattle.truth.proofs.ValidatedMoves.{perform_kind, step_kind}
 use Rattle.jams.specs.Clauses.{numbered, named, set_for, KeepingAt, KeepingOf, Orderly}
 use Rattle.jams.specs.NumbersAccept.{below}
 use Rattle.jams.specs.Deescalation.{is_write}

@@ -1,27 +1,30 @@
 -- The moves of station i, of kind 2, and its owner, and what it keeps of page p. A 19 becomes an 8 and the page is given up, whatever
 -- transaction is open.
-use Rattle.std.specs.Prelude.{◌≡◌, not, ◌&&◌, ◌||◌, cond, List, [], ◌∷◌, ◌++◌, ◌⊎◌}
+use Rattle.std.specs.Prelude.{◌≡◌, ◌&&◌, ◌||◌, cond, List, [], ◌∷◌, ◌++◌, ◌⊎◌}
 use Rattle.std.proofs.Math.Path.{refl, sym}
-use Rattle.std.proofs.Common.{ap, ◌∙◌, arith}
+use Rattle.std.proofs.Common.{◌∙◌, arith}
 use Rattle.std.proofs.Math.Bool.{Bool, true, false}
 use Rattle.std.proofs.lemmas.Bool.{false≢true}
 use Rattle.std.proofs.Math.Logic.{inl, inr}
-use Prim.Native.Nat.{ℕ, suc, ◌+◌, ◌≤◌, ◌<◌}
+use Prim.Native.Nat.{ℕ, suc, ◌≤◌}
 use Rattle.std.proofs.Math.Dec.{eqb}
-use Rattle.sets.specs.Base.{upd, Val, none, has, none_at}
-use Rattle.sets.specs.Laws.{by_b, by_eq, eqb_same, eqb_yes, eqb_no, and_l, and_r, or_yes, or_no, any_some, not_yes}
+use Rattle.sets.specs.Base.{upd, Val, has, none_at}
+use Rattle.sets.specs.Laws.{by_b, by_eq, or_yes}
+use Rattle.sets.proofs.Laws.{eqb_same, eqb_yes, eqb_no, and_l, and_r, or_no, any_some, not_yes}
 use Rattle.line.specs.All.{All, all_map}
-use Rattle.line.specs.Messages.{page_of, address, locking, keeps, Up, ReadRequest, WriteRequest, Commit, Abort, Purge, Busy, Done, WrittenSet, Lock, NoLock, ObjectLock, WholeLock, Down, Page, Deescalate, Callback, Committed, Aborted, Invalidate, Written, AbortedFor}
+use Rattle.line.specs.Messages.{page_of, address, locking, keeps, Up, ReadRequest, WriteRequest, Commit, Abort, Purge, Busy, Done, WrittenSet, Lock, NoLock, ObjectLock, WholeLock, Down, Page, Deescalate, Callback, Committed, Aborted, Written, AbortedFor}
 use Rattle.line.specs.Station as St
 use Rattle.line.specs.Station.{Station, Did, does, did_station, set_kept, NotKept, KeptCall, work_of, live, may_write, used_page, requested, waiting, drops, mark, drop_pages, record_read, write_local, do_callback, closed, close, undo, read_local, read_ask, write_ask, arrive, take_lock, written_on, loosen, on_deescalate, on_committed, on_aborted, station_step, ForWrite, for_write, some_on, lowest_on, named, of_page, answers_for, kept_whole}
 use Rattle.line.specs.Server.{Server}
 use Rattle.line.specs.Line.{Op, perform, is_refused}
 use Rattle.line.specs.Apart.{keeps_locks}
 use Rattle.line.specs.Truth.{count}
-use Rattle.truth.specs.Clauses.{stale, token_down, dropped, brings}
-use Rattle.truth.specs.Tokens.{both, Quiet, idle_quiet, took_down, live_hot, of_page_lem, undo_kind, undo_num}
-use Rattle.truth.specs.Coverage.{unused, tokens_unasked, drops_unused, drops_unasked, drops_unkept}
-use Rattle.truth.specs.Frame.{count_less, append_nil, append_assoc, Active, Owns, performs, closes, is_lock, arrived, Takes, takes, ForPage}
+use Rattle.truth.specs.Clauses.{stale, token_down, brings}
+use Rattle.truth.specs.Tokens.{both, Quiet}
+use Rattle.truth.proofs.Tokens.{idle_quiet, took_down, of_page_lem, undo_kind, undo_num}
+use Rattle.truth.proofs.Coverage.{unused, tokens_unasked, drops_unused, drops_unasked, drops_unkept}
+use Rattle.truth.specs.Frame.{Active, Owns, is_lock, arrived, Takes, ForPage}
+use Rattle.truth.proofs.Frame.{count_less, append_nil, append_assoc, performs, closes, takes}
 use Rattle.truth.specs.GoalsLists.{either}
 use Rattle.jams.specs.Clauses.{answer_number, grants_whole, set_for, Unended, Keeping}
 use Rattle.jams.specs.Keeping.{pop_down, push_up, plain_up, answers, opens, shuts, writes, took_end}

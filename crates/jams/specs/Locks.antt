@@ -3,15 +3,16 @@ use Rattle.std.specs.Prelude.{◌≡◌, refl, Bool, true, false, ◌&&◌, ◌|
 use Rattle.std.proofs.Common.{sym, ap, ◌∙◌, inl, inr, arith}
 use Rattle.std.proofs.lemmas.Bool.{false≢true}
 use Rattle.sets.specs.Base.{upd, snoc, nowhere, Val, none, some, has, none_at}
-use Rattle.sets.specs.Laws.{by_b, by_eq, eqb_same, eqb_yes, or_yes, any_yes, any_some}
+use Rattle.sets.specs.Laws.{by_b, by_eq, or_yes}
+use Rattle.sets.proofs.Laws.{eqb_same, eqb_yes, any_yes, any_some}
 use Rattle.line.specs.All.{All, all_map}
 use Rattle.line.specs.Messages.{page_of, address, locking, keeps, Up, Abort, WrittenSet, NoLock, ObjectLock, WholeLock, Down, Page, Deescalate, Callback, Committed, Aborted, Invalidate}
 use Rattle.line.specs.Truth.{count}
 use Rattle.truth.specs.Clauses.{dropped, set_of, brings, stale, token_down}
-use Rattle.truth.specs.Frame.{count_snoc, count_less, all_snoc, count_none}
-use Rattle.truth.specs.Coverage.{on_page_lem}
+use Rattle.truth.proofs.Frame.{count_snoc, count_less, all_snoc, count_none}
+use Rattle.truth.proofs.Coverage.{on_page_lem}
 use Rattle.truth.specs.GoalsLists.{either}
-use Rattle.jams.specs.Clauses.{abort_of, is_end, grants_object, grants_whole, meets, NoneUntil, Granted, Stands, Locks}
+use Rattle.jams.specs.Clauses.{abort_of, is_end, grants_object, grants_whole, meets, NoneUntil, Granted, Locks}
 use Rattle.jams.specs.Until.{until_ended, until_snoc, until_pop}
 use Rattle.line.specs.Station.{or_val}
 use Rattle.truth.specs.Tokens.{Quiet}

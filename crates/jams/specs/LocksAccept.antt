@@ -4,20 +4,24 @@ use Rattle.std.proofs.Math.Path.{refl, ap}
 use Rattle.std.proofs.Common.{sym, ◌∙◌, arith}
 use Rattle.std.proofs.Math.Bool.{Bool, true, false, not}
 use Rattle.std.proofs.Math.Logic.{inl, inr}
-use Prim.Native.Nat.{ℕ, suc, ◌+◌, ◌≤◌, ◌<◌}
+use Prim.Native.Nat.{ℕ, suc, ◌≤◌, ◌<◌}
 use Rattle.std.proofs.Math.Dec.{eqb}
 use Rattle.sets.specs.Base.{upd, has}
-use Rattle.sets.specs.Laws.{by_b, by_eq, eqb_same, eqb_yes, eqb_no, ltb_yes, ltb_no, or_no, and_l, and_r, not_yes}
+use Rattle.sets.specs.Laws.{by_b, by_eq}
+use Rattle.sets.proofs.Laws.{eqb_same, eqb_yes, eqb_no, ltb_yes, ltb_no, or_no, and_l, and_r, not_yes}
 use Rattle.line.specs.Messages.{page_of, locking, keeps, Work, Up, ReadRequest, WriteRequest, Commit, Abort, Purge, Busy, Done, WrittenSet, NoLock, ObjectLock, WholeLock, Down, Page, Deescalate, Callback, Committed, Aborted, Invalidate}
 use Rattle.line.specs.Station.{Station, Wait, for_write}
-use Rattle.line.specs.Server.{ByMessage, Server, Serving, waits, bad_number, notice, finish, join, serve_now, join_read, join_write, join_commit, unlist, commit_now, mark_busy, answered, open_ask, loosen, heeded, accept, unexpected, start}
+use Rattle.line.specs.Server.{ByMessage, Server, Serving, bad_number, notice, finish, join, serve_now, join_read, join_write, join_commit, unlist, commit_now, mark_busy, answered, open_ask, loosen, heeded, accept, unexpected, start}
 use Rattle.line.specs.Line.{World, carry_down, sent_to}
 use Rattle.line.specs.Apart.{good_number, Renews, asked_of, keeps_locks}
 use Rattle.line.specs.Truth.{count}
 use Rattle.truth.specs.Clauses.{set_of, dropped, FitDown}
-use Rattle.truth.specs.Frame.{append_nil, all_both, none_count, noticed_own, noticed_fin, noticed_kind, noticed_ol, noticed_wl, noticed_sent, Accepts, accepts}
-use Rattle.truth.specs.Inv.{taken, heard_good}
-use Rattle.truth.specs.Tokens.{both, took_up}
+use Rattle.truth.specs.Frame.{Accepts}
+use Rattle.truth.proofs.Frame.{append_nil, all_both, none_count, noticed_own, noticed_fin, noticed_kind, noticed_ol, noticed_wl, noticed_sent, accepts}
+use Rattle.truth.specs.Inv.{taken}
+use Rattle.truth.proofs.Inv.{heard_good}
+use Rattle.truth.specs.Tokens.{both}
+use Rattle.truth.proofs.Tokens.{took_up}
 use Rattle.truth.specs.GoalsLists.{either}
 use Rattle.jams.specs.Clauses.{abort_of, is_end, grants_whole, meets, Latest, Granted, Unended, Locks, LocksOf, Orderly}
 use Rattle.jams.specs.Until.{until_pop}

@@ -1,17 +1,18 @@
 -- The server's locks and what a station has of them: what a lock given, taken back or split does. Over values only; the tokens of crate
 -- truth say which addresses can be written or locked.
-use Rattle.std.specs.Prelude.{◌≡◌, refl, Bool, true, false, ◌&&◌, cond, List, ◌∷◌, ◌⊎◌, ◌≢◌, ℕ, suc, ◌≤◌, ◌<◌, eqb, ltb}
+use Rattle.std.specs.Prelude.{◌≡◌, refl, Bool, true, false, ◌&&◌, cond, List, ◌∷◌, ◌⊎◌, ℕ, suc, ◌≤◌, ◌<◌, eqb, ltb}
 use Rattle.std.proofs.Common.{sym, ap, ◌∙◌, inl, inr, arith}
 use Rattle.std.proofs.lemmas.Bool.{false≢true}
 use Rattle.sets.specs.Base.{upd, snoc, Val, has}
-use Rattle.sets.specs.Laws.{by_b, by_eq, eqb_same, eqb_yes, eqb_no, ltb_yes, ltb_no, and_l, and_r}
+use Rattle.sets.specs.Laws.{by_b, by_eq}
+use Rattle.sets.proofs.Laws.{eqb_same, eqb_yes, eqb_no, ltb_yes, ltb_no, and_l, and_r}
 use Rattle.line.specs.All.{All, all_map}
 use Rattle.line.specs.Messages.{page_of, locking, Up, WrittenSet, NoLock, ObjectLock, WholeLock, Down, Page, Deescalate, Callback, Committed, Aborted, Invalidate}
 use Rattle.line.specs.Station.{Wait, for_read, for_write}
 use Rattle.line.specs.Server.{Waiter}
 use Rattle.line.specs.Truth.{count}
 use Rattle.truth.specs.Clauses.{dropped, Fit, lock_wait, FitDown, Tokens}
-use Rattle.truth.specs.Frame.{count_snoc, all_snoc, all_both, count_none, none_count}
+use Rattle.truth.proofs.Frame.{count_snoc, all_snoc, all_both, count_none, none_count}
 use Rattle.truth.specs.GoalsLists.{either}
 use Rattle.jams.specs.Clauses.{abort_of, is_end, grants_object, grants_whole, meets, NoneUntil, Granted, Stands, Locks}
 use Rattle.jams.specs.Until.{until_none, until_pop}
@@ -189,7 +190,7 @@ loosened {i = i} {ol = ol} {due = due} {OL = OL} {WL = WL} {latest = latest} {U 
       K3b = h.K3b;
       K7 =
           all_both (λ n. InRange n × (grants_whole p n ≡ false)) (Granted i OL WL due ol) (Granted i (λ a. cond (eqb (page_of a) p && set a) (suc i) (OL a)) (upd WL p 0) due ol)
-          (λ n x g. regrant i OL WL _ _ due ol (λ a b. own a) n (λ r u v. by_eq r p (λ f. absurd (false≢true (sym x.1 ∙ (rw (← eqb_yes r p f) u)))) (λ f. rw f v)) x.0 g)
+          (λ n x g. regrant i OL WL (λ a. cond (eqb (page_of a) p && set a) (suc i) (OL a)) (upd WL p 0) due ol (λ a b. own a) n (λ r u v. by_eq r p (λ f. absurd (false≢true (sym x.1 ∙ (rw (← eqb_yes r p f) u)))) (λ f. rw f v)) x.0 g)
           D (all_both InRange (λ n. grants_whole p n ≡ false) (λ n. InRange n × (grants_whole p n ≡ false)) (λ n x y. (x, y)) D k.granted (count_none (grants_whole p) D none)) h.K7;
       K9 = λ l o a x. by_eq (page_of a) p (λ f. inl (known l o a (eqb_yes (page_of a) p f) x)) (λ f. either (h.K9 l o a x) (λ y. inl y) (λ y. inr (y.0, rw f y.1)));
       N9 = λ r. (

@@ -5,7 +5,8 @@ use Rattle.std.proofs.Common.{sym, ◌∙◌, arith}
 use Rattle.std.proofs.Math.Bool.{true, false≢true}
 use Prim.Native.Nat.{ℕ, zero, suc, ◌≤◌, ◌<◌}
 use Rattle.sets.specs.Base.{upd}
-use Rattle.sets.specs.Laws.{by_eq, eqb_same, eqb_yes, eqb_no, and_r}
+use Rattle.sets.specs.Laws.{by_eq}
+use Rattle.sets.proofs.Laws.{eqb_same, eqb_yes, eqb_no, and_r}
 use Rattle.line.specs.Messages.{page_of, locking, Up, Down}
 use Rattle.line.specs.Station.{Station, Did, station_step, writes_to}
 use Rattle.line.specs.Server.{Server, Serving, WantWrite, waits, install_waiter}
@@ -16,9 +17,10 @@ use Rattle.line.specs.Line.{World, world_down, Op, perform, carry_up, carry_down
 use Rattle.line.specs.Truth.{count}
 use Rattle.truth.specs.Clauses.{dropped, Shape, FitWaiter}
 use Rattle.truth.specs.Inv.{after_owner, after_station, Acts, Over}
-use Rattle.truth.specs.Tokens.{left_quiet, in_page}
-use Rattle.truth.specs.Exclusion.{lines, Known, known_in}
-use Rattle.truth.specs.ExclusionPass.{held, write_page, write_some, write_wants}
+use Rattle.truth.proofs.Tokens.{left_quiet, in_page}
+use Rattle.truth.specs.Exclusion.{lines, Known}
+use Rattle.truth.proofs.Exclusion.{known_in}
+use Rattle.truth.proofs.ExclusionPass.{held, write_page, write_some, write_wants}
 use Rattle.jams.specs.Clauses.{LocksAt, LocksOf, Orderly, NamesSet}
 use Rattle.jams.specs.LocksHeld.{ranged}
 use Rattle.jams.specs.LocksStation.{owner_locks, station_locks}

@@ -4,21 +4,19 @@ use Rattle.std.specs.Prelude.{◌≡◌, ◌&&◌, List, ◌++◌, ◌≢◌, �
 use Rattle.std.proofs.Math.Path.{refl, sym, ap}
 use Rattle.std.proofs.Common.{◌∙◌, arith}
 use Rattle.std.proofs.Math.Bool.{Bool, true, false, cond}
-use Rattle.std.proofs.lemmas.Bool.{false≢true}
 use Rattle.std.proofs.Math.Logic.{inl, inr}
-use Prim.Native.Nat.{ℕ, suc, ◌+◌, ◌<◌}
+use Prim.Native.Nat.{ℕ, suc, ◌<◌}
 use Rattle.sets.specs.Base.{upd, upd2, has}
-use Rattle.sets.specs.Laws.{by_b, by_eq, eqb_yes, eqb_no, and_l}
-use Rattle.line.specs.All.{All, all_map}
+use Rattle.sets.specs.Laws.{by_b, by_eq}
+use Rattle.sets.proofs.Laws.{eqb_yes, eqb_no, and_l}
 use Rattle.line.specs.Messages.{page_of, last_number, keeps, Work, Up, NoLock, ObjectLock, WholeLock, Down, Page, Deescalate, Callback, Committed, Aborted, Invalidate}
 use Rattle.line.specs.Station.{Station, for_write}
-use Rattle.line.specs.Server.{Server, Serving, on_server, send, set_listed, set_asked, Waiter, values_on, unavailable, notice, finish, leave, send_page, abort, write, archive, install, commit_now, loosen, ask, serve_read, concerned, call, grant_object, grant_page, End, ByCommit, ByCause, wrote_page}
+use Rattle.line.specs.Server.{Server, Serving, on_server, send, set_listed, set_asked, values_on, unavailable, notice, finish, leave, send_page, abort, write, archive, install, commit_now, loosen, ask, serve_read, concerned, call, grant_object, grant_page, End, ByCommit, ByCause}
 use Rattle.line.specs.Line.{sent_to}
 use Rattle.line.specs.Truth.{count}
-use Rattle.truth.specs.Clauses.{stale, token_down, dropped}
-use Rattle.truth.specs.Frame.{count_snoc, count_none, all_snoc, send_own, call_own, call_far, noticed_latest, noticed_ol, noticed_wl, noticed_sent, if_serving, installs}
-use Rattle.truth.specs.Tokens.{Quiet}
-use Rattle.truth.specs.CallbacksServer.{send_to, send_past}
+use Rattle.truth.specs.Clauses.{dropped}
+use Rattle.truth.proofs.Frame.{count_snoc, all_snoc, send_own, call_own, call_far, noticed_latest, noticed_ol, noticed_wl, noticed_sent, if_serving, installs}
+use Rattle.truth.proofs.CallbacksServer.{send_to, send_past}
 use Rattle.jams.specs.Clauses.{is_end, Granted, Locks, LocksAt}
 use Rattle.jams.specs.Locks.{bare, push_down, NoGrants}
 use Rattle.jams.specs.Freed.{freed, freed_none, freed_back, freed_fore, released, released_none, released_back, released_fore, released_kept}

@@ -7,18 +7,21 @@ use Rattle.std.proofs.lemmas.Bool.{false≢true}
 use Rattle.std.proofs.Math.Logic.{inl, inr}
 use Prim.Native.Nat.{ℕ, suc, ◌+◌, ◌%◌, ◌≤◌}
 use Rattle.std.proofs.Math.Dec.{eqb}
-use Rattle.sets.specs.Base.{upd, nowhere, none_at, some, has, Val}
-use Rattle.sets.specs.Laws.{by_b, by_eq, eqb_same, eqb_yes, and_l, and_r, or_yes, any_no, not_no}
-use Rattle.line.specs.Messages.{page_of, locking, keeps, Up, ReadRequest, WriteRequest, Commit, Abort, Purge, Busy, Done, WrittenSet, Lock, NoLock, ObjectLock, WholeLock, Down, Page, Deescalate, Callback, Committed, Aborted, Invalidate, Written, AbortedFor, address}
+use Rattle.sets.specs.Base.{upd, nowhere, none_at, has, Val}
+use Rattle.sets.specs.Laws.{by_b, by_eq, or_yes}
+use Rattle.sets.proofs.Laws.{eqb_same, eqb_yes, and_l, and_r, any_no, not_no}
+use Rattle.line.specs.Messages.{page_of, locking, keeps, Up, ReadRequest, Commit, Abort, Purge, Busy, Done, WrittenSet, Lock, NoLock, ObjectLock, WholeLock, Down, Page, Deescalate, Callback, Committed, Aborted, Invalidate, Written, AbortedFor, address}
 use Rattle.line.specs.Station.{Station, Did, does, requested, live, used_page, work_of, drops, mark, drop_pages, record_read, write_local, do_callback, closed, close, undo, read_local, read_ask, write_ask, arrive, take_lock, written_on, loosen, on_deescalate, on_committed, on_aborted, station_step, Wait, Idle, ForRead, ForWrite, ForCommit, waiting, for_write, some_on, may_write, named, of_page, kept_whole, answers_for, gives_up}
 use Rattle.line.specs.Server.{Waiter}
 use Rattle.line.specs.Line.{Op, perform, is_refused}
 use Rattle.line.specs.Apart.{keeps_locks}
 use Rattle.line.specs.Truth.{count}
 use Rattle.truth.specs.Clauses.{Tokens, dropped}
-use Rattle.truth.specs.Frame.{append_nil, append_assoc, Owns, performs, closes, is_lock, arrived, Takes, takes, ForPage}
-use Rattle.truth.specs.Tokens.{both, idle_quiet, Quiet, took_down, live_hot, undo_kind}
-use Rattle.truth.specs.Coverage.{unused, tokens_unasked, quiet_unasked, drops_unused, drops_unasked, on_page_lem}
+use Rattle.truth.specs.Frame.{Owns, is_lock, arrived, Takes, ForPage}
+use Rattle.truth.proofs.Frame.{append_nil, append_assoc, performs, closes, takes}
+use Rattle.truth.specs.Tokens.{both, Quiet}
+use Rattle.truth.proofs.Tokens.{idle_quiet, took_down, live_hot, undo_kind}
+use Rattle.truth.proofs.Coverage.{unused, tokens_unasked, drops_unused, drops_unasked, on_page_lem}
 use Rattle.jams.specs.Clauses.{meets, abort_of, Numbers, Locks, Sets}
 use Rattle.jams.specs.Locks.{Settled, Leaving, settled_add, settled_locks, free, meets_yes, meets_some, push_up, plain_up, pop_down, unused_leaving, began, writes, splits, aborts, over, wrote_now, rewaits, none_due, quiet_grants, quiet_objects}
 use Rattle.truth.specs.GoalsLists.{either}

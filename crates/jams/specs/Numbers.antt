@@ -2,16 +2,18 @@
 use Rattle.std.specs.Prelude.{◌≡◌, refl, Bool, true, false, not, ◌&&◌, cond, List, [], ◌∷◌, ◌⊎◌, ℕ, ◌+◌, ◌≤◌, ◌<◌, eqb}
 use Rattle.std.proofs.Common.{sym, inl, inr, arith}
 use Rattle.sets.specs.Base.{snoc, Val}
-use Rattle.sets.specs.Laws.{by_b, by_eq, eqb_same, eqb_yes, eqb_no, and_l, and_r, not_yes, not_no}
+use Rattle.sets.specs.Laws.{by_b, by_eq}
+use Rattle.sets.proofs.Laws.{eqb_same, eqb_yes, eqb_no, and_l, and_r, not_yes, not_no}
 use Rattle.line.specs.All.{All, all_map}
 use Rattle.line.specs.Messages.{locking, Up, ReadRequest, WriteRequest, Commit, Abort, Purge, Busy, Done, WrittenSet, Lock, NoLock, ObjectLock, WholeLock, Down, Page, Deescalate, Callback, Committed, Aborted, Invalidate}
 use Rattle.line.specs.Station.{Wait, Idle}
 use Rattle.line.specs.Server.{Waiter, Want, NoWant, WantRead, WantWrite, WantCommit, is_want}
 use Rattle.line.specs.Truth.{count}
 use Rattle.truth.specs.Clauses.{stale, token_up, token_down, FitUp, FitDown, FitWaiter, Tokens}
-use Rattle.truth.specs.Frame.{count_snoc, all_snoc, count_none, count_less, all_both}
+use Rattle.truth.proofs.Frame.{count_snoc, all_snoc, count_none, count_less, all_both}
 use Rattle.truth.specs.GoalsLists.{either}
-use Rattle.truth.specs.Tokens.{both, Quiet, took_up}
+use Rattle.truth.specs.Tokens.{both, Quiet}
+use Rattle.truth.proofs.Tokens.{took_up}
 use Rattle.jams.specs.Clauses.{KindUp, KindDown, numbered, named, Above, Rising, Next, abort_of, AbortOver, is_end, Latest, AskBelow, answer_number, AnswersFirst, Met, Numbers}
 
 -- ONE MESSAGE

@@ -4,14 +4,16 @@ use Rattle.std.proofs.Math.Path.{refl}
 use Rattle.std.proofs.Common.{sym, ◌∙◌, arith}
 use Rattle.std.proofs.Math.Bool.{true, false}
 use Rattle.sets.specs.Base.{upd, nowhere}
-use Rattle.sets.specs.Laws.{by_eq, eqb_same, eqb_yes}
+use Rattle.sets.specs.Laws.{by_eq}
+use Rattle.sets.proofs.Laws.{eqb_same, eqb_yes}
 use Rattle.line.specs.Messages.{locking, keeps, Work, Up, ReadRequest, WriteRequest, Commit, Abort, Purge, Busy, Done, WrittenSet, NoLock}
 use Rattle.line.specs.Server.{ByMessage, Serving, bad_number, unexpected, notice, finish, join, serve_now, join_read, join_write, join_commit, commit_now, unlist, mark_busy, answered, loosen, accept, start}
 use Rattle.line.specs.Line.{World}
 use Rattle.line.specs.Apart.{Renews, keeps_locks}
-use Rattle.truth.specs.Inv.{heard_good}
+use Rattle.truth.proofs.Inv.{heard_good}
 use Rattle.truth.specs.Clauses.{stale}
-use Rattle.truth.specs.Frame.{append_nil, noticed_latest, noticed_own, noticed_fin, noticed_kind, noticed_sent, Accepts, accepts}
+use Rattle.truth.specs.Frame.{Accepts}
+use Rattle.truth.proofs.Frame.{append_nil, noticed_latest, noticed_own, noticed_fin, noticed_kind, noticed_sent, accepts}
 use Rattle.truth.specs.GoalsLists.{either}
 use Rattle.truth.specs.Tokens.{both, Before}
 use Rattle.jams.specs.Clauses.{numbered, named, Numbers, Orderly}

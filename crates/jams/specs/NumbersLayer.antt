@@ -1,8 +1,9 @@
 -- The layer of numbers: every move from an orderly world leads to a world whose numbers are in order, and where validating stations have
 -- kept no callback.
-use Rattle.std.specs.Prelude.{◌≡◌, refl, true, false, List, ◌∷◌, ◌++◌, ℕ, ◌+◌, ◌<◌}
+use Rattle.std.specs.Prelude.{◌≡◌, refl, true, false, List, ◌∷◌, ◌++◌, ℕ, ◌<◌}
 use Rattle.std.proofs.Common.{arith}
-use Rattle.sets.specs.Laws.{by_eq, eqb_yes}
+use Rattle.sets.specs.Laws.{by_eq}
+use Rattle.sets.proofs.Laws.{eqb_yes}
 use Rattle.line.specs.Messages.{Up, Down}
 use Rattle.line.specs.Station.{Station, station_step}
 use Rattle.line.specs.Server.{Server, Serving, waits, install_waiter}
@@ -11,7 +12,8 @@ use Rattle.line.specs.Apart.{Apart}
 use Rattle.line.specs.Runs.{tell_keeps}
 use Rattle.truth.specs.Clauses.{TokensAt}
 use Rattle.truth.specs.Inv.{Acts, Over}
-use Rattle.truth.specs.Tokens.{both, left_quiet}
+use Rattle.truth.specs.Tokens.{both}
+use Rattle.truth.proofs.Tokens.{left_quiet}
 use Rattle.jams.specs.Clauses.{NumbersAt, KeptAt, NumbersOf, KeptOf, Orderly}
 use Rattle.jams.specs.Numbers.{waiter_open, quiet_calm, quiet_above}
 use Rattle.jams.specs.NumbersStation.{NumbersDid, owner_numbers, station_numbers}

@@ -7,14 +7,15 @@ use Rattle.std.proofs.Math.Bool.{true, false, not, cond}
 use Prim.Native.Nat.{ℕ, suc, ◌≤◌}
 use Rattle.std.proofs.Math.Dec.{eqb, ltb}
 use Rattle.sets.specs.Base.{upd, upd2, has}
-use Rattle.sets.specs.Laws.{by_b, by_eq, eqb_yes, and_l, and_r, not_yes}
+use Rattle.sets.specs.Laws.{by_b, by_eq}
+use Rattle.sets.proofs.Laws.{eqb_yes, and_l, and_r, not_yes}
 use Rattle.line.specs.All.{All}
 use Rattle.line.specs.Messages.{page_of, last_number, locking, Work, Up, Lock, NoLock, ObjectLock, WholeLock, Down, Page, Deescalate, Callback, Committed, Aborted, Invalidate}
 use Rattle.line.specs.Station.{Station}
 use Rattle.line.specs.Server.{Server, Serving, on_server, send, set_listed, set_asked, set_ol, set_wl, values_on, informed, unavailable, finish, leave, send_page, abort, write, archive, install, commit_now, ask, serve_read, concerned, call, grant_object, grant_page, End, ByCommit, ByCause, set_whole_for}
 use Rattle.line.specs.Line.{sent_to}
-use Rattle.truth.specs.Frame.{if_serving, installs, call_own, call_far}
-use Rattle.truth.specs.CallbacksServer.{send_to, send_past}
+use Rattle.truth.proofs.Frame.{if_serving, installs, call_own, call_far}
+use Rattle.truth.proofs.CallbacksServer.{send_to, send_past}
 use Rattle.jams.specs.Clauses.{KindDown, Above, is_end, Latest, NumbersAt, AskBelow}
 use Rattle.jams.specs.Numbers.{Calm, push_down, finished}
 

@@ -5,18 +5,21 @@ use Rattle.std.proofs.Math.Path.{refl}
 use Rattle.std.proofs.Common.{sym, ap, ◌∙◌, arith}
 use Rattle.std.proofs.Math.Bool.{true}
 use Rattle.std.proofs.lemmas.Bool.{false≢true}
-use Prim.Native.Nat.{ℕ, ◌+◌, ◌≤◌, ◌<◌}
+use Prim.Native.Nat.{ℕ, ◌≤◌, ◌<◌}
 use Rattle.sets.specs.Base.{snoc, Val}
-use Rattle.sets.specs.Laws.{by_b, by_eq, eqb_yes, and_r}
+use Rattle.sets.specs.Laws.{by_b, by_eq}
+use Rattle.sets.proofs.Laws.{eqb_yes, and_r}
 use Rattle.line.specs.All.{all_map}
 use Rattle.line.specs.Messages.{locking, keeps, Up, ReadRequest, WriteRequest, Commit, Abort, Purge, Busy, Done, WrittenSet, Lock, NoLock, ObjectLock, WholeLock, Down, Deescalate, Callback, Committed, Aborted, Invalidate, Written}
 use Rattle.line.specs.Station as S
 use Rattle.line.specs.Station.{Station, Did, does, did_station, Kept, NotKept, KeptCall, live, work_of, mark, drop_pages, record_read, write_local, do_callback, closed, close, read_local, read_ask, write_ask, arrive, take_lock, loosen, on_deescalate, on_committed, on_aborted, station_step, lowest_on, of_page, answers_for, gives_up}
 use Rattle.line.specs.Server.{Waiter}
 use Rattle.line.specs.Line.{Op, perform, is_refused}
-use Rattle.truth.specs.Frame.{append_nil, append_assoc, Active, Owns, performs, closes, arrived, Takes, takes}
-use Rattle.truth.specs.Tokens.{both, Before, idle_quiet, undo_kind, undo_num}
-use Rattle.truth.specs.CallbacksStation.{undo_kept}
+use Rattle.truth.specs.Frame.{Active, Owns, arrived, Takes}
+use Rattle.truth.proofs.Frame.{append_nil, append_assoc, performs, closes, takes}
+use Rattle.truth.specs.Tokens.{both, Before}
+use Rattle.truth.proofs.Tokens.{idle_quiet, undo_kind, undo_num}
+use Rattle.truth.proofs.CallbacksStation.{undo_kept}
 use Rattle.jams.specs.Clauses.{KindUp, numbered, named, Above, AbortOver, Numbers, answer_number}
 use Rattle.jams.specs.Numbers.{push_up, plain_up, pop_down, begin, shut, took_end, own_abort, quiet_old, quiet_next, answer_up}
 

@@ -1,6 +1,6 @@
 -- The layer of sets: what a 2, or the waiter that it became, names is what the owner waits to write and has no lock on yet. While the
 -- request is out, locks only come (by a 19), and what is to be written stays.
-use Rattle.std.specs.Prelude.{◌≡◌, true, false, not, ◌&&◌, ◌||◌, cond, List, [], ◌∷◌, ◌++◌, ◌⊎◌, eqb}
+use Rattle.std.specs.Prelude.{◌≡◌, true, false, ◌&&◌, ◌||◌, cond, List, [], ◌∷◌, ◌++◌, ◌⊎◌, eqb}
 use Rattle.std.proofs.Math.Path.{refl}
 use Rattle.std.proofs.Common.{sym, ap, ◌∙◌, arith}
 use Rattle.std.proofs.Math.Bool.{Bool}
@@ -8,18 +8,20 @@ use Rattle.std.proofs.lemmas.Bool.{false≢true}
 use Rattle.std.proofs.Math.Logic.{inl, inr}
 use Prim.Native.Nat.{ℕ, ◌<◌}
 use Rattle.sets.specs.Base.{upd, snoc, Val, has}
-use Rattle.sets.specs.Laws.{by_b, by_eq, eqb_same, eqb_yes, and_l, and_r, and_both, or_yes, not_no, not_yes, any_some}
+use Rattle.sets.specs.Laws.{by_b, by_eq, or_yes}
+use Rattle.sets.proofs.Laws.{eqb_same, eqb_yes, and_l, and_r, not_yes, any_some}
 use Rattle.line.specs.All.{All, all_map}
-use Rattle.line.specs.Messages.{page_of, address, locking, Work, Up, ReadRequest, WriteRequest, Commit, Abort, Purge, Busy, Done, WrittenSet, Lock, NoLock, ObjectLock, WholeLock, Down, Page, Deescalate, Callback, Committed, Aborted, Invalidate, last_number}
+use Rattle.line.specs.Messages.{page_of, address, locking, Work, Up, ReadRequest, WriteRequest, Commit, Abort, Purge, Busy, Done, WrittenSet, Down, last_number}
 use Rattle.line.specs.Station as S
 use Rattle.line.specs.Station.{Station, Did, does, did_station, set_kept, Wait, Idle, ForRead, ForWrite, ForCommit, waiting, for_write, writes_to, some_on, lowest_on, may_write, named, of_page, live, work_of, mark, drop_pages, record_read, write_local, do_callback, closed, close, read_local, read_ask, write_ask, arrive, take_lock, on_deescalate, on_committed, on_aborted, station_step}
-use Rattle.line.specs.Server.{Server, Serving, Waiter, no_waiter, Want, NoWant, WantRead, WantWrite, WantCommit, is_want, waiter_pend, waiter_called, waiter_busy, bad_number, unexpected, notice, finish, join, leave, send_page, serve_now, join_read, join_write, join_commit, commit_now, abort, write, archive, install, unlist, open_call, mark_busy, answered, loosen, accept, start, ask, serve_read, concerned, call, grant_page, grant_object, install_waiter, send, ByMessage}
-use Rattle.line.specs.Line.{World, world_down, Op, perform, carry_up, carry_down, is_refused, fresh}
+use Rattle.line.specs.Server.{Server, Serving, Waiter, no_waiter, Want, NoWant, WantRead, WantWrite, WantCommit, is_want, notice, finish, join, leave, send_page, serve_now, join_read, join_write, join_commit, commit_now, abort, write, archive, install, unlist, mark_busy, answered, loosen, start, ask, serve_read, call, grant_page, grant_object, install_waiter}
+use Rattle.line.specs.Line.{World, Op, perform, carry_up, carry_down}
 use Rattle.line.specs.Runs.{tell_keeps}
 use Rattle.truth.specs.Clauses.{stale, token_up, Tokens}
-use Rattle.truth.specs.Frame.{append_nil, all_snoc, count_none, if_serving, installs, noticed_queue, Active, Owns, performs, closes, Takes, takes, Accepts, accepts}
-use Rattle.truth.specs.Inv.{after_owner, after_station, taken, Acts, Over}
-use Rattle.truth.specs.Tokens.{idle_quiet, idle_page_write, of_page_lem}
+use Rattle.truth.specs.Frame.{Active, Owns, Takes, Accepts}
+use Rattle.truth.proofs.Frame.{append_nil, all_snoc, count_none, if_serving, installs, noticed_queue, performs, closes, takes, accepts}
+use Rattle.truth.specs.Inv.{Acts, Over}
+use Rattle.truth.proofs.Tokens.{idle_quiet, idle_page_write, of_page_lem}
 use Rattle.jams.specs.Clauses.{NamesSet, NamesUp, Sets, SetsAt, SetsOf, Orderly}
 use Rattle.line.specs.Asks.{Asks}
 

@@ -2,7 +2,8 @@
 use Rattle.std.specs.Prelude.{◌≡◌, refl, Bool, true, false, not, ◌&&◌, ◌||◌, List, ◌∷◌, ℕ, suc, ◌≤◌, ◌<◌, eqb, ltb}
 use Rattle.std.proofs.Common.{sym, ap, ◌∙◌, arith}
 use Rattle.sets.specs.Base.{Val, has, any}
-use Rattle.sets.specs.Laws.{by_b, eqb_same, eqb_yes, ltb_yes, and_l, and_r, or_yes, not_yes, any_some}
+use Rattle.sets.specs.Laws.{by_b, or_yes}
+use Rattle.sets.proofs.Laws.{eqb_same, eqb_yes, ltb_yes, and_l, and_r, not_yes, any_some}
 use Rattle.line.specs.All.{All, all_map}
 use Rattle.line.specs.Messages.{page_of, address, locking, keeps, Work, Up, ReadRequest, WriteRequest, Commit, Abort, Purge, Busy, Done, WrittenSet, NoLock, ObjectLock, WholeLock, Down, Page, Deescalate, Callback, Committed, Aborted, Invalidate}
 use Rattle.line.specs.Station.{Station, Wait, waiting, for_read, for_write, for_commit, ended, live, fits, writes_to}
@@ -10,9 +11,10 @@ use Rattle.line.specs.Server.{Server, Waiter, is_want, lock_on, bad_number, unlo
 use Rattle.line.specs.Line.{World}
 use Rattle.line.specs.Truth.{count}
 use Rattle.truth.specs.Clauses.{stale, token_up, token_down, Fit, FitDown, dropped, Tokens}
-use Rattle.truth.specs.Frame.{none_count, count_less}
+use Rattle.truth.proofs.Frame.{none_count, count_less}
 use Rattle.truth.specs.GoalsLists.{either}
-use Rattle.truth.specs.Tokens.{both, took_up}
+use Rattle.truth.specs.Tokens.{both}
+use Rattle.truth.proofs.Tokens.{took_up}
 use Rattle.jams.specs.Clauses.{KindDown, numbered, named, Above, abort_of, is_end, Numbers, Orderly}
 use Rattle.jams.specs.Numbers.{up_below, up_old, end_token, waiter_open}
 

@@ -3,14 +3,16 @@
 use Rattle.std.specs.Prelude.{◌≡◌, refl, Bool, true, false, ◌⊎◌, ℕ, suc, ◌<◌, ltb}
 use Rattle.std.proofs.Common.{ap, inl, inr, arith, lt-ltb}
 use mathlib.Core.List.{List, [], ◌∷◌}
-use Rattle.sets.specs.Laws.{by_b, eqb_same, ltb_yes}
+use Rattle.sets.specs.Laws.{by_b}
+use Rattle.sets.proofs.Laws.{eqb_same, ltb_yes}
 use Rattle.line.specs.Messages.{Up, Down, Answer, Nothing, Begun, Value, Waits, Written, CommittedAs, AbortedFor, Purged, Refused, Empty}
 use Rattle.line.specs.Station.{Station, Did, fits, close, do_callback, on_deescalate, on_committed, on_aborted, station_step}
 use Rattle.line.specs.Line.{World, Call, Owner, ServerTakes, StationTakes, Broken, carry_up, carry_down, is_refused, station_takes, server_takes, act}
 use Rattle.line.specs.Runs.{tell_keeps}
-use Rattle.truth.specs.Frame.{closes, Takes, takes}
+use Rattle.truth.specs.Frame.{Takes}
+use Rattle.truth.proofs.Frame.{closes, takes}
 use Rattle.truth.specs.Inv.{Acts, Over}
-use Rattle.truth.specs.Truth.{moves}
+use Rattle.truth.proofs.Truth.{moves}
 use Rattle.truth.specs.Tokens.{both}
 use Rattle.jams.specs.Clauses.{NumbersOf, KeptOf, LocksOf, DeescalationOf, KeepingOf, Orderly, SetsOf}
 use Rattle.jams.specs.Taken.{taken_up, taken_down}

@@ -1,3 +1,4 @@
+#![tactic(auto)]
 // The kinds of stations, and whose rules each has: said here for all code and in specs/Kinds.antt for the definitions.
 ghost use Rattle.std.specs.Prelude.{◌≡◌};
 ghost use Rattle.kinds.specs.Kinds.{locking, keeps};

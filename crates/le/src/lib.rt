@@ -1,3 +1,4 @@
+#![tactic(auto)]
 // Little-endian numbers inside a slice of bytes, and numbers at a wider type.
 ghost use Rattle.std.specs.Prelude.{◌≡◌, ◌+◌, ◌≤◌, ◌<◌, length, set};
 ghost use Rattle.le.specs.Le.{u16_at, u32_at, u64_at, set_u16, set_u32, set_u64};

@@ -1,7 +1,7 @@
 -- The turns of `framesOn` always suffice, and what each of them keeps.
 use Prim.Native.Nat.{ℕ, zero, suc, ◌+◌, ◌-◌, ◌≤◌, ◌<◌}
-use Rattle.std.specs.Prelude.{◌≡◌, refl, List, Bool, true, false, ◌||◌, cond, length, take, drop, get_or, eqb, ltb, ℤ, pos}
-use Rattle.std.proofs.Common.{sym, ◌∙◌, add-one, get_or-set_other, lt-ltb, le-ltb, ltb-true, ltb-false}
+use Rattle.std.specs.Prelude.{◌≡◌, refl, List, Bool, true, false, ◌||◌, cond, length, take, drop, get_or, eqb, ltb, pos}
+use Rattle.std.proofs.Common.{sym, ◌∙◌, get_or-set_other, lt-ltb, ltb-true}
 use Rattle.std.proofs.Math.Path.{ap}
 use native.Mathlib.Omega.{arith}
 use Rattle.std.proofs.lemmas.Bool.{eqb-false}

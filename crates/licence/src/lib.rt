@@ -1,3 +1,4 @@
+#![tactic(auto)]
 // The counting licence (document 02, wish 7): one address's chargeable frames over a stretch of commits, and their fee.
 ghost use Rattle.std.specs.Prelude.{◌≡◌, ◌≤◌, length};
 ghost use Rattle.layout.specs.Record.{header_length};
@@ -12,7 +13,7 @@ use signed::Change;
 use tariff::Fee;
 
 // The sum of an address's changes over a stretch of commits, or the number that refuses it.
-#[derive(Drop)]
+#[derive(Clone, Copy)]
 pub enum Frames {
     Sum(i64),
     Refused(u32),
@@ -123,8 +124,7 @@ pub fn frames_of(archive: &[u8], first: u32, last: u32, address: u8) -> Frames
 
 // An address's chargeable frames over a stretch of commits, and their fee in cents: 0, 17, 12, 5, 13, 14 of the archive, 13 of the
 // stretch, or 18. Only 0 changes `frames` and `fee`.
-#[unsafe(no_mangle)]
-pub extern "C" fn wax_licence_fee(
+pub fn wax_licence_fee(
     archive: &[u8],
     table: &[u8],
     first: u32,

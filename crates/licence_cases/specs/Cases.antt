@@ -1,5 +1,5 @@
 -- Wish 7's sentences on small archives: what a call for address 8 answers, computed.
-use Rattle.std.specs.Prelude.{ℕ, zero, suc, ◌+◌, ◌*◌, ◌≡◌, refl, List, [], ◌∷◌, ◌++◌, take, ℤ, pos, negsuc}
+use Rattle.std.specs.Prelude.{ℕ, ◌≡◌, refl, List, [], ◌∷◌, ◌++◌, take, ℤ, pos, negsuc}
 use Rattle.lists.specs.Tests.{all_to}
 use Rattle.le.specs.Le.{u16_at, u32_at, u64_at}
 use Rattle.le.specs.Width.{bytes}

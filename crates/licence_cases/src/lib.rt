@@ -1,1 +1,2 @@
+#![tactic(auto)]
 // No code: cases of the counting licence as rows of one table, in specs/.

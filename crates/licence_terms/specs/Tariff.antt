@@ -1,5 +1,5 @@
 -- Document 02, wish 7: a tariff, and what frames cost by it.
-use Rattle.std.specs.Prelude.{ℕ, zero, suc, ◌+◌, ◌*◌, ◌/◌, ◌^◌, ◌≤◌, ◌<◌, ◌≡◌, List, [], ◌∷◌, cond, length, leb, ℤ, nat_abs}
+use Rattle.std.specs.Prelude.{ℕ, zero, suc, ◌+◌, ◌*◌, ◌/◌, ◌≤◌, ◌<◌, ◌≡◌, List, [], ◌∷◌, cond, length, leb, ℤ, nat_abs}
 use Rattle.signed.specs.Change.{most, with_sign}
 
 -- "each an upper frame count and a price of 32 bits"

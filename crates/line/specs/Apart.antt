@@ -4,12 +4,13 @@ use Rattle.std.specs.Prelude.{◌≡◌, refl, Bool, true, false, not, ◌&&◌,
 use Rattle.std.proofs.Common.{sym, ap, ◌∙◌, inl, inr, arith, ltb-true, ltb-false, lt-ltb}
 use Rattle.std.proofs.lemmas.Bool.{false≢true}
 use Rattle.sets.specs.Base.{upd, any}
-use Rattle.sets.specs.Laws.{by_b, by_eq, eqb_same, eqb_yes, eqb_no, any_no, any_yes}
+use Rattle.sets.specs.Laws.{by_b, by_eq}
+use Rattle.sets.proofs.Laws.{eqb_same, eqb_yes, eqb_no, any_no, any_yes}
 use Rattle.line.specs.Messages.{page_of, address, last_number, locking, keeps, Work, Up, ReadRequest, WriteRequest, Commit, Abort, Purge, Busy, Done, WrittenSet}
 use Rattle.line.specs.Server.{Server, Serving, fresh_server, Aged, aged, End, ByCommit, ByCause, ByMessage, keeps_age, unlocks, Waiter, no_waiter, waiter_pend, waiter_busy, waiter_called, WantRead, WantWrite, WantCommit, is_want, waits, other, wants, wants_page, lock_on, shut, hinders, bad_number, above_open, unexpected, notice, finish, join, leave, send_page, abort, informed, write, archive, inform, inform_from, install, read_waiter, write_waiter, commit_waiter, serve_now, join_read, join_write, join_commit, commit_now, unlist, open_call, mark_busy, answered, open_ask, loosen, meet, heeded, heed, accept, ask, serve_read, concerned, call, grant_page, grant_object, install_waiter, start, server_step}
 use Rattle.line.specs.Line.{Call, fresh, run}
 use Rattle.line.specs.Pass.{Atomic, Clear, if_keeps, step_keeps}
-use Rattle.sets.specs.Laws.{and_l, and_r, not_yes}
+use Rattle.sets.proofs.Laws.{and_l, and_r, not_yes}
 use Rattle.line.specs.Runs.{Moves, run_keeps}
 
 -- the holder of a lock: a station, locking, its transaction unfinished

@@ -3,7 +3,8 @@ use Rattle.std.specs.Prelude.{◌≡◌, refl, Bool, true, false, not, ◌&&◌,
 use Rattle.std.proofs.Common.{sym, ◌∙◌, arith}
 use Rattle.std.proofs.lemmas.Bool.{false≢true}
 use Rattle.sets.specs.Base.{Val, has}
-use Rattle.sets.specs.Laws.{by_b, by_eq, eqb_yes, eqb_no, any_some, ltb_yes, or_no, not_no}
+use Rattle.sets.specs.Laws.{by_b, by_eq}
+use Rattle.sets.proofs.Laws.{eqb_yes, eqb_no, any_some, ltb_yes, or_no, not_no}
 use Rattle.line.specs.Messages.{page_of, address}
 use Rattle.line.specs.Station.{some_on, lowest_from, lowest_on, Station, bad_set, of_page}
 

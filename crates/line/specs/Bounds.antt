@@ -5,7 +5,8 @@ use Rattle.std.proofs.Common.{sym, ap, ◌∙◌, append-nil, arith, ltb→lt, l
 use Rattle.std.proofs.Math.Path.{fun_ext}
 use Rattle.std.proofs.lemmas.Bool.{false≢true}
 use Rattle.sets.specs.Base.{upd, snoc, any, Val, none, some, turned}
-use Rattle.sets.specs.Laws.{by_b, by_eq, eqb_same, eqb_yes, eqb_no, and_l, and_r}
+use Rattle.sets.specs.Laws.{by_b, by_eq}
+use Rattle.sets.proofs.Laws.{eqb_same, eqb_yes, eqb_no, and_l, and_r}
 use Rattle.line.specs.Messages.{page_of, last_number, locking, Work, Up, ReadRequest, WriteRequest, Commit, Abort, Purge, Busy, Done, WrittenSet, Down, Page, Deescalate, Callback, Committed, Aborted, Invalidate, To, Answer, Nothing, Begun, Value, Waits, Written, CommittedAs, AbortedFor, Purged, Refused, Empty}
 use Rattle.line.specs.Station.{Station, Did, did_station, does, unless, Wait, Idle, ForRead, ForWrite, ForCommit, for_commit, Kept, NotKept, KeptCall, used_at, used_page, shown, drop_pages, mark, do_callback, do_kept, do_all_kept, closed, close, undo, check_begin, check_open, check_read, some_on, check_write, check_purge, own_begin, read_local, read_ask, read_as, own_read, named, write_ask, write_local, write_set, of_page, own_write, own_commit, own_abort, own_purge, ended, fits, answer_wait, on_page, on_deescalate, on_callback, on_committed, on_aborted, on_invalidate, on_down, station_step}
 use Rattle.line.specs.Line.{Op, Begin, Read, WriteSet, Commits, Aborts, Purges, Call, Owner, ServerTakes, StationTakes, Broken, World, Reply, Acted, acted, replies, up_reply, perform, tell, carry_up, owner_acts, is_refused, station_takes, server_takes, act}

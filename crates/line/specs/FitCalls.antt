@@ -9,9 +9,11 @@ use Prim.Native.Nat.{ℕ, zero, suc, ◌+◌, ◌≤◌, ◌<◌}
 use Rattle.std.proofs.Math.Dec.{eqb, leb}
 use borrow.Author.Tests.{ltb-true, leb-false}
 use Rattle.sets.specs.Base.{Val, none, some, has, upd, turned}
-use Rattle.sets.specs.Size.{size, size_empty, size_part, size_joined}
+use Rattle.sets.specs.Size.{size}
+use Rattle.sets.proofs.Size.{size_empty, size_part, size_joined}
 use Rattle.limits.specs.Limit.{limit}
-use Rattle.sets.specs.Laws.{by_b, by_eq, eqb_same, eqb_yes, eqb_no, and_l, and_r, or_no, or_yes, not_no, ltb_no, any_some}
+use Rattle.sets.specs.Laws.{by_b, by_eq, or_yes}
+use Rattle.sets.proofs.Laws.{eqb_same, eqb_yes, eqb_no, and_l, and_r, or_no, not_no, ltb_no, any_some}
 use Rattle.line.specs.Messages.{page_of, address, locking, keeps, ReadRequest, WriteRequest, Lock, NoLock, ObjectLock, WholeLock, Down, Page, Deescalate, Callback, Committed, Aborted, Invalidate}
 use Rattle.line.specs.Station.{Station, fresh_station, Did, unless, Wait, Idle, ForRead, ForWrite, ForCommit, waiting, Kept, NotKept, KeptCall, shown, used_at, in_use, for_read, for_write, writes_to, for_commit, requested, used_page, live, ended, fits_page, fits, check_begin, open_then, check_open, long_read, long_write, check_read, some_on, lowest_on, bad_set, check_write, check_purge, drop_pages, record_read, or_val, write_local, mark, do_callback, do_kept, do_all_kept, closed, close, undo, own_begin, read_local, read_ask, read_as, own_read, named, write_ask, write_set, of_page, own_write, own_commit, own_abort, own_purge, arrive, take_lock, answer_wait, on_page, on_deescalate, loosen, on_callback, on_committed, on_aborted, on_invalidate, on_down, station_step, kept_whole, answers_for, gives_up, written_on}
 use Rattle.line.specs.Line.{Op, Begin, Read, WriteSet, Commits, Aborts, Purges, perform}

@@ -6,7 +6,8 @@ use Rattle.std.proofs.Common.{sym, ap, ◌∙◌, arith, ltb-true}
 use Rattle.std.proofs.lemmas.Bool.{false≢true}
 use Rattle.sets.specs.Base.{upd, any, nowhere}
 use Rattle.kinds.specs.Kinds.{most_kind}
-use Rattle.sets.specs.Laws.{by_b, by_eq, eqb_same, eqb_yes, and_l, and_r, not_yes, not_no, any_some, any_yes}
+use Rattle.sets.specs.Laws.{by_b, by_eq}
+use Rattle.sets.proofs.Laws.{eqb_same, eqb_yes, and_l, and_r, not_yes, not_no, any_some, any_yes}
 use Rattle.line.specs.Messages.{page_of, address, last_number, locking, Work, Up, ReadRequest, WriteRequest, Commit, Abort, Purge, Busy, Done, WrittenSet, Down, Sent, To, Rec}
 use Rattle.line.specs.Server.{Server, Serving, fresh_server, Waiter, no_waiter, waiter_pend, waiter_busy, waiter_called, Want, NoWant, WantRead, WantWrite, WantCommit, is_want, waits, wrote_page, unexpected, bad_number, notice, finish, join, leave, send_page, abort, informed, write, archive, inform, inform_from, install, read_waiter, write_waiter, commit_waiter, serve_now, join_read, join_write, join_commit, commit_now, unlist, open_call, mark_busy, answered, open_ask, loosen, accept, ask, serve_read, concerned, calls_from, call, grant_page, grant_object, install_waiter, start, server_step, End, ByCommit, ByCause, ByMessage, meet, heed, unlocks}
 use Rattle.line.specs.Station.{some_on}

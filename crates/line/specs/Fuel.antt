@@ -6,7 +6,8 @@ use Rattle.sets.specs.Base.{upd}
 use Rattle.line.specs.Messages.{page_of, Work}
 use Rattle.line.specs.Server.{Server, Serving, Waiter, waiter_pend, waiter_called, concerned, no_waiter, is_want, waits, wants_page, other, shut, finish, leave, send_page, abort, write, archive, informed, inform, inform_from, install, ask, serve_read, call, grant_object, grant_page, install_waiter, pass, order, victim, moved, settle, fuel, unlocks}
 use Rattle.line.specs.Pass.{Atomic, pass_keeps, order_8, victim_waits}
-use Rattle.sets.specs.Laws.{by_b, by_eq, eqb_same, eqb_yes, eqb_no, and_l, and_r}
+use Rattle.sets.specs.Laws.{by_b, by_eq}
+use Rattle.sets.proofs.Laws.{eqb_same, eqb_yes, eqb_no, and_l, and_r}
 
 unfoldable pub sum_to : ℕ → (ℕ → ℕ) → ℕ
 sum_to zero f = 0

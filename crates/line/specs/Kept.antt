@@ -5,7 +5,8 @@ use Rattle.std.proofs.Math.Path.{refl}
 use Rattle.std.proofs.Math.Bool.{not}
 use Prim.Native.Nat.{ℕ, zero, suc}
 use Rattle.sets.specs.Base.{Val, none, some, turned}
-use Rattle.sets.specs.Laws.{by_b, by_eq, eqb_yes}
+use Rattle.sets.specs.Laws.{by_b, by_eq}
+use Rattle.sets.proofs.Laws.{eqb_yes}
 use Rattle.line.specs.Messages.{Lock, NoLock, ObjectLock, WholeLock, Down, Page, Deescalate, Callback, Committed, Aborted, Invalidate}
 use Rattle.line.specs.Station.{Station, Did, unless, Wait, Idle, ForRead, ForWrite, ForCommit, NotKept, live, shown, ended, fits, in_use, for_commit, check_begin, check_open, check_read, some_on, check_write, check_purge, drop_pages, mark, record_read, write_local, do_callback, do_kept, do_all_kept, closed, close, own_begin, read_local, read_ask, read_as, own_read, named, write_ask, write_set, of_page, own_write, own_commit, own_abort, own_purge, arrive, take_lock, answer_wait, on_page, on_deescalate, loosen, on_callback, on_committed, on_aborted, on_invalidate, on_down, station_step, gives_up}
 use Rattle.line.specs.Server.{server_step}

@@ -6,8 +6,10 @@ use Rattle.std.proofs.Common.{sym, ap, ◌∙◌, inl, inr, arith}
 use Rattle.std.proofs.lemmas.Bool.{false≢true}
 use Prim.Native.Nat.{ℕ, zero, suc, ◌+◌, ◌≤◌, ◌<◌}
 use Rattle.sets.specs.Base.{upd, any}
-use Rattle.sets.specs.Laws.{by_b, by_eq, eqb_same, eqb_yes, eqb_no, ltb_yes, and_l, and_r, or_yes, not_yes, any_some}
-use Rattle.sets.specs.Reach.{Path, Last, Then, path_from}
+use Rattle.sets.specs.Laws.{by_b, by_eq, or_yes}
+use Rattle.sets.proofs.Laws.{eqb_same, eqb_yes, eqb_no, ltb_yes, and_l, and_r, not_yes, any_some}
+use Rattle.sets.specs.Reach.{Path, Last, Then}
+use Rattle.sets.proofs.Reach.{path_from}
 use Rattle.line.specs.Messages.{last_number, locking, Work, Up, ReadRequest, WriteRequest, Commit, Abort, Purge, Busy, Done, WrittenSet, Down, Page, Deescalate, Callback, Committed, Aborted, Invalidate, Sent, To}
 use Rattle.line.specs.Server.{Server, Serving, fresh_server, aged, Waiter, no_waiter, waits, wants, earlier, blocks, edge, victim, unexpected, bad_number, notice, finish, join, leave, send_page, abort, informed, write, archive, inform, inform_from, install, serve_now, join_read, join_write, join_commit, commit_now, unlist, open_call, mark_busy, answered, open_ask, loosen, accept, ask, serve_read, concerned, calls_from, call, grant_page, grant_object, install_waiter, start, server_step, heed}
 use Rattle.line.specs.Line.{World, Call, fresh, act, run}

@@ -7,8 +7,10 @@ use Rattle.std.proofs.Math.Bool.{not, cond}
 use Rattle.std.proofs.lemmas.Bool.{false≢true}
 use Rattle.std.proofs.Math.Dec.{eqb}
 use Rattle.sets.specs.Base.{upd, Val, none, some, has, val_or, any, nowhere, turned}
-use Rattle.sets.specs.Size.{size, size_same, size_empty, size_joined, size_new, size_old}
-use Rattle.sets.specs.Laws.{by_b, by_eq, eqb_same, eqb_yes, eqb_no, ltb_yes, ltb_no, and_l, and_r, any_some, any_yes}
+use Rattle.sets.specs.Size.{size}
+use Rattle.sets.proofs.Size.{size_same, size_empty, size_joined, size_new, size_old}
+use Rattle.sets.specs.Laws.{by_b, by_eq}
+use Rattle.sets.proofs.Laws.{eqb_same, eqb_yes, eqb_no, ltb_yes, ltb_no, and_l, and_r, any_some, any_yes}
 use Rattle.limits.specs.Limit.{limit}
 use Rattle.line.specs.Messages.{page_of, address, locking, ReadRequest, WriteRequest, ObjectLock, Waits, Written}
 use Rattle.line.specs.Station.{Station, Did, does, unless, set_seen, set_copy, set_wr, set_wait, ForWrite, used_at, or_val, write_local, open_then, long_write, some_on, several_on, lowest_on, bad_set, check_write, may_write, named, write_ask, write_set, of_page, own_write}

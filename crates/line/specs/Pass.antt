@@ -11,7 +11,8 @@ use Rattle.sets.specs.Base.{any, turned, upd}
 use Rattle.line.specs.Messages.{Up}
 use Rattle.line.specs.Server.{is_want, first_from, youngest, edges, locked_at, locked, stale, blocked_at, other, wants, wants_page, waits, blocks, Server, Serving, Want, NoWant, WantRead, WantWrite, WantCommit, abort, ask, ask_from, holder, call, call_once, serve_read, grant_object, grant_page, grant, hinders, install_waiter, blocked, shut, shut_kept, set_asked, fault, all_answered, after_calls, proceed, gates, judge, ask_keepers, out_of_time, visit, pass, order, victim, moved, settle, fuel, accept, start, server_step, stale_at, notice, meet}
 use Rattle.line.specs.Messages.{page_of, address, last_number}
-use Rattle.sets.specs.Laws.{by_b, by_eq, eqb_same, eqb_yes, any_ext, not_yes, and_l, and_r}
+use Rattle.sets.specs.Laws.{by_b, by_eq}
+use Rattle.sets.proofs.Laws.{eqb_same, eqb_yes, any_ext, not_yes, and_l, and_r}
 use Rattle.sets.specs.Reach.{on_cycle}
 
 -- the gates that a waiter has passed

@@ -4,8 +4,10 @@ use Rattle.std.specs.Prelude.{◌≡◌, refl, Bool, true, false, not, ◌&&◌,
 use Rattle.std.proofs.Common.{sym, ap, subst, ◌∙◌, arith, length-append}
 use Rattle.std.proofs.lemmas.Bool.{false≢true}
 use Rattle.sets.specs.Base.{any, nowhere, memo}
-use Rattle.sets.specs.Laws.{by_b, by_eq, eqb_same, eqb_yes, eqb_no, ltb_yes, ltb_no, and_l, and_r, and_both, or_yes, or_no, not_no, any_some, memo_is}
-use Rattle.sets.specs.Reach.{Path, on_cycle, on_cycle_lem, cycle_found, path_edge, path_by}
+use Rattle.sets.specs.Laws.{by_b, by_eq, or_yes}
+use Rattle.sets.proofs.Laws.{eqb_same, eqb_yes, eqb_no, ltb_yes, ltb_no, and_l, and_r, and_both, or_no, not_no, any_some, memo_is}
+use Rattle.sets.specs.Reach.{Path, on_cycle}
+use Rattle.sets.proofs.Reach.{on_cycle_lem, cycle_found, path_edge, path_by}
 use Rattle.line.specs.Messages.{page_of, Up, Work, Committed}
 use Rattle.line.specs.Server.{Server, Serving, ByCommit, send, Want, NoWant, WantRead, WantWrite, WantCommit, waits, abort, finish, leave, send_page, write, archive, informed, inform, inform_from, install, ask, ask_from, holder, serve_read, concerned, calls_from, call, call_once, hinders, grant_page, grant_object, grant, install_waiter, all_answered, after_calls, proceed, gates, visit, blocked, shut, fault, order, pass, edge, edges, youngest, victim, moved, settle, fuel, accept, start, server_step, shut_kept, ask_keepers, out_of_time, judge}
 use Rattle.line.specs.Pass.{if_keeps, young_8, victim_waits}

@@ -3,7 +3,8 @@
 use Rattle.std.specs.Prelude.{◌≡◌, refl, Bool, true, false, cond, List, [], ◌∷◌, ◌++◌, ◌≢◌, ℕ, zero, suc, eqb}
 use Rattle.std.proofs.lemmas.Bool.{false≢true}
 use Rattle.sets.specs.Base.{nowhere}
-use Rattle.sets.specs.Laws.{by_b, by_eq, eqb_yes}
+use Rattle.sets.specs.Laws.{by_b, by_eq}
+use Rattle.sets.proofs.Laws.{eqb_yes}
 use Rattle.line.specs.Messages.{page_of, last_number, locking, Work, Lock, NoLock, ObjectLock, WholeLock, Up, ReadRequest, WriteRequest, Commit, Abort, Purge, Busy, Done, WrittenSet, Down, Page, Deescalate, Callback, Committed, Aborted, Invalidate, Sent, To}
 use Rattle.line.specs.Server.{Server, Serving, notice, finish, join, leave, send_page, unavailable, abort, informed, write, archive, inform, inform_from, install, serve_now, join_read, join_write, join_commit, commit_now, unlist, open_call, mark_busy, answered, open_ask, loosen, accept, ask, serve_read, concerned, calls_from, call, grant_page, grant_object, install_waiter, start, server_step, heed}
 use Rattle.line.specs.Line.{sent_to}

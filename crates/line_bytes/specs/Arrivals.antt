@@ -8,7 +8,8 @@ use Rattle.std.proofs.Math.Bool.{true, false}
 use Rattle.std.proofs.lemmas.Bool.{false≢true}
 use native.Mathlib.Omega.{arith}
 use Rattle.sets.specs.Base.{upd, snoc, Val, none, some, has, none_at}
-use Rattle.sets.specs.Laws.{by_b, by_eq, eqb_same, eqb_yes, and_l, and_r, not_yes, not_no, any_no}
+use Rattle.sets.specs.Laws.{by_b, by_eq}
+use Rattle.sets.proofs.Laws.{eqb_same, eqb_yes, and_l, and_r, not_yes, not_no, any_no}
 use Rattle.line.specs.Messages.{page_of, address, last_number, locking, keeps, Work, Lock, NoLock, ObjectLock, WholeLock, Up, ReadRequest, WriteRequest, Commit, Abort, Purge, Busy, Done, WrittenSet, Down, Value}
 use Rattle.line.specs.Station.{Station, Did, does, Wait, Idle, ForRead, ForWrite, ForCommit, waiting, for_write, for_commit, live, written_on, answers_for, gives_up, some_on, lowest_on, may_write, named, or_val, of_page, drop_pages, record_read, write_local, mark, do_callback, closed, close, read_local, read_ask, write_ask, arrive, take_lock, on_deescalate, on_committed, on_aborted, station_step}
 use Rattle.line.specs.Station
@@ -20,9 +21,10 @@ use Rattle.line.specs.Fuel.{sum_to, nb, sum_le, sum_at, sum_1, nb_1}
 use Rattle.line.specs.Pass.{Atomic, step_keeps, if_keeps}
 use Rattle.line.specs.Runs.{Moves, run_keeps}
 use Rattle.line.specs.Counters.{numbers_run}
-use Rattle.truth.specs.Frame.{count_append, Owns, performs, closes, is_lock, ForPage, arrived, Takes, takes, installs, accepts}
-use Rattle.truth.specs.ValidatedMoves.{perform_kind, step_kind}
-use Rattle.truth.specs.GoalsOwner.{undo_num}
+use Rattle.truth.specs.Frame.{Owns, is_lock, ForPage, arrived, Takes}
+use Rattle.truth.proofs.Frame.{count_append, performs, closes, takes, installs, accepts}
+use Rattle.truth.proofs.ValidatedMoves.{perform_kind, step_kind}
+use Rattle.truth.proofs.GoalsOwner.{undo_num}
 use Rattle.server_state.specs.Layout.{counter_limit}
 use Rattle.line_bytes.specs.Kinds.{server_kind}
 

@@ -16,7 +16,7 @@ use Rattle.archive_truth.specs.Fits.{one_fits}
 use Rattle.message.specs.Commit.{records_room, server_room, commit_room, station_room}
 use Rattle.server_state.specs.Layout.{value_of}
 use Rattle.server_state.specs.Valid.{most_at, most, kinds_ok}
-use Rattle.server_meaning.specs.Tests.{value_at_lem}
+use Rattle.server_meaning.proofs.Tests.{value_at_lem}
 use Rattle.line_bytes.specs.Bytes.{WorldB, fresh_b, CallB, OwnerB, ServerTakesB, StationTakesB, AllFit, run_b}
 use Rattle.line_bytes.specs.Simulates.{Sim}
 use Rattle.line_bytes.specs.Whole.{names_of, AllRoom, run_is}

@@ -6,11 +6,15 @@ use Rattle.std.proofs.lemmas.Bool.{false≢true, eqb-false, not-true, not-false}
 use native.Mathlib.Omega.{arith}
 use Rattle.std.specs.Int.Bits.{bit_or}
 use Rattle.sets.specs.Base.{has, any}
-use Rattle.sets.specs.Laws.{by_b, by_eq, eqb_yes, eqb_no, ltb_yes, ltb_no}
-use Rattle.sets.specs.Size.{size, size_same}
-use Rattle.cells.specs.Bits.{tb, tb_or, tb_high}
-use Rattle.cells.specs.Loops.{any_same}
-use Rattle.cells.specs.Cells.{view, view_col, view_row, cell_lt, get32}
+use Rattle.sets.specs.Laws.{by_b, by_eq}
+use Rattle.sets.proofs.Laws.{eqb_yes, eqb_no, ltb_yes, ltb_no}
+use Rattle.sets.specs.Size.{size}
+use Rattle.sets.proofs.Size.{size_same}
+use Rattle.cells.specs.Bits.{tb}
+use Rattle.cells.proofs.Bits.{tb_or, tb_high}
+use Rattle.cells.proofs.Loops.{any_same}
+use Rattle.cells.specs.Cells.{view}
+use Rattle.cells.proofs.Cells.{view_col, view_row, cell_lt, get32}
 use Rattle.line.specs.Messages.{locking, keeps}
 use Rattle.line.specs.Server.{Server, Want, NoWant, WantRead, WantWrite, WantCommit, is_want}
 use Rattle.line.specs.Station.{some_on}
@@ -19,7 +23,7 @@ use Rattle.line.specs.Fit.{calls, Owes, OnPage, Form, Forms, Fit}
 use Rattle.station_state.specs.Layout.{number_width, has_bit, member, count_in, none_in}
 use Rattle.station_state.specs.Sets.{none_member}
 use Rattle.station_meaning.specs.Meant.{within}
-use Rattle.station_meaning.specs.Tests.{has_if}
+use Rattle.station_meaning.proofs.Tests.{has_if}
 use Rattle.server_state.specs.Layout.{table, asked_cell, whole_for_cell, kind_cell, lock_cell, whole_cell, read_set_cell, written_set_cell, read_value_cell, written_value_cell, work_cell, work_from, pend_from, request_from, work_number, whole_for_of, lock_of, whole_of, read_set_from, written_set_from, want_of, request_of, called_of_lem, pend_of, busy_of, unfinished_of, locking_b}
 use Rattle.server_state.specs.Valid.{ageless}
 use Rattle.server_state.specs.Facts.{Ranged}
@@ -27,7 +31,8 @@ use Rattle.server_state.specs.Facts as Bytes
 use Rattle.server_state.specs.Sets.{only_member}
 use Rattle.server_state.specs.Pages.{page_some, page_member}
 use Rattle.server_meaning.specs.Meant.{want_as, Is, start}
-use Rattle.server_meaning.specs.Tests.{bit_is, age_at, arrival_at, ages_at, arrivals_at, latest_at, lock_at, whole_at, whole_for_at, kind_at, request_at, called_at, fin_at, ageless_at, want_at, waits_at, work_at, asked_at_lem, pend_at, busy_at, reads_at, writes_at, reads_high, writes_high}
+use Rattle.server_meaning.specs.Tests.{bit_is}
+use Rattle.server_meaning.proofs.Tests.{age_at, arrival_at, ages_at, arrivals_at, latest_at, lock_at, whole_at, whole_for_at, kind_at, request_at, called_at, fin_at, ageless_at, want_at, waits_at, work_at, asked_at_lem, pend_at, busy_at, reads_at, writes_at, reads_high, writes_high}
 use Rattle.step_meaning.specs.Relation.{Sound}
 
 -- WHAT IS WAITED FOR, AS A NUMBER

@@ -3,15 +3,18 @@
 use Rattle.std.specs.Prelude.{ℕ, zero, suc, ◌+◌, ◌*◌, ◌/◌, ◌%◌, ◌≤◌, ◌<◌, ◌≡◌, refl, Bool, cond, List, [], ◌∷◌, ◌≢◌, eqb, ltb, get_or, set, replicate}
 use Rattle.std.proofs.Math.Bool.{true, false}
 use Rattle.std.proofs.Common.{inr, arith, get_or-set_other}
-use Rattle.sets.specs.Laws.{by_b, by_eq, eqb_yes, eqb_no}
+use Rattle.sets.specs.Laws.{by_b, by_eq}
+use Rattle.sets.proofs.Laws.{eqb_yes, eqb_no}
 use Rattle.le.specs.Le.{u64_at, set_u32, set_u64}
 use Rattle.le.specs.Laws.{set_u32_is}
-use Rattle.cells.specs.Num.{AllBytes, put_other}
+use Rattle.cells.specs.Num.{AllBytes}
+use Rattle.cells.proofs.Num.{put_other}
 use Rattle.message.specs.Layout.{station_of, page_of, requester_of, transaction_of, pages_of, set_of}
 use Rattle.message.specs.Layout as Message
 use Rattle.message.specs.Number.{up_number}
 use Rattle.message.specs.Commit.{addresses_at, sent_reads, sent_writes}
-use Rattle.message_meaning.specs.UpAccepted.{UpAccepted, up_accepted}
+use Rattle.message_meaning.specs.UpAccepted.{UpAccepted}
+use Rattle.message_meaning.proofs.UpAccepted.{up_accepted}
 use Rattle.station_state.specs.Layout.{page_set_width, number_width, value_width, has_bit, member}
 use Rattle.station_state.specs.Changes.{add_to, page_on, page_off, clear_to}
 use Rattle.server_state.specs.Valid.{kinds_to, fresh_server}

@@ -6,8 +6,9 @@ use Rattle.std.proofs.Math.Bool.{false}
 use mathlib.Core.List.{List, [], ◌∷◌}
 use Rattle.std.proofs.Common.{arith}
 use borrow.Author.Tests.{le-leb}
-use Rattle.sets.specs.Laws.{by_b, ltb_yes}
-use Rattle.cells.specs.Num.{all_bytes}
+use Rattle.sets.specs.Laws.{by_b}
+use Rattle.sets.proofs.Laws.{ltb_yes}
+use Rattle.cells.proofs.Num.{all_bytes}
 use Rattle.line.specs.Server.{Server, server_step, unexpected}
 use Rattle.line.specs.Messages.{Up, Answer, Nothing, Begun, Value, Waits, Written, CommittedAs, AbortedFor, Purged, Refused, Empty, Down}
 use Rattle.line.specs.Line.{Op, World, Call, fresh, tell, carry_up, carry_down, owner_acts, is_refused, station_takes, server_takes, act, run}

@@ -3,7 +3,8 @@ use Rattle.std.specs.Prelude.{ℕ, ◌≤◌, ◌<◌, ◌≡◌, refl, Bool, tr
 use Rattle.std.proofs.Common.{zero-add, arith, leb-true, eq-eqb}
 use Rattle.std.proofs.Math.ListN.{get_or-eq_default}
 use Rattle.lists.specs.Tests.{all_to_at, all_to_of, and_r}
-use Rattle.sets.specs.Laws.{by_b, ltb_yes, ltb_no}
+use Rattle.sets.specs.Laws.{by_b}
+use Rattle.sets.proofs.Laws.{ltb_yes, ltb_no}
 use Rattle.kinds.specs.Kinds.{most_kind}
 use Rattle.layout.specs.Record.{archive_of}
 use Rattle.line.specs.Line.{Op, Begin, Read, WriteSet, Commits, Aborts, Purges, Call, Owner, Broken, World, fresh, act, run}
@@ -14,7 +15,7 @@ use Rattle.station_owner.specs.Owner.{ready}
 use Rattle.server_state.specs.Valid.{most_at, most, kinds_ok}
 use Rattle.server_state.specs.Facts.{kinds_length}
 use Rattle.server_actions.specs.Step as ServerCall
-use Rattle.call_meaning.specs.Valid.{fresh_means, fresh_valid}
+use Rattle.call_meaning.proofs.Valid.{fresh_means, fresh_valid}
 use Rattle.call_meaning.specs.Calls.{OpFits}
 use Rattle.line_bytes.specs.Bytes.{WorldB, fresh_b, CallB, OwnerB, ServerTakesB, StationTakesB, Fits, AllFit, act_b, run_b}
 use Rattle.line_bytes.specs.Served.{fresh_server_lem}

@@ -7,17 +7,21 @@ use Rattle.std.proofs.lemmas.List.{length-replicate}
 use Rattle.std.proofs.Math.ListN.{get_or-eq_default}
 use Rattle.lists.specs.Stores.{sets_front}
 use Rattle.sets.specs.Base.{upd, nowhere, zeros, any}
-use Rattle.sets.specs.Laws.{by_b, by_eq, eqb_same, eqb_yes, eqb_no, ltb_yes, ltb_no}
+use Rattle.sets.specs.Laws.{by_b, by_eq}
+use Rattle.sets.proofs.Laws.{eqb_same, eqb_yes, eqb_no, ltb_yes, ltb_no}
 use Rattle.le.specs.Le.{set_u64}
-use Rattle.cells.specs.Num.{AllBytes, bytes_all}
-use Rattle.cells.specs.Upd.{ltb_suc}
-use Rattle.cells.specs.Bits.{tb, tb_zero}
-use Rattle.cells.specs.Pages.{page_of_lem, any_byte}
-use Rattle.cells.specs.Cells.{Cells, view_zero, upd3, Holds, begin, put8, put64}
+use Rattle.cells.specs.Num.{AllBytes}
+use Rattle.cells.proofs.Num.{bytes_all}
+use Rattle.cells.proofs.Upd.{ltb_suc}
+use Rattle.cells.specs.Bits.{tb}
+use Rattle.cells.proofs.Bits.{tb_zero}
+use Rattle.cells.proofs.Pages.{page_of_lem, any_byte}
+use Rattle.cells.specs.Cells.{Cells, upd3, Holds}
+use Rattle.cells.proofs.Cells.{view_zero, begin, put8, put64}
 use Rattle.layout.specs.Record.{bytes_of, archive_of}
-use Rattle.entries.specs.Entries.{entries_size}
+use Rattle.entries.proofs.Entries.{entries_size}
 use Rattle.recs.specs.Recs.{as_record, records_of}
-use Rattle.record_meaning.specs.Layout.{length_bytes_of}
+use Rattle.record_meaning.proofs.LayoutLaws.{length_bytes_of}
 use Rattle.line.specs.Messages.{Sent, Rec}
 use Rattle.line.specs.Server.{Server, no_waiter, set_kind, set_queue, set_listed, set_asked, waiter_reads, waiter_writes, waiter_pend, waiter_busy}
 use Rattle.line.specs.Server as Model
@@ -28,20 +32,22 @@ use Rattle.message.specs.Layout.{sets_from, kind_of, station_of, page_of, set_of
 use Rattle.message.specs.Number.{up_number}
 use Rattle.message.specs.Commit.{longest_sent, records_room, server_room}
 use Rattle.message_meaning.specs.Meant.{objects_on, work_at, up_of}
-use Rattle.message_meaning.specs.Kinds.{up_1, up_2, up_3, up_4, up_5, up_6, up_7, up_8}
-use Rattle.message_meaning.specs.UpAccepted.{UpAccepted, up_accepted, commit_few}
+use Rattle.message_meaning.proofs.KindsLaws.{up_1, up_2, up_3, up_4, up_5, up_6, up_7, up_8}
+use Rattle.message_meaning.specs.UpAccepted.{UpAccepted}
+use Rattle.message_meaning.proofs.UpAccepted.{up_accepted, commit_few}
 use Rattle.station_callbacks.specs.Callbacks.{flat}
 use Rattle.station_meaning.specs.Meant.{within}
 use Rattle.server_state.specs.Layout.{next_age_cell, next_arrival_cell, kind_cell, table, next_age_from, next_arrival_from, kind_from, server_length}
 use Rattle.server_state.specs.Valid.{valid, freshened, kinds_to, fresh_server, kinds_ok, fresh_of}
 use Rattle.server_state.specs.Facts.{valid_ranged}
 use Rattle.server_meaning.specs.Meant.{meant_c, Is, start, done}
-use Rattle.server_meaning.specs.Tests.{kind_at}
+use Rattle.server_meaning.proofs.Tests.{kind_at}
 use Rattle.server_actions.specs.Actions.{Serving}
 use Rattle.server_actions.specs.Step.{kinds_of, laid}
 use Rattle.step_meaning.specs.Relation.{Sound, AllSent, AllRecs, Serves}
 use Rattle.step_meaning.specs.Accept.{by_kind}
-use Rattle.call_meaning.specs.Buffers.{messages_in, Sized, laid_read}
+use Rattle.call_meaning.specs.Buffers.{messages_in, Sized}
+use Rattle.call_meaning.proofs.Buffers.{laid_read}
 use Rattle.line_bytes.specs.Fits.{fit_of, sound_fit}
 
 -- NUMBER 1, IN THE MODEL'S WORDS

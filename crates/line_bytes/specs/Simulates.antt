@@ -8,8 +8,9 @@ use Rattle.std.proofs.lemmas.Bool.{false≢true}
 use mathlib.Core.List.{List, [], ◌∷◌, ◌++◌, append-nil}
 use Rattle.lists.specs.Tests.{and_l, and_r}
 use Rattle.sets.specs.Base.{upd, turned}
-use Rattle.sets.specs.Laws.{by_b, by_eq, eqb_yes, ltb_yes}
-use Rattle.cells.specs.Num.{all_bytes}
+use Rattle.sets.specs.Laws.{by_b, by_eq}
+use Rattle.sets.proofs.Laws.{eqb_yes, ltb_yes}
+use Rattle.cells.proofs.Num.{all_bytes}
 use Rattle.layout.specs.Record.{archive_of}
 use Rattle.recs.specs.Recs.{records_of}
 use Rattle.line.specs.Messages.{Up, Down, Sent, To, Rec, Answer, Nothing, Begun, Value, Waits, Written, CommittedAs, AbortedFor, Purged, Refused, Empty}
@@ -21,7 +22,7 @@ use Rattle.line.specs.All.{All}
 use Rattle.line.specs.Bounds.{step_128, step_8}
 use Rattle.line.specs.Fit.{LimitedRec, UpNames}
 use Rattle.line.specs.FitServer.{step_archives}
-use Rattle.truth.specs.ValidatedMoves.{perform_kind, step_kind}
+use Rattle.truth.proofs.ValidatedMoves.{perform_kind, step_kind}
 use Rattle.message.specs.Layout.{station_of}
 use Rattle.message.specs.Number.{kinds_ok, down_number}
 use Rattle.message.specs.Commit.{records_room, server_room}
@@ -35,21 +36,22 @@ use Rattle.station_answer.specs.Did.{said, Outcome, outcome}
 use Rattle.station_owner.specs.Owner.{ready}
 use Rattle.station_meaning.specs.Meant.{meant}
 use Rattle.station_meaning.specs.Meant as StationMeant
-use Rattle.station_meaning.specs.Tests.{station_at}
+use Rattle.station_meaning.proofs.Tests.{station_at}
 use Rattle.server_state.specs.Valid as ServerValid
 use Rattle.server_state.specs.Facts.{valid_ranged}
 use Rattle.server_meaning.specs.Meant as ServerMeant
-use Rattle.server_meaning.specs.Tests.{wanting}
+use Rattle.server_meaning.proofs.Tests.{wanting}
 use Rattle.server_actions.specs.Actions.{Serving, serving, accept_b}
 use Rattle.server_actions.specs.Pass.{server_step_b}
 use Rattle.server_actions.specs.Step.{kinds_of, check_step_b, refused, laid, server_called}
 use Rattle.server_actions.specs.Step as ServerCall
 use Rattle.step_meaning.specs.Relation.{ReadAs, AllSent, Serves}
-use Rattle.step_meaning.specs.Accept.{unexpected_at, accept_means}
-use Rattle.step_meaning.specs.Pass.{step_means}
+use Rattle.step_meaning.proofs.Accept.{unexpected_at, accept_means}
+use Rattle.step_meaning.proofs.Pass.{step_means}
 use Rattle.call_meaning.specs.Relation.{answer_of}
 use Rattle.call_meaning.specs.Buffers.{messages_in, sent_by}
-use Rattle.call_meaning.specs.Calls.{AllReads, perform_b, step_b, OpFits, owner_means, owner_unready, step_told, step_unchanged}
+use Rattle.call_meaning.specs.Calls.{AllReads, perform_b, step_b, OpFits}
+use Rattle.call_meaning.proofs.Calls.{owner_means, owner_unready, step_told, step_unchanged}
 use Rattle.call_meaning.specs.Calls
 use Rattle.line_bytes.specs.Bytes.{WorldB, CallB, OwnerB, ServerTakesB, StationTakesB, Fits, tell_b, sent_to_b, rest_up_lem, rest_down, carry_up_b, carry_down_b, owner_acts_b, station_takes_b, server_takes_b, act_b}
 use Rattle.line_bytes.specs.Served.{sound_of, kinds_read, up_names, archive_join, messages_are, records_are}

@@ -5,7 +5,8 @@ use Rattle.std.specs.Prelude.{ℕ, ◌+◌, ◌≤◌, ◌<◌, ◌≡◌, refl,
 use Rattle.std.proofs.Math.Path.{sym, subst}
 use Rattle.std.proofs.Common.{ap, ◌∙◌, arith}
 use Rattle.sets.specs.Base.{turned}
-use Rattle.sets.specs.Laws.{by_b, by_eq, eqb_yes, eqb_no}
+use Rattle.sets.specs.Laws.{by_b, by_eq}
+use Rattle.sets.proofs.Laws.{eqb_yes, eqb_no}
 use Rattle.cells.specs.Num.{AllBytes}
 use Rattle.line.specs.Messages.{Down, Sent, To}
 use Rattle.line.specs.Server.{accept, start, server_step, unexpected}
@@ -16,36 +17,38 @@ use Rattle.line.specs.Counters.{step_counts}
 use Rattle.line.specs.Fit
 use Rattle.line.specs.Fit.{LimitedRec, SentFits}
 use Rattle.line.specs.FitServer.{step_fit, step_sends, step_archives}
-use Rattle.truth.specs.ValidatedMoves.{perform_kind, step_kind}
+use Rattle.truth.proofs.ValidatedMoves.{perform_kind, step_kind}
 use Rattle.message.specs.Layout.{station_of}
 use Rattle.message.specs.Number.{down_number, kinds_ok, up_number}
 use Rattle.message_meaning.specs.Meant.{up_of, down_of}
-use Rattle.message_meaning.specs.UpAccepted.{up_accepted}
+use Rattle.message_meaning.proofs.UpAccepted.{up_accepted}
 use Rattle.station_state.specs.Layout as StationState
 use Rattle.station_state.specs.Valid as StationValid
 use Rattle.station_callbacks.specs.Callbacks.{flat}
 use Rattle.station_answer.specs.Did.{Outcome}
 use Rattle.station_owner.specs.Owner as StationCall
 use Rattle.station_meaning.specs.Meant as StationMeant
-use Rattle.station_meaning.specs.Tests as StationTests
+use Rattle.station_meaning.proofs.Tests as StationTests
 use Rattle.call_meaning.specs.Buffers.{messages_in, sent_by}
-use Rattle.call_meaning.specs.Valid.{valid_means}
-use Rattle.call_meaning.specs.Calls.{OpFits, perform_b, step_b, owner_means, owner_unready, step_told, step_unready, step_turned_back, step_not_own, ready_valid}
-use Rattle.call_meaning.specs.Stays.{UpTaken, told_taken}
-use Rattle.call_meaning.specs.Stays as Calls
+use Rattle.call_meaning.proofs.Valid.{valid_means}
+use Rattle.call_meaning.specs.Calls.{OpFits, perform_b, step_b}
+use Rattle.call_meaning.proofs.Calls.{owner_means, owner_unready, step_told, step_unready, step_turned_back, step_not_own, ready_valid}
+use Rattle.call_meaning.specs.Stays.{UpTaken}
+use Rattle.call_meaning.proofs.Stays.{told_taken}
+use Rattle.call_meaning.proofs.Stays as CallsLaws
 use Rattle.server_state.specs.Layout.{counter_limit, request_from, ages_of, arrivals_of}
 use Rattle.server_state.specs.Layout as State
 use Rattle.server_state.specs.Valid.{valid}
 use Rattle.server_state.specs.Facts.{valid_ranged}
 use Rattle.server_tests.specs.Tests.{unexpected_b}
 use Rattle.server_meaning.specs.Meant.{meant, Is}
-use Rattle.server_meaning.specs.Tests.{wanting, kind_at, ages_at, arrivals_at}
+use Rattle.server_meaning.proofs.Tests.{wanting, kind_at, ages_at, arrivals_at}
 use Rattle.server_actions.specs.Actions.{serving, accept_b}
 use Rattle.server_actions.specs.Pass.{server_step_b}
 use Rattle.server_actions.specs.Step.{ready, kinds_of, check_step_b, laid, server_called}
 use Rattle.step_meaning.specs.Relation.{AllSent, Serves}
-use Rattle.step_meaning.specs.Accept.{unexpected_at, accept_means}
-use Rattle.step_meaning.specs.Pass.{step_means}
+use Rattle.step_meaning.proofs.Accept.{unexpected_at, accept_means}
+use Rattle.step_meaning.proofs.Pass.{step_means}
 use Rattle.line_bytes.specs.Fits.{fit_of, sound_fit}
 use Rattle.line_bytes.specs.Flags.{Flagged, step_flagged}
 use Rattle.line_bytes.specs.Valid.{valid_of}
@@ -195,10 +198,10 @@ sends_fit m s o q bm bs =
 -- A STATION
 
 pub owner_stays : (op : Op) (s o c : List ℕ) → AllBytes s → OpFits op → StationValid.valid s ≡ true → StationValid.valid (perform_b op s o c).state ≡ true
-owner_stays = Calls.owner_stays
+owner_stays = CallsLaws.owner_stays
 
 pub station_stays : (x s o c : List ℕ) → AllBytes x → AllBytes s → StationValid.valid s ≡ true → StationValid.valid (step_b x s o c).state ≡ true
-station_stays = Calls.step_stays
+station_stays = CallsLaws.step_stays
 
 -- .. and what the server finds in its up line, if it knows the station's kind
 module _ (kinds : List ℕ) (ok : kinds_ok kinds ≡ true) (s o c : List ℕ) (b : AllBytes s) (known : get_or kinds (StationState.station s) 0 ≡ StationState.kind s) where

@@ -3,7 +3,8 @@
 use Rattle.std.specs.Prelude.{ℕ, suc, ◌≡◌, refl, Bool, true, false, cond, List, [], ◌∷◌, eqb, length, get_or}
 use Rattle.std.proofs.Common.{sym, ap, subst, ◌∙◌}
 use Rattle.std.proofs.lemmas.Bool.{false≢true}
-use Rattle.sets.specs.Laws.{by_eq, eqb_yes}
+use Rattle.sets.specs.Laws.{by_eq}
+use Rattle.sets.proofs.Laws.{eqb_yes}
 use Rattle.layout.specs.Record.{archive_of}
 use Rattle.recs.specs.Recs.{records_of}
 use Rattle.archive_meaning.specs.Reader.{Parsed}
@@ -11,13 +12,13 @@ use Rattle.line.specs.Messages.{Down, Page, Deescalate, Callback, Committed, Abo
 use Rattle.line.specs.Line.{World, fresh, run}
 use Rattle.line.specs.Truth.{In, here, there, True, CommittedAt, AbortedAt}
 use Rattle.line.specs.Truth as Line
-use Rattle.truth.specs.Truth.{truth}
+use Rattle.truth.proofs.Truth.{truth}
 use Rattle.archive_truth.specs.Written.{ArchiveOfRun, records_in, archive_of_run}
 use Rattle.message.specs.Layout.{kind_of, transaction_of, version_of, cause_of}
 use Rattle.message_meaning.specs.Meant.{page_at, down_of}
-use Rattle.message_meaning.specs.Kinds.{down_21, down_22}
+use Rattle.message_meaning.proofs.KindsLaws.{down_21, down_22}
 use Rattle.server_state.specs.Valid.{kinds_ok}
-use Rattle.server_meaning.specs.Tests.{value_at_lem}
+use Rattle.server_meaning.proofs.Tests.{value_at_lem}
 use Rattle.step_meaning.specs.Relation.{ReadAs, AllSent}
 use Rattle.line_bytes.specs.Bytes.{WorldB, fresh_b, CallB, AllFit, run_b}
 use Rattle.line_bytes.specs.Claim.{records_b, recs_b, CommittedB, AbortedB, by22, by_owner_or23, TrueBytes}

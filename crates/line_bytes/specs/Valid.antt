@@ -12,9 +12,11 @@ use Rattle.std.proofs.Math.Dec.{eqb}
 use borrow.Author.Tests.{eqb-false, eq-eqb, ne_eqb, lt-ltb, le-leb}
 use Rattle.lists.specs.Tests.{all_to, all_to_of}
 use Rattle.sets.specs.Base.{any}
-use Rattle.sets.specs.Laws.{by_b, by_eq, eqb_yes, eqb_no, not_no}
-use Rattle.cells.specs.Bits.{tb, tb_zero, tb_or, tb_tells}
-use Rattle.cells.specs.Loops.{any_same}
+use Rattle.sets.specs.Laws.{by_b, by_eq}
+use Rattle.sets.proofs.Laws.{eqb_yes, eqb_no, not_no}
+use Rattle.cells.specs.Bits.{tb}
+use Rattle.cells.proofs.Bits.{tb_zero, tb_or, tb_tells}
+use Rattle.cells.proofs.Loops.{any_same}
 use Rattle.kinds.specs.Kinds.{most_kind}
 use Rattle.line.specs.Messages.{locking, keeps}
 use Rattle.line.specs.Server.{Server, Want, NoWant, WantRead, WantWrite, WantCommit, is_want, waits}
@@ -28,7 +30,8 @@ use Rattle.server_state.specs.Valid.{most_at, most, ranges_ok, counters_ok, only
 use Rattle.server_state.specs.Sets.{members_only}
 use Rattle.server_state.specs.Pages.{members_page}
 use Rattle.server_meaning.specs.Meant.{want_as, Is}
-use Rattle.server_meaning.specs.Tests.{bit_is, kind_at, lock_at, whole_at, whole_for_at, latest_at, fin_at, age_at, ages_at, arrival_at, arrivals_at, request_at, called_at, want_at, waits_at, asked_at_lem, pend_at, busy_at, ageless_at}
+use Rattle.server_meaning.specs.Tests.{bit_is}
+use Rattle.server_meaning.proofs.Tests.{kind_at, lock_at, whole_at, whole_for_at, latest_at, fin_at, age_at, ages_at, arrival_at, arrivals_at, request_at, called_at, want_at, waits_at, asked_at_lem, pend_at, busy_at, ageless_at}
 use Rattle.line_bytes.specs.Fits.{want_number, read_member, written_member, number_at, reads_count, writes_count}
 use Rattle.line_bytes.specs.Flags.{Flagged}
 

@@ -4,7 +4,8 @@ use Rattle.std.specs.Prelude.{ℕ, ◌≤◌, ◌≡◌, true, ltb, length, get_
 use Rattle.std.proofs.Math.Path.{refl, sym, ap, subst}
 use Rattle.std.proofs.Common.{◌∙◌}
 use mathlib.Core.List.{List, [], ◌∷◌, ◌++◌}
-use Rattle.sets.specs.Laws.{by_b, ltb_yes}
+use Rattle.sets.specs.Laws.{by_b}
+use Rattle.sets.proofs.Laws.{ltb_yes}
 use Rattle.line.specs.Line.{World, Call, Owner, ServerTakes, StationTakes, fresh, act, run}
 use Rattle.message.specs.Commit.{records_room, server_room, commit_room, station_room}
 use Rattle.station_owner.specs.Owner.{ready}

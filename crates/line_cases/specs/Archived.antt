@@ -1,7 +1,8 @@
 -- The archive afterwards is the archive before with what the calls showed to be archived, in order.
 use Rattle.std.specs.Prelude.{ℕ, ◌<◌, ◌≡◌, refl, true, List, [], ◌∷◌, ◌++◌, eqb}
 use Rattle.std.proofs.Common.{sym, ap, ◌∙◌, append-nil, append_assoc, lt-ltb}
-use Rattle.sets.specs.Laws.{by_b, and_l, and_r}
+use Rattle.sets.specs.Laws.{by_b}
+use Rattle.sets.proofs.Laws.{and_l, and_r}
 use Rattle.line.specs.Messages.{Answer, Nothing, Begun, Value, Waits, Written, CommittedAs, AbortedFor, Purged, Refused, Empty}
 use Rattle.line.specs.Line.{Op, is_refused}
 use Rattle.line.specs.Rows.{station_of}

@@ -4,16 +4,17 @@ use Rattle.std.proofs.Math.Path.{refl}
 use Rattle.std.proofs.Common.{sym, ap, ◌∙◌, append-nil, arith, length-drop, get_or-drop, lt-ltb}
 use Rattle.lists.specs.Bytes.{Bytes, byte_at}
 use Rattle.sets.specs.Base.{table}
-use Rattle.sets.specs.Laws.{by_eq, eqb_yes, eqb_no, eqb_same}
+use Rattle.sets.specs.Laws.{by_eq}
+use Rattle.sets.proofs.Laws.{eqb_yes, eqb_no, eqb_same}
 use Rattle.line.specs.Messages.{address, NoLock, ObjectLock, WholeLock, Down, Deescalate, Callback, Committed, Aborted, Invalidate, Sent, To}
 use Rattle.line.specs.Fields.{one_set_lem, object_set, down_fields}
 use Rattle.layout.specs.Record.{value_length}
 use Rattle.message.specs.Layout.{page_from, object_from, transaction_from, pages_from, version_from, sets_from, sets_length, values_from, values_length, page_versions_from, version_width, behind_length, message_length, kind_of, station_of, page_of, requester_of, object_of, cause_of, transaction_of, pages_of, version_of, set_of, value_of, page_version_of}
 use Rattle.message.specs.Accepted.{PageFields, DeescalateFields, CallbackFields, CommittedFields, AbortedFields, InvalidateFields, DownAccepted, down_accepted}
 use Rattle.message_meaning.specs.Meant.{objects_on, objects_in, sets_of, values_on, versions_on, page_at, down_of}
-use Rattle.message_meaning.specs.Kinds.{down_16, down_17, down_18, down_19, down_20, down_21, down_22, down_23, sets_at_lem}
+use Rattle.message_meaning.proofs.KindsLaws.{down_16, down_17, down_18, down_19, down_20, down_21, down_22, down_23, sets_at_lem}
 use Rattle.message_meaning.specs.Numbers.{numbers}
-use Rattle.message_meaning.specs.Inverse.{values_written, page_versions_written}
+use Rattle.message_meaning.proofs.Inverse.{values_written, page_versions_written}
 use Rattle.step_meaning.specs.Relation.{ReadAs}
 use Rattle.line_cases.specs.Wire.{words, wire}
 use Rattle.line_cases.specs.Parts.{part_rest, made, inside, zero_at, zero_32, bits_back, table_same, table_back, words_table, set_of_page, one_set, no_sets_lem, none_behind_lem, none_from_pages}

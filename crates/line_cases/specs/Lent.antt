@@ -1,7 +1,7 @@
 -- The table's lines speak of calls that can be made: with any output that is long enough, the same for every call.
 use Rattle.std.specs.Prelude.{ℕ, ◌≤◌, ◌≡◌, refl, true, List, [], ◌∷◌, length}
 use Rattle.std.proofs.lemmas.Bool.{false≢true}
-use Rattle.sets.specs.Laws.{and_l, and_r}
+use Rattle.sets.proofs.Laws.{and_l, and_r}
 use Rattle.line.specs.Line.{Begin, Call, Owner, ServerTakes, StationTakes, Broken}
 use Rattle.cases.specs.Archive.{c12}
 use Rattle.message.specs.Commit.{station_room, commit_room, server_room, records_room}

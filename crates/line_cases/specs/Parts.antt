@@ -5,7 +5,8 @@ use Rattle.std.proofs.Common.{sym, ap, subst, ◌∙◌, append_assoc, append-ni
 use Rattle.std.proofs.Math.Seq.{drop-cons}
 use Rattle.lists.specs.Bytes.{Bytes}
 use Rattle.sets.specs.Base.{table}
-use Rattle.sets.specs.Laws.{by_eq, eqb_yes, eqb_no, eqb_same}
+use Rattle.sets.specs.Laws.{by_eq}
+use Rattle.sets.proofs.Laws.{eqb_yes, eqb_no, eqb_same}
 use Rattle.le.specs.Le.{u32_at}
 use Rattle.le.specs.Width.{bytes, bytes_num_at}
 use Rattle.le.specs.Laws.{u32_at_is}

@@ -2,7 +2,8 @@
 use Rattle.std.specs.Prelude.{ℕ, zero, suc, ◌+◌, ◌≤◌, ◌<◌, ◌≡◌, refl, List, [], ◌∷◌, ◌≢◌, length}
 use Rattle.std.proofs.Common.{sym, ap, ◌∙◌, arith, ne_eqb}
 use Rattle.sets.specs.Base.{Val, none, some, table}
-use Rattle.sets.specs.Laws.{by_eq, eqb_yes, eqb_no}
+use Rattle.sets.specs.Laws.{by_eq}
+use Rattle.sets.proofs.Laws.{eqb_yes, eqb_no}
 use Rattle.layout.specs.Record.{Entry, Record, WellFormed, Rising, AllFit, bytes_of, archive_of}
 use Rattle.entries.specs.Entries.{entry, entry_if, entries_from_lem, entries_of, value_in}
 use Rattle.recs.specs.Recs.{as_record, records_of}

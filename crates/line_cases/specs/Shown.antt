@@ -5,7 +5,8 @@ use Rattle.std.proofs.Common.{ap, subst, ◌∙◌, arith, lt-ltb}
 use mathlib.Core.List.{List, [], ◌∷◌, ◌++◌}
 use Rattle.std.proofs.Math.ListN.{get_or}
 use Rattle.sets.specs.Base.{Val, none, some, any}
-use Rattle.sets.specs.Laws.{by_b, by_eq, eqb_yes, ltb_yes, any_no, and_l, and_r, not_yes, not_no}
+use Rattle.sets.specs.Laws.{by_b, by_eq}
+use Rattle.sets.proofs.Laws.{eqb_yes, ltb_yes, any_no, and_l, and_r, not_yes, not_no}
 use Rattle.entries.specs.Entries.{FitVal}
 use Rattle.line.specs.Messages.{page_of, address, Up, Down, Sent, Nothing}
 use Rattle.line.specs.Station.{Did, of_page, station_step}
@@ -15,7 +16,7 @@ use Rattle.line.specs.Bounds.{step_128, step_8}
 use Rattle.line.specs.Fields.{up_fields, down_fields}
 use Rattle.line.specs.Rows.{each, station_of, seen_at, seen}
 use Rattle.line.specs.Rows as Model
-use Rattle.truth.specs.ValidatedMoves.{perform_kind, step_kind}
+use Rattle.truth.proofs.ValidatedMoves.{perform_kind, step_kind}
 use Rattle.message.specs.Number
 use Rattle.station_answer.specs.Did.{Outcome}
 use Rattle.station_owner.specs.Owner.{ready}

@@ -6,12 +6,13 @@ use Rattle.std.proofs.Math.Nat.{zero-add}
 use Rattle.std.proofs.Math.ListN.{length, length-drop}
 use Rattle.lists.specs.Bytes.{Bytes, byte_at, bytes_drop}
 use Rattle.sets.specs.Base.{table}
-use Rattle.sets.specs.Laws.{by_eq, eqb_yes, eqb_no}
+use Rattle.sets.specs.Laws.{by_eq}
+use Rattle.sets.proofs.Laws.{eqb_yes, eqb_no}
 use Rattle.le.specs.Width.{num_at}
 use Rattle.le.specs.Laws.{u32_at_is}
 use Rattle.record.specs.Check.{length_of}
 use Rattle.record_meaning.specs.Parse.{record_of}
-use Rattle.record_meaning.specs.Meaning.{read_written}
+use Rattle.record_meaning.proofs.Meaning.{read_written}
 use Rattle.line.specs.Messages.{address, Up, ReadRequest, WriteRequest, Commit, Abort, Purge, Busy, Done, WrittenSet}
 use Rattle.line.specs.Server.{used_page}
 use Rattle.line.specs.Fields.{no_values, no_versions, one_set_lem, object_set, page_set, fields, work_fields, entry_versions, up_fields}
@@ -20,10 +21,11 @@ use Rattle.message.specs.Layout.{page_from, object_from, transaction_from, pages
 use Rattle.message.specs.Accepted.{Zero, fields_fit}
 use Rattle.message.specs.Commit.{versions_at, record_at, entries_of as entries_in, entry_version}
 use Rattle.message_meaning.specs.Meant.{objects_on, pages_in, work_at, up_of}
-use Rattle.message_meaning.specs.Kinds.{up_1, up_2, up_3, up_4, up_5, up_6, up_7, up_8}
-use Rattle.message_meaning.specs.Numbers.{numbers_written}
+use Rattle.message_meaning.proofs.KindsLaws.{up_1, up_2, up_3, up_4, up_5, up_6, up_7, up_8}
+use Rattle.message_meaning.proofs.Numbers.{numbers_written}
 use Rattle.message_meaning.specs.Sent.{Reads}
-use Rattle.message_meaning.specs.UpAccepted.{RequestFields, WriteRequestFields, AbortFields, PurgeFields, BusyFields, DoneFields, WrittenSetFields, CommitFields, UpAccepted, up_accepted, commit_record, entries_are}
+use Rattle.message_meaning.specs.UpAccepted.{RequestFields, WriteRequestFields, AbortFields, PurgeFields, BusyFields, DoneFields, WrittenSetFields, CommitFields, UpAccepted}
+use Rattle.message_meaning.proofs.UpAccepted.{up_accepted, commit_record, entries_are}
 use Rattle.line_cases.specs.Wire.{words, wire_record, wire}
 use Rattle.line_cases.specs.Parts.{part_rest, two_join, made, inside, zero_at, zero_32, zero_part, bits_back, table_same, table_join, words_table, set_of_page, pages_back, none_behind, zero_behind, one_set, no_sets_lem, none_behind_lem, none_from_pages}
 use Rattle.line_cases.specs.Records.{versions_back, record_back}

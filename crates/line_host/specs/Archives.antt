@@ -4,8 +4,9 @@ use Rattle.line.specs.Messages.{last_number, Work, Up, Committed, Sent, To, Rec}
 use Rattle.line.specs.Server.{Server, Serving, notice, finish, join, leave, send_page, abort, write, archive, install, serve_now, join_read, join_write, join_commit, commit_now, unlist, mark_busy, answered, loosen, accept, ask, serve_read, call, grant_page, grant_object, install_waiter, start, server_step, unexpected}
 use Rattle.line.specs.Truth.{In}
 use Rattle.line.specs.Pass.{Atomic, step_keeps, if_keeps}
-use Rattle.truth.specs.Frame.{installs, accepts, noticed_sent, noticed_recs, noticed_kind}
-use Rattle.truth.specs.GoalsLists.{in_none, either, in_left, in_snoc, in_last}
+use Rattle.truth.proofs.Frame.{installs, accepts, noticed_sent, noticed_recs, noticed_kind}
+use Rattle.truth.specs.GoalsLists.{either}
+use Rattle.truth.proofs.GoalsLists.{in_none, in_left, in_snoc, in_last}
 
 -- over fields, so that what leaves them is seen to keep this
 abbrev pub Answered : (ℕ → ℕ) → List Rec → List Sent → Type 0

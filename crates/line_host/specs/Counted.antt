@@ -8,7 +8,8 @@ use Rattle.server_state.specs.Layout.{value_of}
 use Rattle.server_state.specs.Valid.{kinds_ok}
 use Rattle.line_bytes.specs.Bytes.{WorldB}
 use Rattle.line_bytes.specs.Claim.{recs_b}
-use Rattle.counting.specs.Counting.{Adds, total, counted}
+use Rattle.counting.specs.Counting.{Adds, total}
+use Rattle.counting.proofs.Counting.{counted}
 use Rattle.line_host.specs.Line.{CallH, AllFitH, fresh_h, run_h}
 use Rattle.line_host.specs.Same.{plains_of, plains_fit, run_same}
 

@@ -4,18 +4,20 @@ use Rattle.std.proofs.Math.Path.{refl, ap}
 use Rattle.std.proofs.Common.{sym, ◌∙◌, arith}
 use mathlib.Core.List.{List, [], ◌∷◌, ◌++◌, append-nil}
 use Rattle.sets.specs.Base.{upd}
-use Rattle.sets.specs.Laws.{by_b, ltb_yes}
+use Rattle.sets.specs.Laws.{by_b}
+use Rattle.sets.proofs.Laws.{ltb_yes}
 use Rattle.line.specs.Messages.{Up, NoLock, ObjectLock, WholeLock, Down, Page, Deescalate, Callback, Committed, Aborted, Invalidate, Rec}
 use Rattle.line.specs.Station.{station_step}
 use Rattle.line.specs.Server.{server_step, unexpected}
 use Rattle.line.specs.Line.{World, world_up, Call, Owner, ServerTakes, StationTakes, Broken, fresh, perform, carry_down, owner_acts, is_refused, station_takes, server_takes, act, run}
 use Rattle.line.specs.Truth.{In}
 use Rattle.line.specs.Runs.{run_keeps}
-use Rattle.truth.specs.Frame.{append_assoc}
+use Rattle.truth.proofs.Frame.{append_assoc}
 use Rattle.truth.specs.Inv.{Inv}
-use Rattle.truth.specs.GoalsEight.{RecBelow, StationsOf, stations_run}
-use Rattle.truth.specs.GoalsLists.{in_all, in_right}
-use Rattle.truth.specs.Truth.{invariant}
+use Rattle.truth.specs.GoalsEight.{RecBelow, StationsOf}
+use Rattle.truth.proofs.GoalsEight.{stations_run}
+use Rattle.truth.proofs.GoalsLists.{in_all, in_right}
+use Rattle.truth.proofs.Truth.{invariant}
 use Rattle.line_bytes.specs.Kinds.{server_kind}
 use Rattle.line_host.specs.Line.{Event, Ended, Archived}
 use Rattle.line_host.specs.Archives.{Answered, step_answered}

@@ -3,7 +3,8 @@ use Rattle.std.specs.Prelude.{ℕ, ◌≤◌, ◌<◌, ◌≡◌, true, false, e
 use Rattle.std.proofs.Math.Path.{refl, sym}
 use Rattle.std.proofs.Common.{ap, ◌∙◌, arith}
 use mathlib.Core.List.{List, [], ◌∷◌, ◌++◌, append-nil}
-use Rattle.sets.specs.Laws.{by_b, by_eq, ltb_yes, eqb_yes, eqb_no}
+use Rattle.sets.specs.Laws.{by_b, by_eq}
+use Rattle.sets.proofs.Laws.{ltb_yes, eqb_yes, eqb_no}
 use Rattle.recs.specs.Recs.{records_of}
 use Rattle.layout.specs.Record.{archive_of}
 use Rattle.line.specs.Messages.{Up, Down, To}
@@ -11,17 +12,17 @@ use Rattle.line.specs.Station.{Station}
 use Rattle.line.specs.Server.{server_step, unexpected}
 use Rattle.line.specs.Line.{World, fresh, perform, act, run}
 use Rattle.line.specs.Bounds.{step_8}
-use Rattle.truth.specs.Frame.{append_assoc}
+use Rattle.truth.proofs.Frame.{append_assoc}
 use Rattle.message.specs.Layout.{kind_of}
 use Rattle.message.specs.Number
 use Rattle.message.specs.Accepted.{down_accepted}
 use Rattle.message_meaning.specs.Meant.{page_at, down_of}
-use Rattle.message_meaning.specs.Kinds.{down_16, down_17, down_18, down_19, down_20, down_21, down_22, down_23}
+use Rattle.message_meaning.proofs.KindsLaws.{down_16, down_17, down_18, down_19, down_20, down_21, down_22, down_23}
 use Rattle.station_answer.specs.Ask.{open_b}
 use Rattle.station_answer.specs.Did.{Outcome}
 use Rattle.station_owner.specs.Owner.{ready}
 use Rattle.station_meaning.specs.Meant.{Is}
-use Rattle.station_meaning.specs.Tests.{number_at, open_at}
+use Rattle.station_meaning.proofs.Tests.{number_at, open_at}
 use Rattle.server_state.specs.Valid.{kinds_ok}
 use Rattle.server_state.specs.Facts.{kinds_length}
 use Rattle.server_actions.specs.Step.{server_called}
@@ -29,7 +30,8 @@ use Rattle.server_actions.specs.Step as ServerCall
 use Rattle.host.specs.Host.{told_length}
 use Rattle.server_host.specs.Host.{served_length}
 use Rattle.step_meaning.specs.Relation.{ReadAs}
-use Rattle.call_meaning.specs.Calls.{AllReads, owner_unready, step_unready}
+use Rattle.call_meaning.specs.Calls.{AllReads}
+use Rattle.call_meaning.proofs.Calls.{owner_unready, step_unready}
 use Rattle.line_bytes.specs.Bytes.{WorldB}
 use Rattle.line_bytes.specs.Served.{archive_join, records_are}
 use Rattle.line_bytes.specs.Runs.{calls_of, same_kinds, fresh_sim}

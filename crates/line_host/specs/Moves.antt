@@ -6,8 +6,10 @@ use Rattle.sets.specs.Laws.{by_b}
 use Rattle.line.specs.Messages.{Lock, NoLock, ObjectLock, WholeLock, Down, Page, Deescalate, Callback, Committed, Aborted, Invalidate, Answer, Begun, Waits, CommittedAs, AbortedFor}
 use Rattle.line.specs.Station.{Station, Did, Wait, Idle, ForRead, ForWrite, ForCommit, waiting, for_commit, gives_up, drop_pages, record_read, write_local, mark, do_callback, read_local, read_ask, write_ask, arrive, take_lock, loosen, on_deescalate, on_committed, on_aborted, station_step}
 use Rattle.line.specs.Line.{Op, Commits, perform, is_refused}
-use Rattle.truth.specs.Frame.{Owns, performs, Takes, takes}
-use Rattle.truth.specs.GoalsOwner.{Ended, close_ends, undo_num}
+use Rattle.truth.specs.Frame.{Owns, Takes}
+use Rattle.truth.proofs.Frame.{performs, takes}
+use Rattle.truth.specs.GoalsOwner.{Ended}
+use Rattle.truth.proofs.GoalsOwner.{close_ends, undo_num}
 
 -- a move that opens nothing and asks for no commit; E is known where it ends the transaction
 pub record Moved (s : Station) (z : Station) (E : Type 0) : Type 0 where

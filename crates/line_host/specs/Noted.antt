@@ -6,7 +6,8 @@ use Rattle.std.proofs.Common.{ap, ◌∙◌, arith, length-append}
 use Rattle.std.proofs.lemmas.Bool.{false≢true}
 use Rattle.std.proofs.Math.Logic.{inl, inr}
 use Rattle.sets.specs.Base.{upd, Val, none, some}
-use Rattle.sets.specs.Laws.{by_b, by_eq, eqb_same, eqb_yes, and_l}
+use Rattle.sets.specs.Laws.{by_b, by_eq}
+use Rattle.sets.proofs.Laws.{eqb_same, eqb_yes, and_l}
 use Rattle.layout.specs.Record.{archive_of}
 use Rattle.recs.specs.Recs.{records_of}
 use Rattle.line.specs.Messages.{Down, Committed, Sent, To, Rec, Answer, Nothing, Begun, Value, Waits, Written, CommittedAs, AbortedFor, Purged, Refused, Empty}
@@ -14,9 +15,10 @@ use Rattle.line.specs.Station.{Station, Did, for_commit, station_step}
 use Rattle.line.specs.Line.{World, world_down, Op, Begin, Read, WriteSet, Commits, Aborts, Purges, Told, ToldAbort, writes_of, tell, tell_write, tell_writes, carry_up, perform, sent_to, is_refused}
 use Rattle.line.specs.Truth.{In, here, there}
 use Rattle.line.specs.All.{All}
-use Rattle.truth.specs.Frame.{append_assoc}
+use Rattle.truth.proofs.Frame.{append_assoc}
 use Rattle.truth.specs.Inv.{Inv}
-use Rattle.truth.specs.GoalsLists.{in_none, either, in_left, in_right, in_append, in_last, in_all, no_split}
+use Rattle.truth.specs.GoalsLists.{either}
+use Rattle.truth.proofs.GoalsLists.{in_none, in_left, in_right, in_append, in_last, in_all, no_split}
 use Rattle.line_bytes.specs.Served.{archive_join}
 use Rattle.line_host.specs.Line.{Event, Began, Asked, Ended, EndedByOwner, Archived, asked_by, told_by}
 use Rattle.line_host.specs.Claim.{Recorded}
@@ -373,6 +375,7 @@ module _ {kinds : ℕ → ℕ} {h : List Event} (i : ℕ) (b : i < 8) (m : Down)
 -- THE SERVER'S STEP
 
 in_sent_to : (j : ℕ) (m : Down) (l : List Sent) → In (To j m) l → In m (sent_to j l)
+in_sent_to j m [] x' = elim x' [ ]
 in_sent_to j m (x ∷ l) here = rw (eqb_same j) here
 in_sent_to j m (To i x ∷ l) (there u) = let k = in_sent_to j m l u in by_eq j i (λ e. rw e (there k)) (λ e. rw e k)
 

@@ -7,16 +7,18 @@ use Rattle.lists.specs.Bytes.{Bytes, bytes_append}
 use Rattle.sets.specs.Laws.{by_b}
 use Rattle.layout.specs.Record.{Record, WellFormed, AllWellFormed, Numbered, entries, addresses, values, bytes_of, archive_of}
 use Rattle.recs.specs.Recs.{records_of}
-use Rattle.record_meaning.specs.Layout.{bytes_of_are}
-use Rattle.record_meaning.specs.Meaning.{written_read}
+use Rattle.record_meaning.proofs.LayoutLaws.{bytes_of_are}
+use Rattle.record_meaning.proofs.Meaning.{written_read}
 use Rattle.record_meaning.specs.Parse.{record_of}
 use Rattle.archive.specs.declared.Fields.{Fields}
 use Rattle.archive.specs.declared.Answer.{Answer}
 use Rattle.archive.specs.Read.{fields_of, read_of}
 use Rattle.archive.specs.Parts.{address_part, value_part}
-use Rattle.archive_meaning.specs.Facts.{Said, fields_said}
-use Rattle.archive_meaning.specs.Parts.{shown}
-use Rattle.archive_meaning.specs.Reader.{Parsed, parsed, behind, archive_read, reads_record}
+use Rattle.archive_meaning.specs.Facts.{Said}
+use Rattle.archive_meaning.proofs.Facts.{fields_said}
+use Rattle.archive_meaning.proofs.Parts.{shown}
+use Rattle.archive_meaning.specs.Reader.{Parsed, parsed, behind, archive_read}
+use Rattle.archive_meaning.proofs.Reader.{reads_record}
 use Rattle.line.specs.Messages.{Up, Rec}
 use Rattle.line.specs.Server.{unexpected}
 use Rattle.line.specs.Line.{World, ServerTakes, Broken, fresh, carry_down, server_takes, act, run}

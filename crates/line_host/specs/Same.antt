@@ -25,7 +25,8 @@ use Rattle.host.specs.Host.{told_length}
 use Rattle.server_host.specs.Host.{served_length}
 use Rattle.call_meaning.specs.Relation.{answer_of}
 use Rattle.call_meaning.specs.Buffers.{messages_in, sent_by}
-use Rattle.call_meaning.specs.Calls.{perform_b, OpFits, one_called, set_called, set_fits, step_b, owner_unready, step_unready}
+use Rattle.call_meaning.specs.Calls.{perform_b, OpFits, step_b}
+use Rattle.call_meaning.proofs.Calls.{one_called, set_called, set_fits, owner_unready, step_unready}
 use Rattle.line_bytes.specs.Bytes.{WorldB, CallB, OwnerB, ServerTakesB, StationTakesB, Fits, AllFit, rest_up_lem, rest_down, carry_up_b, carry_down_b, owner_acts_b, station_takes_b, server_takes_b, tell_b, act_b, run_b}
 use Rattle.line_bytes.specs.Simulates.{carry_none, carry_refused}
 use Rattle.line_host.specs.Line.{OpH, BeginH, ReadH, WriteH, WriteSetH, CommitH, AbortH, PurgeH, operation, ArgumentsFit, owner_hosted, step_hosted, server_hosted, answer_in, count_in, sent_in, posted_in, archived_in, carry_up_h, carry_down_h, CallH, OwnerH, StationH, ServerH, FitsH, AllFitH, owner_acts_h, station_takes_h, server_takes_h, line_h, WorldH, act_h, run_h}

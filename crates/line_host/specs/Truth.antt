@@ -7,11 +7,11 @@ use Rattle.recs.specs.Recs.{as_record, records_of}
 use Rattle.line.specs.Messages.{Rec}
 use Rattle.line.specs.Line.{World, Told, ToldAbort, fresh, run}
 use Rattle.line.specs.Truth.{In, here, count, of_transaction}
-use Rattle.truth.specs.GoalsLists.{in_right, no_split}
+use Rattle.truth.proofs.GoalsLists.{in_right, no_split}
 use Rattle.archive_meaning.specs.Reader.{Parsed}
 use Rattle.archive_truth.specs.Written.{ArchiveOfRun, archive_of_run}
 use Rattle.server_state.specs.Valid.{kinds_ok}
-use Rattle.station_meaning.specs.Tests.{kind_at}
+use Rattle.station_meaning.proofs.Tests.{kind_at}
 use Rattle.line_bytes.specs.Bytes.{fresh_b}
 use Rattle.line_bytes.specs.Claim.{records_b, recs_b, by_owner_or23, TrueBytes}
 use Rattle.line_bytes.specs.Claim as Bytes

@@ -4,7 +4,8 @@ use Rattle.std.specs.Prelude.{ℕ, ◌≤◌, ◌≡◌, refl, true, false, ltb,
 use Rattle.std.proofs.Math.Path.{ap}
 use Rattle.std.proofs.Common.{subst, ◌∙◌, le-ltb}
 use mathlib.Core.List.{List, [], ◌∷◌, ◌++◌}
-use Rattle.sets.specs.Laws.{by_b, ltb_yes}
+use Rattle.sets.specs.Laws.{by_b}
+use Rattle.sets.proofs.Laws.{ltb_yes}
 use Rattle.line.specs.Line.{World, Call, fresh, act, run}
 use Rattle.message.specs.Commit.{station_room, commit_room, server_room, records_room}
 use Rattle.station_owner.specs.Owner.{ready}

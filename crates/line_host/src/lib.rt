@@ -1,1 +1,2 @@
+#![tactic(auto)]
 // No code: demand 3 of the functions that hosts call.

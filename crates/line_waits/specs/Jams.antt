@@ -4,7 +4,8 @@ use Rattle.std.proofs.Math.Path.{refl}
 use Rattle.std.proofs.Common.{sym, ap, subst, ◌∙◌, arith}
 use Rattle.std.proofs.Math.Bool.{true}
 use Rattle.std.proofs.Math.Dec.{eqb}
-use Rattle.sets.specs.Laws.{by_b, eqb_yes, ltb_yes}
+use Rattle.sets.specs.Laws.{by_b}
+use Rattle.sets.proofs.Laws.{eqb_yes, ltb_yes}
 use Rattle.line.specs.Messages.{Up, Down, To}
 use Rattle.line.specs.Station.{station_step}
 use Rattle.line.specs.Server.{unexpected}

@@ -6,7 +6,8 @@ use Rattle.std.proofs.Math.Path.{refl, subst}
 use Rattle.std.proofs.Common.{sym, ap, ◌∙◌, arith, lt-ltb}
 use Rattle.std.proofs.lemmas.Bool.{false≢true}
 use mathlib.Core.List.{List, [], ◌∷◌, ◌++◌}
-use Rattle.sets.specs.Laws.{by_b, any_no, ltb_yes}
+use Rattle.sets.specs.Laws.{by_b}
+use Rattle.sets.proofs.Laws.{any_no, ltb_yes}
 use Rattle.line.specs.All.{All}
 use Rattle.line.specs.Messages.{Up, Down}
 use Rattle.line.specs.Station.{waiting}
@@ -20,7 +21,7 @@ use Rattle.drains.specs.Ends.{calm, ends_of}
 use Rattle.drains.specs.Rounds.{Calm, Round, Rounds, runs, some_waits}
 use Rattle.drains.specs.Runs.{waits_end_of_run}
 use Rattle.station_answer.specs.Ask.{open_b}
-use Rattle.station_meaning.specs.Tests.{open_at}
+use Rattle.station_meaning.proofs.Tests.{open_at}
 use Rattle.server_state.specs.Valid.{kinds_ok}
 use Rattle.host.specs.Host.{told_length}
 use Rattle.server_host.specs.Host.{served_length}

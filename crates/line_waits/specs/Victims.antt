@@ -4,7 +4,8 @@ use Rattle.std.specs.Prelude.{ℕ, zero, suc, ◌<◌, ◌≡◌, Bool, false, c
 use Rattle.std.proofs.Math.Path.{refl}
 use Rattle.std.proofs.Common.{sym, ap, subst, ◌∙◌}
 use Rattle.std.proofs.Math.Bool.{true}
-use Rattle.sets.specs.Reach.{Path, path_by, path_from}
+use Rattle.sets.specs.Reach.{Path}
+use Rattle.sets.proofs.Reach.{path_by, path_from}
 use Rattle.cells.specs.Upd.{cond_rel, branch_rel}
 use Rattle.line.specs.Messages.{Up, Down, Aborted, Sent, To}
 use Rattle.line.specs.Server.{Server, edge, victim, order, pass, moved, abort, fuel, accept, start, server_step, unexpected}
@@ -19,7 +20,7 @@ use Rattle.jams.specs.Taken.{taken_up}
 use Rattle.jams.specs.Jams.{orderly}
 use Rattle.message.specs.Layout.{kind_of, station_of, transaction_of, cause_of}
 use Rattle.message_meaning.specs.Meant.{down_of, up_of}
-use Rattle.message_meaning.specs.Kinds.{down_22}
+use Rattle.message_meaning.proofs.KindsLaws.{down_22}
 use Rattle.server_state.specs.Layout.{age_of}
 use Rattle.server_state.specs.Valid.{kinds_ok}
 use Rattle.server_state.specs.Facts.{kinds_length}
@@ -27,16 +28,17 @@ use Rattle.server_tests.specs.Tests.{edge_b}
 use Rattle.server_sets.specs.Sets as Bytes
 use Rattle.server_order.specs.Order.{victim_b}
 use Rattle.server_meaning.specs.Meant.{Is}
-use Rattle.server_meaning.specs.Tests.{Wanting, age_at}
-use Rattle.server_meaning.specs.Sets.{edge_set_lem}
-use Rattle.server_meaning.specs.Order.{victim_at}
+use Rattle.server_meaning.specs.Tests.{Wanting}
+use Rattle.server_meaning.proofs.Tests.{age_at}
+use Rattle.server_meaning.proofs.Sets.{edge_set_lem}
+use Rattle.server_meaning.proofs.Order.{victim_at}
 use Rattle.server_actions.specs.Actions.{Serving, serving, abort_b, accept_b}
 use Rattle.server_actions.specs.Pass.{order_b, pass_b, moved_b, server_step_b}
 use Rattle.server_actions.specs.Step.{laid, server_called, check_step_b}
 use Rattle.server_actions.specs.Step as ServerCall
 use Rattle.server_host.specs.Host.{served_length}
 use Rattle.step_meaning.specs.Relation.{ReadAs, Serves}
-use Rattle.step_meaning.specs.Pass.{order_at, pass_means, moved_at, victim_means}
+use Rattle.step_meaning.proofs.Pass.{order_at, pass_means, moved_at, victim_means}
 use Rattle.line_bytes.specs.Bytes.{WorldB, fresh_b}
 use Rattle.line_bytes.specs.Simulates.{Sim, lent, check_is, accepts, serves}
 use Rattle.line_bytes.specs.Served.{messages_are}

@@ -2,7 +2,8 @@
 -- leads along them to a station that does not.
 use Rattle.std.specs.Prelude.{ℕ, ◌<◌, ◌≡◌, refl, Bool, true, false, not, List, [], ◌∷◌, eqb, get_or}
 use Rattle.std.proofs.Common.{sym, ◌∙◌}
-use Rattle.sets.specs.Reach.{Path, path_by}
+use Rattle.sets.specs.Reach.{Path}
+use Rattle.sets.proofs.Reach.{path_by}
 use Rattle.line.specs.Messages.{Up, Down}
 use Rattle.line.specs.Station.{waiting}
 use Rattle.line.specs.Server.{Server, edge, waits}
@@ -11,13 +12,13 @@ use Rattle.progress.specs.Out.{Quiet}
 use Rattle.progress.specs.Out
 use Rattle.progress.specs.Ring
 use Rattle.station_state.specs.Layout.{wait}
-use Rattle.station_meaning.specs.Tests.{waiting_at}
+use Rattle.station_meaning.proofs.Tests.{waiting_at}
 use Rattle.server_state.specs.Layout.{waits_b}
 use Rattle.server_state.specs.Valid.{valid, kinds_ok}
 use Rattle.server_tests.specs.Tests.{edge_b, edge_set}
 use Rattle.server_sets.specs.Sets as Bytes
-use Rattle.server_meaning.specs.Sets.{edge_set_lem}
-use Rattle.server_meaning.specs.Tests.{wanting, waits_at}
+use Rattle.server_meaning.proofs.Sets.{edge_set_lem}
+use Rattle.server_meaning.proofs.Tests.{wanting, waits_at}
 use Rattle.call_meaning.specs.Calls.{AllReads}
 use Rattle.line_bytes.specs.Bytes.{WorldB}
 use Rattle.line_bytes.specs.Simulates.{Sim, AllDown}

@@ -1,1 +1,2 @@
+#![tactic(auto)]
 // No code: what a stuck line means, of the functions that hosts call, is in specs/.

@@ -6,7 +6,8 @@ use Rattle.lists.specs.Tests.{and_l, and_r, all_to_at}
 use Rattle.lists.specs.Bytes.{Bytes, byte_at}
 use Rattle.le.specs.Width.{num_at_lt}
 use Rattle.le.specs.Laws.{u32_at_is, u64_at_is}
-use Rattle.sets.specs.Laws.{by_eq, eqb_yes, eqb_no}
+use Rattle.sets.specs.Laws.{by_eq}
+use Rattle.sets.proofs.Laws.{eqb_yes, eqb_no}
 use Rattle.layout.specs.Record.{value_length}
 use Rattle.message.specs.Layout.{page_from, object_from, transaction_from, pages_from, version_from, sets_from, second_set, values_from, message_length, kind_of, station_of, page_of, requester_of, object_of, cause_of, transaction_of, pages_of, version_of, set_of, value_of, page_version_of, page_versions_from, version_width}
 use Rattle.message.specs.Range.{zero_at, zeros, station_ok, page_ok, object_ok, requester_ok, transaction_ok, page_message_ok, grant_ok, deescalate_ok, callback_ok, committed_ok, aborted_ok, invalidate_ok, down_fields_ok}

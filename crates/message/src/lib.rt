@@ -1,3 +1,4 @@
+#![tactic(auto)]
 // Messages of document 01: writing one, and the numbers 2 to 5 that its bytes alone give at either end.
 ghost use Rattle.std.specs.Prelude.{◌≡◌, ◌+◌, ◌*◌, ◌^◌, ◌≤◌, ◌<◌, length, replicate, cond};
 ghost use Rattle.std.proofs.lemmas.List.Edits.{sets};

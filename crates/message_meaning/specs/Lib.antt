@@ -1,11 +1,9 @@
 -- The bytes of messages mean the line's messages.
 pub mod Meant
-pub mod Kinds
 pub mod Numbers
 pub mod Inverse
 pub mod Sent
 pub mod Uses
-pub mod CommitRead
 pub mod CommitSent
 pub mod WorkSent
 pub mod UpAccepted

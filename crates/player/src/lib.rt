@@ -1,3 +1,4 @@
+#![tactic(auto)]
 // What the playback program does between its reads and writes (docs/PLAYBACK.md): plays of the bytes that are there, the lines in front
 // of the records' and behind them, and the joining of two reads. No function here touches a descriptor.
 ghost use Rattle.std.specs.Prelude.{◌≡◌, ◌-◌, ◌≤◌, length};
@@ -31,7 +32,7 @@ pub const FULL: u64 = 4;
 pub const NO_ROOM: u32 = 255;
 
 // What to do: a listing, of which counter, from which commit on, up to which, and the byte between its columns.
-#[derive(Drop)]
+#[derive(Clone, Copy)]
 pub struct Job {
     pub listing: u64,
     pub counter: u8,
@@ -41,7 +42,7 @@ pub struct Job {
 }
 
 // Where a play of some bytes stopped, and the number that stopped it: 0 at their end or at the job's last commit.
-#[derive(Drop)]
+#[derive(Clone, Copy)]
 pub struct Stop {
     pub at: usize,
     pub last: u32,

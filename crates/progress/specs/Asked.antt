@@ -5,19 +5,22 @@ use Rattle.std.proofs.Common.{sym, subst, ◌∙◌}
 use Rattle.std.proofs.Math.Bool.{true, false}
 use Rattle.std.proofs.lemmas.Bool.{false≢true}
 use mathlib.Core.List.{List, [], ◌∷◌, ◌++◌}
-use Prim.Native.Nat.{ℕ, suc, ◌+◌, ◌≤◌, ◌<◌}
+use Prim.Native.Nat.{ℕ, suc, ◌≤◌, ◌<◌}
 use native.Mathlib.Omega.{arith}
 use Rattle.std.proofs.Math.Dec.{eqb}
 use Rattle.sets.specs.Base.{upd, snoc, has}
-use Rattle.sets.specs.Laws.{by_b, by_eq, eqb_same, eqb_yes, eqb_no, ltb_no, and_l, and_r}
+use Rattle.sets.specs.Laws.{by_b, by_eq}
+use Rattle.sets.proofs.Laws.{eqb_same, eqb_yes, eqb_no, ltb_no, and_l, and_r}
 use Rattle.line.specs.Messages.{page_of, last_number, locking, keeps, Work, Up, ReadRequest, WriteRequest, Commit, Abort, Purge, Busy, Done, WrittenSet, NoLock, ObjectLock, WholeLock, Down, Page, Deescalate, Callback, Committed, Aborted, Invalidate, Sent, To}
 use Rattle.line.specs.Station.{Station, Did, answers_for, written_on, on_deescalate, station_step}
-use Rattle.line.specs.Server.{Server, Serving, send, Waiter, waits, bad_number, unexpected, notice, finish, join, leave, send_page, abort, write, archive, install, serve_now, join_read, join_write, join_commit, commit_now, unlist, mark_busy, answered, open_ask, heeded, unlocks, loosen as loosened, accept, ask, serve_read, calls_from, call, grant_page, grant_object, install_waiter, start, End, ByCommit, ByMessage}
-use Rattle.line.specs.Line.{World, Op, perform, carry_up, carry_down, sent_to, is_refused}
+use Rattle.line.specs.Server.{Server, Serving, send, Waiter, bad_number, notice, finish, join, leave, send_page, abort, write, archive, install, serve_now, join_read, join_write, join_commit, commit_now, unlist, mark_busy, answered, open_ask, heeded, unlocks, loosen as loosened, ask, serve_read, calls_from, call, grant_page, grant_object, install_waiter, start, End, ByCommit, ByMessage}
+use Rattle.line.specs.Line.{World, perform, carry_up, carry_down, sent_to, is_refused}
 use Rattle.line.specs.Apart.{Apart, WholeHolder, Renews, left_whole, or_l, or_r, good_number}
 use Rattle.line.specs.Runs.{Of, tell_keeps}
-use Rattle.truth.specs.Inv.{Over, heard_good}
-use Rattle.truth.specs.Frame.{append_nil, count_snoc, if_serving, noticed_kind, noticed_sent, Takes, takes, Accepts, accepts, installs}
+use Rattle.truth.specs.Inv.{Over}
+use Rattle.truth.proofs.Inv.{heard_good}
+use Rattle.truth.specs.Frame.{Takes, Accepts}
+use Rattle.truth.proofs.Frame.{append_nil, count_snoc, if_serving, noticed_kind, noticed_sent, takes, accepts, installs}
 use Rattle.progress.specs.Clauses.{ask_is, set_is, asks_out, asked_for, P5At, P5Of, Moving}
 use Rattle.progress.specs.Lines.{more, sent_more, sent_one}
 

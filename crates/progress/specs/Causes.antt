@@ -1,12 +1,12 @@
 -- Who is sent 22 with cause 1: nobody by a message's own effect, nobody by a turn of the pass.
-use Rattle.std.specs.Prelude.{◌≡◌, refl, Bool, false, not, ◌&&◌, cond, List, [], ◌∷◌, ◌++◌, ℕ, zero, suc, ◌+◌, eqb}
+use Rattle.std.specs.Prelude.{◌≡◌, refl, Bool, false, not, ◌&&◌, cond, List, [], ◌∷◌, ◌++◌, ℕ, zero, suc, eqb}
 use Rattle.std.proofs.Common.{ap, ◌∙◌}
 use Rattle.sets.specs.Base.{any}
 use Rattle.sets.specs.Laws.{by_b}
 use Rattle.line.specs.Messages.{page_of, last_number, locking, Work, Up, ReadRequest, WriteRequest, Commit, Abort, Purge, Busy, Done, WrittenSet, NoLock, ObjectLock, WholeLock, Down, Page, Deescalate, Callback, Committed, Aborted, Invalidate, Sent, To}
 use Rattle.line.specs.Server.{ByCommit, Server, Serving, send, Want, NoWant, WantRead, WantWrite, WantCommit, notice, finish, join, leave, send_page, abort, write, archive, informed, inform, inform_from, install, serve_now, join_read, join_write, join_commit, commit_now, unlist, open_call, mark_busy, answered, open_ask, loosen, accept, ask, ask_from, holder, serve_read, concerned, calls_from, call, call_once, hinders, grant_page, grant_object, grant, install_waiter, all_answered, after_calls, proceed, gates, visit, blocked, shut, stale, locked, fault, pass, heed, shut_kept, out_of_time, judge, ask_keepers}
 use Rattle.line.specs.Pass.{if_keeps, met_keeps}
-use Rattle.truth.specs.Frame.{append_nil, append_assoc, noticed_sent}
+use Rattle.truth.proofs.Frame.{append_nil, append_assoc, noticed_sent}
 
 -- who is sent 22 with cause 1, in the order sent
 abbrev pub beaten_by : Sent → List ℕ

@@ -2,7 +2,8 @@
 use Rattle.std.specs.Prelude.{◌≡◌, refl, Bool, true, false, not, ◌&&◌, ◌||◌, ℕ, suc, ◌<◌, eqb, ltb}
 use Rattle.std.proofs.Common.{arith}
 use Rattle.sets.specs.Base.{any}
-use Rattle.sets.specs.Laws.{by_b, by_eq, eqb_yes, ltb_yes, and_l, and_r, and_both, or_yes, not_yes, any_yes, any_some}
+use Rattle.sets.specs.Laws.{by_b, by_eq, or_yes}
+use Rattle.sets.proofs.Laws.{eqb_yes, ltb_yes, and_l, and_r, and_both, not_yes, any_yes, any_some}
 use Rattle.line.specs.Server.{Server, waits, wants, earlier, blocks, edge}
 
 module _ (s : Server) (i j : ℕ) where

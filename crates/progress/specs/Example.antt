@@ -3,7 +3,7 @@ use Rattle.std.specs.Prelude.{◌≡◌, refl, Bool, true, false, ◌||◌, List
 use Rattle.std.proofs.Common.{sym, arith}
 use Rattle.std.proofs.lemmas.Bool.{false≢true}
 use Rattle.sets.specs.Base.{any}
-use Rattle.sets.specs.Laws.{any_no, or_no}
+use Rattle.sets.proofs.Laws.{any_no, or_no}
 use Rattle.sets.specs.Size.{size}
 use Rattle.line.specs.Station.{record_read, write_local, drop_pages, mark, do_callback, do_kept, do_all_kept, closed, close, undo, own_begin, read_local, read_ask, read_as, own_read, write_ask, write_set, own_write, own_commit, own_abort, own_purge, arrive, take_lock, answer_wait, on_page, loosen, on_deescalate, on_callback, on_committed, on_aborted, on_invalidate, on_down, station_step, waiting}
 use Rattle.line.specs.Server as S

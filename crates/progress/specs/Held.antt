@@ -1,9 +1,10 @@
 -- Where the pass rests: why each waiter still waits. It is blocked, or the 8 of a page that it wants is awaited, or a 7 is.
-use Rattle.std.specs.Prelude.{◌≡◌, refl, Bool, true, false, not, ◌&&◌, ◌||◌, cond, List, [], ◌∷◌, ℕ, zero, suc, ◌+◌, ◌≤◌, ◌<◌, eqb, length}
+use Rattle.std.specs.Prelude.{◌≡◌, refl, Bool, true, false, not, ◌&&◌, cond, List, [], ◌∷◌, ℕ, zero, suc, ◌+◌, ◌≤◌, ◌<◌, eqb, length}
 use Rattle.std.proofs.Common.{sym, ap, ◌∙◌, arith}
 use Rattle.std.proofs.lemmas.Bool.{false≢true}
 use Rattle.sets.specs.Base.{any}
-use Rattle.sets.specs.Laws.{by_b, by_eq, eqb_yes, eqb_no, not_no}
+use Rattle.sets.specs.Laws.{by_b, by_eq}
+use Rattle.sets.proofs.Laws.{eqb_yes, eqb_no, not_no}
 use Rattle.line.specs.Server.{Server, Serving, Want, NoWant, WantRead, WantWrite, WantCommit, is_want, waits, abort, ask, ask_from, holder, serve_read, call, call_once, grant, install_waiter, all_answered, after_calls, proceed, gates, visit, blocked, shut, shut_kept, stale, fault, out_of_time, judge, ask_keepers, order, pass, start}
 use Rattle.line.specs.Messages.{last_number}
 use Rattle.line.specs.Pass.{order_8, All8}

@@ -1,9 +1,10 @@
 -- Document 02, wish 10: "a kept lock making edges only for objects that 8 names". Of every server, whether a run reaches it or not.
-use Rattle.std.specs.Prelude.{◌≡◌, refl, Bool, true, false, not, ◌&&◌, ◌||◌, cond, ℕ, suc, ◌<◌, eqb, ltb}
+use Rattle.std.specs.Prelude.{◌≡◌, refl, Bool, true, false, not, ◌&&◌, ◌||◌, cond, ℕ, suc, eqb, ltb}
 use Rattle.std.proofs.Common.{sym, ◌∙◌, arith}
 use Rattle.std.proofs.lemmas.Bool.{false≢true}
 use Rattle.sets.specs.Base.{any}
-use Rattle.sets.specs.Laws.{by_b, eqb_yes, and_l, and_r, and_both, or_yes, any_some}
+use Rattle.sets.specs.Laws.{by_b, or_yes}
+use Rattle.sets.proofs.Laws.{eqb_yes, and_l, and_r, any_some}
 use Rattle.line.specs.Messages.{page_of}
 use Rattle.line.specs.Server.{Server, Serving, set_wl, waits, wants, earlier, blocks, edge, notice, meet, heeded, heed, loosen}
 use Rattle.progress.specs.Edges.{edge_busy, edge_blocks}

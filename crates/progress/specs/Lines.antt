@@ -5,7 +5,7 @@ use Rattle.sets.specs.Base.{snoc}
 use Rattle.line.specs.Messages.{Down, Sent, To}
 use Rattle.line.specs.Line.{sent_to}
 use Rattle.line.specs.Truth.{count}
-use Rattle.truth.specs.Frame.{count_append, count_snoc, send_own, sent_to_append, append_assoc}
+use Rattle.truth.proofs.Frame.{count_append, count_snoc, send_own, sent_to_append, append_assoc}
 
 pub more : {A : Type 0} (f : A → Bool) (l k : List A) → count f l ≤ count f (l ++ k)
 more f l k = omega (arith, count_append f l k)

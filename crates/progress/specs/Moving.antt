@@ -2,8 +2,8 @@
 use Rattle.std.specs.Prelude.{List, ℕ}
 use Rattle.line.specs.Line.{World, Call, carry_down, run, fresh}
 use Rattle.truth.specs.Inv.{Acts, Over}
-use Rattle.truth.specs.Theorem.{of_run}
-use Rattle.truth.specs.Truth.{moves}
+use Rattle.truth.proofs.Theorem.{of_run}
+use Rattle.truth.proofs.Truth.{moves}
 use Rattle.progress.specs.Clauses.{Moving}
 use Rattle.progress.specs.Waits.{waits_layer}
 use Rattle.progress.specs.OwedServer.{owed_layer}

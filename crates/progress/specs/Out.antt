@@ -3,8 +3,10 @@ use Rattle.std.specs.Prelude.{◌≡◌, refl, Bool, true, false, cond, List, []
 use Rattle.std.proofs.lemmas.Bool.{false≢true}
 use Rattle.std.proofs.Common.{inl, inr, arith}
 use Rattle.sets.specs.Base.{any}
-use Rattle.sets.specs.Laws.{by_b, and_l, and_r, not_no, any_some}
-use Rattle.sets.specs.Reach.{Path, path_last, walks_out}
+use Rattle.sets.specs.Laws.{by_b}
+use Rattle.sets.proofs.Laws.{and_l, and_r, not_no, any_some}
+use Rattle.sets.specs.Reach.{Path}
+use Rattle.sets.proofs.Reach.{path_last, walks_out}
 use Rattle.line.specs.Messages.{locking}
 use Rattle.line.specs.Station.{Kept, NotKept, KeptCall, waiting}
 use Rattle.line.specs.Server.{Server, waits, wants, holder, blocks, blocked_at, shut, edge, start}
@@ -12,7 +14,8 @@ use Rattle.line.specs.Pass.{shut_by}
 use Rattle.line.specs.Line.{World, Call, run, fresh}
 use Rattle.line.specs.Rest.{AtRest}
 use Rattle.truth.specs.Clauses.{kept_of}
-use Rattle.truth.specs.Tokens.{both, idle_quiet}
+use Rattle.truth.specs.Tokens.{both}
+use Rattle.truth.proofs.Tokens.{idle_quiet}
 use Rattle.progress.specs.Clauses.{is_kept, Moving}
 use Rattle.progress.specs.Moving.{moving}
 use Rattle.progress.specs.Held.{Held, Blocked, Asking, Unanswered, rested}

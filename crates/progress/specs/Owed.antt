@@ -1,16 +1,17 @@
 -- Who owes a 7 to requester r at station j (P2, P3, P4, P7): what one event does. Over values only.
-use Rattle.std.specs.Prelude.{◌≡◌, refl, Bool, true, false, ◌&&◌, cond, List, [], ◌∷◌, ◌++◌, ◌⊎◌, ℕ, ◌+◌, ◌≤◌, ◌<◌, eqb}
+use Rattle.std.specs.Prelude.{◌≡◌, refl, Bool, true, false, ◌&&◌, cond, List, [], ◌∷◌, ◌++◌, ◌⊎◌, ℕ, ◌≤◌, ◌<◌, eqb}
 use Rattle.std.proofs.Common.{sym, ◌∙◌, inl, inr, arith}
 use Rattle.std.proofs.lemmas.Bool.{false≢true}
 use Rattle.sets.specs.Base.{snoc}
-use Rattle.sets.specs.Laws.{by_b, by_eq, eqb_same, eqb_yes, eqb_no}
+use Rattle.sets.specs.Laws.{by_b, by_eq}
+use Rattle.sets.proofs.Laws.{eqb_same, eqb_yes, eqb_no}
 use Rattle.line.specs.All.{All}
 use Rattle.line.specs.Messages.{locking, Up, Busy, Done, Down, Page, Deescalate, Callback, Committed, Aborted, Invalidate}
 use Rattle.line.specs.Station.{Kept, NotKept, KeptCall}
 use Rattle.line.specs.Server.{Waiter, waiter_pend, waiter_called, waiter_busy}
 use Rattle.line.specs.Truth.{count}
 use Rattle.truth.specs.Clauses.{call_of, kept_of, done_of, call_tokens, CallBelow, KeptBelow}
-use Rattle.truth.specs.Frame.{count_snoc}
+use Rattle.truth.proofs.Frame.{count_snoc}
 use Rattle.truth.specs.Tokens.{both}
 use Rattle.progress.specs.Clauses.{busy_of, kept_number, RisingFrom, Owed}
 use Rattle.progress.specs.Lines.{more, one_more}

@@ -5,7 +5,8 @@ use Rattle.std.proofs.Common.{sym, ◌∙◌, arith}
 use Rattle.std.proofs.Math.Bool.{true, false, cond, false≢true}
 use Rattle.std.proofs.Math.Dec.{eqb, ltb}
 use Rattle.sets.specs.Base.{upd, snoc, has}
-use Rattle.sets.specs.Laws.{by_b, by_eq, eqb_same, eqb_yes, eqb_no, and_l, and_r, not_yes}
+use Rattle.sets.specs.Laws.{by_b, by_eq}
+use Rattle.sets.proofs.Laws.{eqb_same, eqb_yes, eqb_no, and_l, and_r, not_yes}
 use Rattle.line.specs.Messages.{last_number, locking, Work, Up, ReadRequest, WriteRequest, Commit, Abort, Purge, Busy, Done, WrittenSet, NoLock, ObjectLock, WholeLock, Down, Page, Deescalate, Committed, Aborted, Invalidate, Sent, To, keeps}
 use Rattle.line.specs.Station.{Station}
 use Rattle.line.specs.Server.{Server, Serving, Waiter, no_waiter, waiter_pend, waiter_busy, waits, bad_number, notice, finish, join, leave, send_page, abort, write, archive, install, serve_now, join_read, join_write, join_commit, commit_now, unlist, open_call, mark_busy, answered, loosen, ask, serve_read, concerned, call, grant_page, grant_object, install_waiter, start}
@@ -13,10 +14,12 @@ use Rattle.line.specs.Line.{World, carry_up, carry_down, sent_to}
 use Rattle.line.specs.Apart.{good_number, Renews}
 use Rattle.line.specs.Runs.{Of, tell_keeps}
 use Rattle.truth.specs.Clauses.{kept_of, done_of, call_tokens, CallbacksAt}
-use Rattle.truth.specs.Inv.{Over, heard_good}
-use Rattle.truth.specs.Frame.{append_nil, send_own, send_far, call_own, call_far, if_serving, noticed_latest, noticed_queue, noticed_sent, Accepts, accepts, installs}
-use Rattle.truth.specs.Callbacks.{no_token}
-use Rattle.truth.specs.Tokens.{no_entry}
+use Rattle.truth.specs.Inv.{Over}
+use Rattle.truth.proofs.Inv.{heard_good}
+use Rattle.truth.specs.Frame.{Accepts}
+use Rattle.truth.proofs.Frame.{append_nil, send_own, send_far, call_own, call_far, if_serving, noticed_latest, noticed_queue, noticed_sent, accepts, installs}
+use Rattle.truth.proofs.Callbacks.{no_token}
+use Rattle.truth.proofs.Tokens.{no_entry}
 use Rattle.progress.specs.Clauses.{busy_of, Owed, OwedAt, OwedOf, Moving}
 use Rattle.progress.specs.Owed.{from, push_down, pop_up, pop_free, free, alike, busy_taken, called_far, called_near}
 use Rattle.progress.specs.OwedStation.{owner_owed, station_owed}

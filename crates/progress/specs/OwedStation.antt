@@ -6,14 +6,16 @@ use Rattle.std.proofs.Math.Bool.{true}
 use Rattle.std.proofs.lemmas.Bool.{false≢true}
 use mathlib.Core.List.{List, [], ◌∷◌, ◌++◌}
 use Rattle.sets.specs.Base.{upd, none}
-use Rattle.sets.specs.Laws.{by_b, by_eq, eqb_same, eqb_yes, eqb_no, and_r, any_some}
+use Rattle.sets.specs.Laws.{by_b, by_eq}
+use Rattle.sets.proofs.Laws.{eqb_same, eqb_yes, eqb_no, and_r, any_some}
 use Rattle.line.specs.Messages.{locking, Up, Busy, Done, WrittenSet, Lock, NoLock, ObjectLock, WholeLock, Down, Page, Deescalate, Callback, Committed, Aborted, Invalidate, Nothing}
-use Rattle.line.specs.Station.{answers_for, Station, Did, does, did_station, set_kept, Kept, NotKept, KeptCall, live, used_at, in_use, drops, mark, drop_pages, record_read, write_local, do_callback, do_kept, do_all_kept, closed, close, read_local, read_ask, write_ask, arrive, take_lock, written_on, loosen, on_deescalate, on_committed, on_aborted, station_step, gives_up}
+use Rattle.line.specs.Station.{answers_for, Station, Did, does, did_station, set_kept, Kept, NotKept, KeptCall, used_at, in_use, drops, mark, drop_pages, record_read, write_local, do_callback, do_kept, do_all_kept, closed, close, read_local, read_ask, write_ask, arrive, take_lock, written_on, loosen, on_deescalate, on_committed, on_aborted, station_step, gives_up}
 use Rattle.line.specs.Server.{Waiter}
 use Rattle.line.specs.Line.{Op, perform, is_refused}
 use Rattle.line.specs.Bounds.{kept_stays, undo_kept}
 use Rattle.truth.specs.Clauses.{CallBelow}
-use Rattle.truth.specs.Frame.{append_assoc, Owns, performs, closes, arrived, Takes, takes}
+use Rattle.truth.specs.Frame.{Owns, arrived, Takes}
+use Rattle.truth.proofs.Frame.{append_assoc, performs, closes, takes}
 use Rattle.progress.specs.Clauses.{Owed}
 use Rattle.progress.specs.Owed.{from, push_up, pop_down, call_kept, call_done, kept_done, opens, shut}
 

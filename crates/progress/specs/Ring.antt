@@ -1,7 +1,8 @@
 -- Wish 4, first sentence: "after every server step, from a fresh line, the waits-for edges have no cycle".
 use Rattle.std.proofs.lemmas.Bool.{false≢true}
 use Rattle.std.specs.Prelude.{List, ℕ}
-use Rattle.sets.specs.Reach.{Path, path_from, path_edge}
+use Rattle.sets.specs.Reach.{Path}
+use Rattle.sets.proofs.Reach.{path_from, path_edge}
 use Rattle.line.specs.Server.{Server, fresh_server, edge, order, start, server_step}
 use Rattle.line.specs.Pass.{order_8}
 use Rattle.line.specs.Line.{Call, run, fresh}

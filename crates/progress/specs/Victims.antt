@@ -1,8 +1,10 @@
 -- Wish 4, third sentence: "only a member of a cycle is ever aborted for cause 1, and never the oldest station on the cycle".
 use Rattle.std.specs.Prelude.{◌≡◌, refl, Bool, true, false, cond, List, [], ◌∷◌, ◌++◌, ℕ, zero, suc, ◌≤◌, ◌<◌, eqb}
 use Rattle.std.proofs.Common.{sym, ap, subst, ◌∙◌, arith}
-use Rattle.sets.specs.Laws.{by_b, eqb_same, eqb_yes, eqb_no}
-use Rattle.sets.specs.Reach.{Path, Last, Then, path_from, path_edge, path_and}
+use Rattle.sets.specs.Laws.{by_b}
+use Rattle.sets.proofs.Laws.{eqb_same, eqb_yes, eqb_no}
+use Rattle.sets.specs.Reach.{Path, Last, Then, path_and}
+use Rattle.sets.proofs.Reach.{path_from, path_edge}
 use Rattle.line.specs.All.{All, all_map}
 use Rattle.line.specs.Messages.{Up, Aborted, Sent, To}
 use Rattle.line.specs.Server.{Server, Serving, waits, unexpected, finish, leave, abort, order, pass, edge, victim, moved, settle, fuel, accept, start, server_step}
@@ -12,8 +14,8 @@ use Rattle.line.specs.Rest.{victim_is}
 use Rattle.line.specs.Line.{World, Call, carry_down, run, fresh}
 use Rattle.line.specs.Truth.{In, here, there}
 use Rattle.truth.specs.Inv.{taken}
-use Rattle.truth.specs.Theorem.{acts_atomic}
-use Rattle.truth.specs.Frame.{append_nil, append_assoc, all_in}
+use Rattle.truth.proofs.Theorem.{acts_atomic}
+use Rattle.truth.proofs.Frame.{append_nil, append_assoc, all_in}
 use Rattle.truth.specs.Tokens.{both}
 use Rattle.progress.specs.Clauses.{Moving}
 use Rattle.progress.specs.Moving.{moving_layer, moving}
@@ -142,11 +144,13 @@ in_append [] k h = h
 in_append (y ∷ l) k h = there (in_append l k h)
 
 is_beaten : (v t : ℕ) (l : List Sent) → In (To v (Aborted t 1)) l → In v (beaten l)
+is_beaten v t [] x' = elim x' [ ]
 is_beaten v t (m ∷ l) here = here
 is_beaten v t (m ∷ l) (there h) = in_append (beaten_by m) (beaten l) (is_beaten v t l h)
 
 -- .. was chosen at one of the choices
 chosen_at : (v : ℕ) (l : List Serving) → In v (chosen l) → (y : Serving) × In y l × (victim y.server ≡ v)
+chosen_at v [] x' = elim x' [ ]
 chosen_at v (y ∷ l) here = (y, here, refl)
 chosen_at v (y ∷ l) (there h) = let z = chosen_at v l h in (z.0, there z.1, z.2)
 

@@ -6,18 +6,21 @@ use Rattle.std.proofs.Math.Bool.{Bool, cond}
 use Rattle.std.proofs.lemmas.Bool.{false≢true}
 use mathlib.Core.List.{List, [], ◌∷◌, ◌++◌}
 use Prim.Native.Nat.{ℕ, ◌+◌, ◌≤◌, ◌<◌}
-use Rattle.sets.specs.Base.{upd, upd2, snoc, nowhere, has, Val}
-use Rattle.sets.specs.Laws.{by_b, by_eq, eqb_same, eqb_yes, and_l, and_r}
-use Rattle.line.specs.Messages.{page_of, last_number, locking, Work, Up, ReadRequest, WriteRequest, Commit, Abort, Purge, Busy, Done, WrittenSet, Lock, NoLock, ObjectLock, WholeLock, Down, Page, Deescalate, Callback, Committed, Aborted, Invalidate, Sent, To}
-use Rattle.line.specs.Station.{Station, Did, waiting, live, ended, drop_pages, mark, record_read, write_local, do_callback, closed, close, read_local, read_ask, write_ask, work_of, on_deescalate, loosen, on_committed, on_aborted, station_step, named, lowest_on, of_page, gives_up}
-use Rattle.line.specs.Server.{Server, Serving, send, values_on, Waiter, Want, WantRead, is_want, bad_number, unexpected, notice, finish, join, leave, send_page, abort, write, archive, install, serve_now, join_read, join_write, join_commit, commit_now, unlist, mark_busy, answered, heeded, loosen as loosened, accept, ask, serve_read, calls_from, call, grant_page, grant_object, install_waiter, start, ByCommit, ByMessage, wrote_page}
-use Rattle.line.specs.Line.{World, Op, perform, carry_up, carry_down, sent_to, is_refused}
+use Rattle.sets.specs.Base.{upd, snoc, nowhere, has, Val}
+use Rattle.sets.specs.Laws.{by_b, by_eq}
+use Rattle.sets.proofs.Laws.{eqb_same, eqb_yes, and_l}
+use Rattle.line.specs.Messages.{page_of, last_number, locking, Work, Up, ReadRequest, WriteRequest, Commit, Abort, Purge, Busy, Done, WrittenSet, NoLock, ObjectLock, WholeLock, Down, Page, Deescalate, Callback, Committed, Aborted, Invalidate, Sent, To}
+use Rattle.line.specs.Station.{Station, Did, waiting, live, ended, drop_pages, mark, record_read, write_local, do_callback, closed, close, read_local, read_ask, write_ask, work_of, on_deescalate, loosen, on_committed, on_aborted, named, lowest_on, of_page, gives_up}
+use Rattle.line.specs.Server.{Serving, send, values_on, Waiter, Want, WantRead, is_want, notice, finish, join, leave, send_page, abort, write, archive, install, serve_now, join_read, join_write, join_commit, commit_now, unlist, mark_busy, answered, heeded, loosen as loosened, ask, serve_read, calls_from, call, grant_page, grant_object, install_waiter, start, ByCommit, ByMessage}
+use Rattle.line.specs.Line.{World, carry_up, carry_down, sent_to, is_refused}
 use Rattle.line.specs.Runs.{Of, tell_keeps}
 use Rattle.line.specs.Truth.{count}
 use Rattle.truth.specs.Clauses.{stale, token_up, token_down}
 use Rattle.truth.specs.Inv.{Over}
-use Rattle.truth.specs.Frame.{append_nil, count_snoc, send_own, if_serving, noticed_queue, noticed_own, noticed_sent, Owns, performs, closes, Takes, takes, Accepts, accepts, installs, Active}
-use Rattle.truth.specs.Tokens.{both, and_no}
+use Rattle.truth.specs.Frame.{Owns, Takes, Accepts, Active}
+use Rattle.truth.proofs.Frame.{append_nil, count_snoc, send_own, if_serving, noticed_queue, noticed_own, noticed_sent, performs, closes, takes, accepts, installs}
+use Rattle.truth.specs.Tokens.{both}
+use Rattle.truth.proofs.Tokens.{and_no}
 use Rattle.progress.specs.Clauses.{P1, P1At, P1Of, Moving}
 use Rattle.progress.specs.Lines.{more, one_more, sent_more, sent_one}
 

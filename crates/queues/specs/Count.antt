@@ -1,14 +1,14 @@
 -- What is sent to one station, counted: one message more, 20s, 23s.
-use Rattle.std.specs.Prelude.{◌≡◌, Bool, true, false, ◌&&◌, ◌||◌, cond, List, [], ◌∷◌, ◌++◌, eqb, ltb, length}
+use Rattle.std.specs.Prelude.{◌≡◌, Bool, true, false, ◌&&◌, List, [], ◌∷◌, ◌++◌, eqb, length}
 use Rattle.std.proofs.Math.Path.{refl, ap}
-use Rattle.std.proofs.Common.{sym, ◌∙◌, length-append}
+use Rattle.std.proofs.Common.{◌∙◌, length-append}
 use Rattle.std.proofs.Math.Bool.{not}
-use Rattle.std.proofs.lemmas.Bool.{false≢true}
 use Prim.Native.Nat.{ℕ, zero, suc, ◌+◌, ◌≤◌, ◌<◌}
 use native.Mathlib.Omega.{arith}
-use Rattle.sets.specs.Base.{snoc, any}
-use Rattle.sets.specs.Laws.{by_b, by_eq, eqb_yes, eqb_no, and_l, and_r, not_yes}
-use Rattle.line.specs.Messages.{locking, Work, Down, Sent, To, Callback, Invalidate}
+use Rattle.sets.specs.Base.{snoc}
+use Rattle.sets.specs.Laws.{by_b, by_eq}
+use Rattle.sets.proofs.Laws.{eqb_yes, and_l}
+use Rattle.line.specs.Messages.{locking, Work, Down, Sent, To}
 use Rattle.line.specs.Server.{Server, Serving, set_listed, concerned, calls_from, informed, inform, inform_from}
 use Rattle.line.specs.Line.{sent_to}
 use Rattle.line.specs.Laws.{sent_to_snoc}

@@ -1,10 +1,10 @@
 -- What the actions leave: kinds, and of an install what was sent and what can still be sent.
-use Rattle.std.specs.Prelude.{◌≡◌, Bool, true, false, not, ◌&&◌, cond, ℕ, zero, suc, ◌+◌, ◌≤◌, ◌<◌, eqb}
+use Rattle.std.specs.Prelude.{◌≡◌, not, ◌&&◌, cond, ℕ, ◌+◌, ◌≤◌, eqb}
 use Rattle.std.proofs.Math.Path.{refl}
-use Rattle.std.proofs.Common.{sym, ap, ◌∙◌, arith}
+use Rattle.std.proofs.Common.{arith}
 use Rattle.sets.specs.Base.{upd}
 use Rattle.line.specs.Messages.{locking, Work}
-use Rattle.line.specs.Server.{Server, Serving, no_waiter, is_want, finish, leave, send_page, abort, write, archive, install, ask, serve_read, call, grant_object, grant_page, unlocks}
+use Rattle.line.specs.Server.{Serving, no_waiter, is_want, finish, leave, send_page, abort, write, archive, install, ask, serve_read, call, grant_object, grant_page, unlocks}
 use Rattle.line.specs.Fuel.{sum_to, nb}
 use Rattle.queues.specs.Count.{sent_at, one_to, informs_leave, informs_one}
 use Rattle.queues.specs.Left.{own, caller, callers, wholes, wholes_freed}

@@ -1,11 +1,11 @@
 -- What a state can still send to station j: its own answer; a 20 or 23 from each other waiter; a 19 for each page that it has locked whole.
-use Rattle.std.specs.Prelude.{◌≡◌, refl, Bool, true, false, not, ◌&&◌, ◌||◌, cond, List, [], ◌∷◌, ◌++◌, ◌≢◌, ℕ, zero, suc, ◌+◌, ◌≤◌, ◌<◌, eqb, ltb, length}
-use Rattle.std.proofs.Common.{sym, ap, ◌∙◌, arith}
-use Rattle.std.proofs.lemmas.Bool.{false≢true}
-use Rattle.sets.specs.Base.{upd, any}
-use Rattle.sets.specs.Laws.{by_b, by_eq, eqb_same, eqb_yes, eqb_no, and_l, and_r}
+use Rattle.std.specs.Prelude.{◌≡◌, refl, Bool, true, false, not, ◌&&◌, cond, ℕ, zero, suc, ◌+◌, ◌≤◌, ◌<◌, eqb}
+use Rattle.std.proofs.Common.{sym, ap, arith}
+use Rattle.sets.specs.Base.{upd}
+use Rattle.sets.specs.Laws.{by_b, by_eq}
+use Rattle.sets.proofs.Laws.{eqb_same, eqb_yes, eqb_no}
 use Rattle.line.specs.Messages.{locking}
-use Rattle.line.specs.Server.{Server, Serving, Waiter, no_waiter, is_want, waits, unlocks}
+use Rattle.line.specs.Server.{Server, Waiter, no_waiter, is_want, waits, unlocks}
 use Rattle.line.specs.Fuel.{sum_to, nb, sum_le, sum_at, sum_1, nb_1, marked}
 
 abbrev pub own : ℕ → Server → ℕ

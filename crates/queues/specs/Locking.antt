@@ -1,21 +1,22 @@
 -- To a locking station j one step sends at most 40 messages, in every state: an answer, a 20 from each of seven others, a 19 for each of 32
 -- pages. An 18 that is asked for in the same step is no 41st: a station that has all pages whole is sent no 20.
-use Rattle.std.specs.Prelude.{◌≡◌, Bool, true, not, ◌&&◌, ◌||◌, cond, List, [], ◌∷◌, ◌++◌, ◌≢◌, ◌⊎◌, eqb, length}
+use Rattle.std.specs.Prelude.{◌≡◌, Bool, true, not, ◌&&◌, ◌||◌, cond, ◌⊎◌, eqb}
 use Rattle.std.proofs.Math.Path.{refl, ap}
 use Rattle.std.proofs.Common.{sym, ◌∙◌, arith}
 use Rattle.std.proofs.Math.Bool.{false}
 use Rattle.std.proofs.lemmas.Bool.{false≢true}
 use Rattle.std.proofs.Math.Logic.{inl, inr}
-use Prim.Native.Nat.{ℕ, zero, suc, ◌+◌, ◌≤◌, ◌<◌}
+use Prim.Native.Nat.{ℕ, suc, ◌+◌, ◌≤◌, ◌<◌}
 use Rattle.std.proofs.Math.Dec.{ltb}
 use Rattle.sets.specs.Base.{upd, any}
-use Rattle.sets.specs.Laws.{by_b, by_eq, eqb_same, eqb_yes, eqb_no, and_l, and_r, not_yes, not_no, any_no, any_yes, any_some}
+use Rattle.sets.specs.Laws.{by_b, by_eq}
+use Rattle.sets.proofs.Laws.{eqb_same, eqb_yes, eqb_no, and_l, and_r, not_yes, not_no, any_no, any_yes, any_some}
 use Rattle.line.specs.Messages.{page_of, address, locking, Work}
-use Rattle.line.specs.Server.{Server, Serving, Waiter, no_waiter, is_want, waits, wants_page, writes_page, wants, other, shut, concerned, calls_from, finish, leave, send_page, abort, write, archive, inform_from, install, install_waiter, ask, serve_read, call, grant_object, grant_page, unlocks}
-use Rattle.line.specs.Pass.{Atomic, Clear, Ready, Shut}
-use Rattle.line.specs.Fuel.{sum_to, nb, nb_1}
+use Rattle.line.specs.Server.{Server, Serving, Waiter, no_waiter, is_want, waits, wants_page, writes_page, wants, other, shut, concerned, finish, leave, send_page, abort, install, install_waiter, ask, serve_read, call, grant_object, grant_page, unlocks}
+use Rattle.line.specs.Pass.{Atomic, Shut}
+use Rattle.line.specs.Fuel.{nb, nb_1}
 use Rattle.queues.specs.Count.{sent_at, one_to, both_to, calls_one}
-use Rattle.queues.specs.Left.{own, callers, wholes, callers_7, callers_6, wholes_32, wholes_31, own_goes, own_less, callers_go, own_called, callers_called, wholes_freed, wholes_asked, wholes_up}
+use Rattle.queues.specs.Left.{own, callers, wholes, callers_7, callers_6, wholes_32, wholes_31, own_goes, callers_go, own_called, callers_called, wholes_freed, wholes_asked, wholes_up}
 use Rattle.queues.specs.Leaves.{abort_kind, ask_kind, read_kind, call_kind, object_kind, page_kind, install_kind, install_sends, install_own, install_callers, install_wholes, install_wl}
 
 -- what was sent to j, its answer twice (an 18 may be asked for again), and its pages

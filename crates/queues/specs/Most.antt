@@ -1,14 +1,13 @@
 -- One step adds at most 40 messages to the line of one station, and at most 8 to that of a validating one.
-use Rattle.std.specs.Prelude.{◌≡◌, Bool, true, false, not, ◌&&◌, ◌||◌, cond, List, [], ◌∷◌, ◌++◌, ◌⊎◌, eqb, length}
+use Rattle.std.specs.Prelude.{◌≡◌, Bool, true, false, not, ◌&&◌, cond, List, ◌∷◌, ◌⊎◌, eqb, length}
 use Rattle.std.proofs.Math.Path.{refl}
-use Rattle.std.proofs.Common.{sym, ap, ◌∙◌, inr, arith, length-append}
-use Rattle.std.proofs.lemmas.Bool.{false≢true}
+use Rattle.std.proofs.Common.{ap, ◌∙◌, inr, arith, length-append}
 use Rattle.std.proofs.Math.Logic.{inl}
-use Prim.Native.Nat.{ℕ, zero, suc, ◌+◌, ◌≤◌, ◌<◌}
-use Rattle.sets.specs.Base.{upd}
-use Rattle.sets.specs.Laws.{by_b, by_eq, eqb_same, eqb_yes}
+use Prim.Native.Nat.{ℕ, ◌+◌, ◌≤◌, ◌<◌}
+use Rattle.sets.specs.Laws.{by_b, by_eq}
+use Rattle.sets.proofs.Laws.{eqb_same, eqb_yes}
 use Rattle.line.specs.Messages.{last_number, locking, Work, Up, Down, ReadRequest, WriteRequest, Commit, Abort, Purge, Busy, Done, WrittenSet}
-use Rattle.line.specs.Server.{Server, Serving, is_want, waits, unexpected, notice, finish, join, leave, send_page, abort, install, serve_now, join_read, join_write, join_commit, commit_now, unlist, open_call, mark_busy, answered, open_ask, loosen, accept, start, server_step, heeded, heed}
+use Rattle.line.specs.Server.{Server, Serving, waits, unexpected, notice, finish, join, leave, send_page, abort, install, serve_now, join_read, join_write, join_commit, commit_now, unlist, open_call, mark_busy, answered, open_ask, loosen, accept, start, server_step, heeded, heed}
 use Rattle.line.specs.Station.{Station}
 use Rattle.line.specs.Line.{World, Call, sent_to, act}
 use Rattle.line.specs.Runs.{Moves, act_moves}

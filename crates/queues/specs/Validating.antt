@@ -1,17 +1,17 @@
 -- To a validating station j one step sends at most 8 messages: an answer, and a 23 from each of seven others. It holds no lock, so no 19.
-use Rattle.std.specs.Prelude.{◌≡◌, refl, Bool, true, false, not, ◌&&◌, cond, List, [], ◌∷◌, ◌++◌, ℕ, zero, suc, ◌+◌, ◌≤◌, ◌<◌, eqb, ltb}
+use Rattle.std.specs.Prelude.{◌≡◌, true, false, not, ◌&&◌, ℕ, suc, ◌+◌, ◌≤◌, ◌<◌, eqb, ltb}
 use Rattle.std.proofs.Common.{sym, ap, ◌∙◌}
 use Rattle.std.proofs.lemmas.Bool.{false≢true}
 use native.Mathlib.Omega.{arith}
-use Rattle.sets.specs.Base.{upd}
-use Rattle.sets.specs.Laws.{by_b, by_eq, eqb_same, eqb_yes, eqb_no, and_l, and_r}
+use Rattle.sets.specs.Laws.{by_b, by_eq}
+use Rattle.sets.proofs.Laws.{eqb_yes, eqb_no, and_l, and_r}
 use Rattle.line.specs.Messages.{locking, Work}
-use Rattle.line.specs.Server.{Server, Serving, Waiter, is_want, waits, concerned, finish, leave, send_page, abort, install, install_waiter, ask, serve_read, call, grant_object, grant_page}
-use Rattle.line.specs.Pass.{Atomic, Shut}
+use Rattle.line.specs.Server.{Server, Serving, is_want, waits, concerned, finish, leave, send_page, abort, install, install_waiter, ask, serve_read, call, grant_object, grant_page}
+use Rattle.line.specs.Pass.{Atomic}
 use Rattle.line.specs.Apart.{Apart, atomic_apart}
-use Rattle.line.specs.Fuel.{sum_to, nb, nb_1}
+use Rattle.line.specs.Fuel.{nb}
 use Rattle.queues.specs.Count.{sent_at, one_to, both_to, calls_one}
-use Rattle.queues.specs.Left.{own, caller, callers, callers_7, own_goes, callers_go, own_called, callers_called}
+use Rattle.queues.specs.Left.{own, caller, callers, own_goes, callers_go, own_called, callers_called}
 use Rattle.queues.specs.Leaves.{abort_kind, ask_kind, read_kind, call_kind, object_kind, page_kind, install_kind, install_sends, install_own, install_callers}
 
 module _ (j : ℕ) where

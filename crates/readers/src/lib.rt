@@ -1,3 +1,4 @@
+#![tactic(auto)]
 // One archive, two readers (document 02, wish 8): the counts reader shows commit number, addresses written and values, the service
 // reader all fields. Both read the record of a commit, or the first record of some bytes, and give numbers 5 and 12 to 14 alike.
 ghost use Rattle.std.specs.Prelude.{◌≡◌, ◌≤◌, length};
@@ -43,8 +44,7 @@ fn put_service(out: &mut [u64], f: Fields)
 
 // The counts reader. The counts of the record of this commit go to the start of `out`: 1 where `out` has no room for the longest,
 // 12, 5, 13 or 14 where the archive is refused at this commit or before it, 255 where it has none of this number. Only 0 changes `out`.
-#[unsafe(no_mangle)]
-pub extern "C" fn wax_counts_at(archive: &[u8], commit: u32, out: &mut [u8]) -> u32
+pub fn wax_counts_at(archive: &[u8], commit: u32, out: &mut [u8]) -> u32
     ensures { told out.new result ≡ counts_at archive.now commit out.old }
 {
     if out.len() < counts::LONGEST {
@@ -63,8 +63,7 @@ pub extern "C" fn wax_counts_at(archive: &[u8], commit: u32, out: &mut [u8]) -> 
 
 // The service reader. Where the record of this commit starts and ends, its reads, writes, commit, transaction, station and kind go to
 // the first eight places of `out`: 1 where it has fewer, else the counts reader's numbers. Only 0 changes `out`.
-#[unsafe(no_mangle)]
-pub extern "C" fn wax_service_at(archive: &[u8], commit: u32, out: &mut [u64]) -> u32
+pub fn wax_service_at(archive: &[u8], commit: u32, out: &mut [u64]) -> u32
     ensures { told out.new result ≡ service_at archive.now commit out.old }
 {
     if out.len() < SERVICE {
@@ -82,8 +81,7 @@ pub extern "C" fn wax_service_at(archive: &[u8], commit: u32, out: &mut [u64]) -
 
 // The service reader of the first record of these bytes, played on lent values behind a lent last commit number: its eight numbers go
 // to the start of `out`. 1 where `out` has fewer places, 12 (also for no bytes), 5, 13 or 14, else 0. Only 0 changes anything.
-#[unsafe(no_mangle)]
-pub extern "C" fn wax_service_record(
+pub fn wax_service_record(
     bytes: &[u8],
     values: &mut [u64; 256],
     last: &mut u32,

@@ -1,3 +1,4 @@
+#![tactic(auto)]
 // Record check and record writer of document 01, for the heads' C firmware, which calls them directly.
 ghost use Rattle.std.specs.Prelude.{◌≡◌, ◌++◌, true, ◌+◌, ◌*◌, ◌-◌, ◌≤◌, ◌<◌, length, take, drop};
 ghost use Rattle.record.specs.Check.{length_of, claimed_length, head_ok_lem, head_at, rise_at, rises, addresses_rise, check_of};
@@ -171,8 +172,7 @@ fn addresses_rise(s: &[u8]) -> bool
 
 // The number of the first record of these bytes: 12 where they end inside it, then 5 where its layout is broken, else 0.
 // Any commit number is taken: it is 0 on the way up, and what an archive asks of it is the archive reader's to say.
-#[unsafe(no_mangle)]
-pub extern "C" fn wax_record_check(bytes: &[u8]) -> u32
+pub fn wax_record_check(bytes: &[u8]) -> u32
     ensures { result ≡ check_of bytes.now }
 {
     if bytes.len() < HEADER {
@@ -192,7 +192,7 @@ fn fill(to: &mut [u8], from: &[u8])
     requires { length to.old ≡ length from.now }
     ensures { to.new ≡ from.now }
 {
-    bytes::copy(from, to);
+    to.copy_from_slice(from);
 }
 
 // .. where it is few bytes.
@@ -316,8 +316,7 @@ fn put_record(
 
 // Writes a record to the start of `out`: 1 where `out` is under the record's length, then 5 where the arguments make no
 // record, else 0. `values` has 8 bytes for each address, the lowest first. A refusal changes nothing.
-#[unsafe(no_mangle)]
-pub extern "C" fn wax_record_write(
+pub fn wax_record_write(
     reads: u32,
     writes: u32,
     commit: u32,

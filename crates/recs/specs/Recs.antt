@@ -1,9 +1,7 @@
 -- The line's records as document 01's, and back; nothing is lost by that.
-use Rattle.std.specs.Prelude.{◌≡◌, refl, List, [], ◌∷◌}
-use Rattle.std.proofs.Math.Path.{fun_ext}
+use Rattle.std.specs.Prelude.{List, [], ◌∷◌}
 use Rattle.layout.specs.Record.{Record}
-use Rattle.entries.specs.Entries.{entries_of, value_in, Within, says}
-use Rattle.line.specs.All.{All}
+use Rattle.entries.specs.Entries.{entries_of, value_in, Within}
 use Rattle.line.specs.Messages.{Rec}
 
 -- the line's record as document 01 writes it
@@ -27,20 +25,3 @@ recs_of (r ∷ rs) = as_rec r ∷ recs_of rs
 pub record Narrow (r : Rec) : Type 0 where
   pub reads : Within r.reads
   pub writes : Within r.writes
-
-pub given_back : (r : Rec) → Narrow r → as_rec (as_record r) ≡ r
-given_back r n =
-    λ t.
-    record {
-      number = r.number;
-      transaction = r.transaction;
-      station = r.station;
-      kind = r.kind;
-      reads = fun_ext (says r.reads n.reads) t;
-      writes = fun_ext (says r.writes n.writes) t;
-    }
-
--- the line's records are had back from document 01's
-pub all_given_back : (rs : List Rec) → All Narrow rs → recs_of (records_of rs) ≡ rs
-all_given_back [] h = refl
-all_given_back (r ∷ rs) h = rw (given_back r h.0, all_given_back rs h.1)

@@ -1,3 +1,4 @@
+#![tactic(auto)]
 // Replay of document 01: each record of an archive, read and played on 256 values.
 ghost use Rattle.std.specs.Prelude.{◌≡◌, true, ◌+◌, ◌*◌, ◌≤◌, ◌<◌, length, set};
 ghost use Rattle.layout.specs.Record.{header_length, entry_length};
@@ -138,8 +139,7 @@ fn play_in_place(bytes: &[u8], last: &mut u32, values: &mut [u64; 256]) -> u32
 
 // Plays a whole archive, record by record: 0 at its end, else the number of the first record refused, with the values and
 // the last commit number as the records before it left them.
-#[unsafe(no_mangle)]
-pub extern "C" fn wax_archive_replay(archive: &[u8], values: &mut [u64; 256], last: &mut u32) -> u32
+pub fn wax_archive_replay(archive: &[u8], values: &mut [u64; 256], last: &mut u32) -> u32
     ensures { played values.new last.new result ≡ archive_played archive.now last.old values.old }
 {
     let mut at = 0;
@@ -204,8 +204,7 @@ fn play_record(bytes: &[u8], last: &mut u32, values: &mut [u64; 256]) -> u32
 }
 
 // Plays the first record of these bytes: 0, 12 (also for no bytes), 5, 13 or 14. Only 0 changes the playback.
-#[unsafe(no_mangle)]
-pub extern "C" fn wax_playback_record(playback: &mut Playback, bytes: &[u8]) -> u32
+pub fn wax_playback_record(playback: &mut Playback, bytes: &[u8]) -> u32
     ensures { played playback.new.values playback.new.last result ≡ record_played bytes.now playback.old.last playback.old.values }
 {
     play_record(bytes, &mut playback.last, &mut playback.values)

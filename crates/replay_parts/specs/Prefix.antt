@@ -14,7 +14,7 @@ use Rattle.le.specs.Le.{u16_at, u32_at, u64_at}
 use Rattle.layout.specs.Record.{header_length}
 use Rattle.record.specs.Check.{read_count_from, write_count_from, commit_number_from, transaction_number_from, station_number_from, station_kind_from, zero_bytes_from}
 use Rattle.record.specs.Check.{read_count, write_count, commit_number, transaction_number, station_number, station_kind, length_of, head_at, rises, addresses_rise, laid_out_lem, check_of}
-use Rattle.record_meaning.specs.Rise.{rises_behind}
+use Rattle.record_meaning.proofs.Rise.{rises_behind}
 use Rattle.archive.specs.declared.Fields.{Fields}
 use Rattle.archive.specs.declared.Answer.{Answer}
 use Rattle.archive.specs.declared.Answer.TheVariants.{Record, End, Refused}

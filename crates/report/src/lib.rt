@@ -1,3 +1,4 @@
+#![tactic(auto)]
 // The lines that playback prints (document 01, "Playback reads an archive on standard input"), put into a lent output.
 ghost use Rattle.std.specs.Prelude.{◌≡◌, ◌+◌, ◌≤◌, length};
 ghost use Rattle.text.specs.Text.{columns, put, put_of};

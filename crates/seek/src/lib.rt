@@ -1,3 +1,4 @@
+#![tactic(auto)]
 // The record of a commit of an archive, every record up to it read and replayed (document 02, wish 8: one archive, two readers).
 ghost use Rattle.std.specs.Prelude.{◌≡◌};
 ghost use Rattle.seek.specs.Seek.{sought_from, sought_of};

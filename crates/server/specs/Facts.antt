@@ -3,8 +3,10 @@ use Rattle.std.specs.Prelude.{ℕ, ◌+◌, ◌*◌, ◌≤◌, ◌<◌, ◌≡�
 use Rattle.std.proofs.Common.{sym, ◌∙◌, arith}
 use Rattle.std.proofs.Math.Dec.{leb}
 use borrow.Author.Tests.{leb-true, ne_eqb}
-use Rattle.sets.specs.Laws.{by_eq, eqb_same, eqb_yes, eqb_no, and_l, and_r}
-use Rattle.cells.specs.Num.{AllBytes, bytes_all}
+use Rattle.sets.specs.Laws.{by_eq}
+use Rattle.sets.proofs.Laws.{eqb_same, eqb_yes, eqb_no, and_l, and_r}
+use Rattle.cells.specs.Num.{AllBytes}
+use Rattle.cells.proofs.Num.{bytes_all}
 use Rattle.line.specs.Messages.{Sent}
 use Rattle.line.specs.Server.{no_waiter, start, accept, server_step}
 use Rattle.line.specs.Bounds.{step_128, step_8}
@@ -14,7 +16,8 @@ use Rattle.message.specs.Number.{up_number}
 use Rattle.message.specs.Accepted.{fields_fit}
 use Rattle.server_state.specs.Layout.{server_length}
 use Rattle.message_meaning.specs.Meant.{up_of}
-use Rattle.message_meaning.specs.UpAccepted.{CommitFields, UpAccepted, up_accepted}
+use Rattle.message_meaning.specs.UpAccepted.{CommitFields, UpAccepted}
+use Rattle.message_meaning.proofs.UpAccepted.{up_accepted}
 use Rattle.server_state.specs.Valid.{valid}
 use Rattle.server_state.specs.Facts.{valid_ranged}
 use Rattle.server_tests.specs.Kinds.{ForServer}
@@ -27,12 +30,12 @@ use Rattle.station_callbacks.specs.Callbacks.{flat}
 use Rattle.server_actions.specs.Posting.{from, counts, Room, Whole}
 use Rattle.server_accept.specs.Facts.{Packed, LastKept, Acceptable}
 use Rattle.server_meaning.specs.Meant.{meant, Is}
-use Rattle.server_meaning.specs.Tests.{last_at}
-use Rattle.server_meaning.specs.Changes.{notice_is}
-use Rattle.server_meaning.specs.Waiting.{leave_is}
-use Rattle.server_meaning.specs.Commit.{unpack_is}
+use Rattle.server_meaning.proofs.Tests.{last_at}
+use Rattle.server_meaning.proofs.Changes.{notice_is}
+use Rattle.server_meaning.proofs.Waiting.{leave_is}
+use Rattle.server_meaning.proofs.Commit.{unpack_is}
 use Rattle.step_meaning.specs.Relation.{AllSent, Serves}
-use Rattle.step_meaning.specs.Pass.{sent_length}
+use Rattle.step_meaning.proofs.Pass.{sent_length}
 use Rattle.line_bytes.specs.Served
 use Rattle.line_bytes.specs.Stays
 use Rattle.server_pass.specs.Sane.{Sane, after}

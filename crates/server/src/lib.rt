@@ -1,3 +1,4 @@
+#![tactic(auto)]
 // The server's step, on a lent state and lent output.
 ghost use Rattle.std.specs.Prelude.{◌≡◌, length, true};
 ghost use Rattle.server_actions.specs.Pass.{server_step_b};
@@ -13,7 +14,7 @@ use server_state::{KIND, STATIONS};
 const KINDS_END: usize = KIND + STATIONS;
 
 // What the step answers: the number that turns a call back, or how many messages and how many bytes of records it left.
-#[derive(Drop)]
+#[derive(Clone, Copy)]
 pub enum Served {
     Refused(u32),
     Sent(usize, usize),

@@ -4,8 +4,8 @@ use Rattle.std.proofs.Common.{sym, ◌∙◌, inl, inr, arith, get_or-set_other}
 use Rattle.sets.specs.Laws.{by_eq}
 use Rattle.le.specs.Le.{set_u32, set_u64}
 use Rattle.le.specs.Laws.{u64_at_is, set_u32_is}
-use Rattle.cells.specs.Num.{put_other, num_frame}
-use Rattle.cells.specs.Le.{set_u64_is}
+use Rattle.cells.proofs.Num.{put_other, num_frame}
+use Rattle.cells.proofs.Le.{set_u64_is}
 use Rattle.message.specs.Layout.{version_width, message_length, kind_of, station_of, page_of, requester_of, transaction_of}
 use Rattle.message.specs.Commit.{versions_at, shortest_commit, addresses_at, entries_of}
 use Rattle.layout.specs.Record.{entry_length}

@@ -1,3 +1,4 @@
+#![tactic(auto)]
 // The server's acceptance of a message: the message's own effect, before the pass over the waiting list. What it asks of state and
 // message is Acceptable in specs/Facts.antt, in plain numbers: this crate knows nothing of what the bytes mean.
 ghost use Rattle.std.specs.Prelude.{◌≡◌, ◌+◌, ◌*◌, ◌≤◌, ◌<◌, length};

@@ -10,8 +10,9 @@ use Rattle.lists.specs.Stores.{sets_join, sets_front}
 use Rattle.le.specs.Le.{u64_at, set_u64}
 use Rattle.le.specs.Laws.{u64_at_is}
 use Rattle.le.specs.Width.{bytes, bytes_num_at}
-use Rattle.cells.specs.Num.{AllBytes, bytes_all}
-use Rattle.cells.specs.Le.{set_u64_is}
+use Rattle.cells.specs.Num.{AllBytes}
+use Rattle.cells.proofs.Num.{bytes_all}
+use Rattle.cells.proofs.Le.{set_u64_is}
 use Rattle.message.specs.Layout.{sets_from, sets_length, values_from, page_versions_from as pageVersionsAt, behind_length, message_length, message, single}
 use Rattle.message.specs.Stores.{length_message}
 use Rattle.set_record.specs.Filled.{one_first}

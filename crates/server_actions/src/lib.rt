@@ -1,3 +1,4 @@
+#![tactic(auto)]
 // The server's actions. What is sent goes behind the messages in o, what is archived behind the records in q, and the answer says how
 // much stands there then. There is room for all of it: the step's bounds (crate line) are those of every valid state.
 ghost use Rattle.std.specs.Prelude.{◌≡◌, ◌+◌, ◌*◌, ◌≤◌, ◌<◌, length, take, drop};
@@ -26,7 +27,7 @@ const PAGE_WORDS: usize = PAGE_ROW / WORD;
 const PAGE_VERSION_WORDS: usize = PAGE_VERSION_ROW / WORD;
 
 // How many messages stand in o, and how many bytes of records in q.
-#[derive(Drop)]
+#[derive(Clone, Copy)]
 pub struct Counts {
     pub messages: usize,
     pub records: usize,

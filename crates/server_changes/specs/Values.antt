@@ -3,9 +3,11 @@ use Rattle.std.specs.Prelude.{ℕ, zero, suc, ◌+◌, ◌*◌, ◌/◌, ◌≤�
 use Rattle.std.proofs.Common.{ap, ◌∙◌, inr, arith}
 use Rattle.le.specs.Le.{u64_at, set_u32, set_u64}
 use Rattle.le.specs.Laws.{set_u32_is}
-use Rattle.cells.specs.Num.{AllBytes, put_other}
-use Rattle.cells.specs.Le.{set_u64_is}
-use Rattle.cells.specs.Each.{each_to, each_word}
+use Rattle.cells.specs.Num.{AllBytes}
+use Rattle.cells.proofs.Num.{put_other}
+use Rattle.cells.proofs.Le.{set_u64_is}
+use Rattle.cells.specs.Each.{each_to}
+use Rattle.cells.proofs.Each.{each_word}
 use Rattle.station_state.specs.Layout.{number_width, value_width, member}
 use Rattle.station_state.specs.Runs.{run}
 use Rattle.station_state.specs.Sets.{words_members}

@@ -1,3 +1,4 @@
+#![tactic(auto)]
 // The changes of the server's state.
 ghost use Rattle.std.specs.Prelude.{◌≡◌, ◌+◌, ◌*◌, ◌≤◌, ◌<◌, length};
 ghost use Rattle.le.specs.Le.{set_u64};

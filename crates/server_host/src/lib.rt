@@ -1,3 +1,4 @@
+#![tactic(auto)]
 // The server for C: numbers and byte slices.
 ghost use Rattle.std.specs.Prelude.{◌≡◌, ◌≤◌, length};
 ghost use Rattle.server_state.specs.Valid.{freshened, fresh_of};
@@ -33,15 +34,13 @@ fn tell(x: Served, served: &mut [u64]) -> u32
     }
 }
 
-#[unsafe(no_mangle)]
-pub extern "C" fn wax_server_fresh(kinds: &[u8], state: &mut [u8]) -> u32
+pub fn wax_server_fresh(kinds: &[u8], state: &mut [u8]) -> u32
     ensures { freshened state.new result ≡ fresh_of kinds.now state.old }
 {
     server_state::fresh(kinds, state)
 }
 
-#[unsafe(no_mangle)]
-pub extern "C" fn wax_server_step(
+pub fn wax_server_step(
     message: &[u8],
     state: &mut [u8],
     messages: &mut [u8],

@@ -3,7 +3,8 @@ use Rattle.std.specs.Prelude.{ℕ, ◌+◌, ◌*◌, ◌/◌, ◌%◌, ◌≤◌
 use Rattle.std.proofs.Common.{ap, ◌∙◌, arith}
 use Rattle.cells.specs.Num.{AllBytes}
 use Rattle.cells.specs.Bits.{tb}
-use Rattle.cells.specs.Cells.{Cells, view, Holds, begin}
+use Rattle.cells.specs.Cells.{Cells, view, Holds}
+use Rattle.cells.proofs.Cells.{begin}
 use Rattle.line.specs.Messages.{Work}
 use Rattle.line.specs.Server.{Server, Waiter, Want, NoWant, WantRead, WantWrite, WantCommit, no_work}
 use Rattle.station_meaning.specs.Meant.{within, value_if}

@@ -3,8 +3,10 @@
 use Rattle.std.specs.Prelude.{ℕ, zero, suc, ◌≤◌, ◌<◌, ◌≡◌, Bool, true, false, ◌&&◌, ◌||◌}
 use Rattle.std.proofs.Common.{sym, ◌∙◌, arith}
 use Rattle.std.proofs.lemmas.Bool.{false≢true}
-use Rattle.sets.specs.Laws.{by_b, by_eq, eqb_yes, eqb_no, and_l, and_r, or_yes}
-use Rattle.sets.specs.Reach.{Path, Last, Then, path_from, on_cycle, on_cycle_lem, cycle_found}
+use Rattle.sets.specs.Laws.{by_b, by_eq, or_yes}
+use Rattle.sets.proofs.Laws.{eqb_yes, eqb_no, and_l, and_r}
+use Rattle.sets.specs.Reach.{Path, Last, Then, on_cycle}
+use Rattle.sets.proofs.Reach.{path_from, on_cycle_lem, cycle_found}
 use Rattle.server_order.specs.Words.{edge_in, through_b, through_bit}
 
 unfoldable pub close_to : ℕ → ℕ → ℕ

@@ -7,12 +7,15 @@ use Rattle.std.proofs.Math.Bool.{and-false, or_assoc, or-false}
 use Rattle.std.proofs.lemmas.List.{length-replicate}
 use Rattle.std.specs.Int.Bits.{bit_and}
 use Rattle.sets.specs.Base.{any}
-use Rattle.sets.specs.Laws.{by_b, by_eq, eqb_yes, eqb_no, any_no, memo_is}
+use Rattle.sets.specs.Laws.{by_b, by_eq}
+use Rattle.sets.proofs.Laws.{eqb_yes, eqb_no, any_no, memo_is}
 use Rattle.sets.specs.Reach.{entered, grow, grow_by}
 use Rattle.le.specs.Le.{u64_at}
-use Rattle.cells.specs.Num.{AllBytes, set_all}
-use Rattle.cells.specs.Bits.{tb, tb_zero, tb_or}
-use Rattle.cells.specs.Loops.{any_suc, any_same, mask_lt}
+use Rattle.cells.specs.Num.{AllBytes}
+use Rattle.cells.proofs.Num.{set_all}
+use Rattle.cells.specs.Bits.{tb}
+use Rattle.cells.proofs.Bits.{tb_zero, tb_or}
+use Rattle.cells.proofs.Loops.{any_suc, any_same, mask_lt}
 use Rattle.station_state.specs.Layout.{has_bit}
 use Rattle.server_state.specs.Layout.{waits_b}
 use Rattle.server_tests.specs.Tests.{edge_b, edge_set}

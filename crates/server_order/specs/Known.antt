@@ -1,7 +1,8 @@
 -- Edges that were asked for already: a station set for each station, or `unknown`. A set that is the same number is asked for again.
 use Rattle.std.specs.Prelude.{ℕ, zero, suc, ◌<◌, ◌≡◌, refl, ◌≢◌, List, length, get_or, set, replicate}
 use Rattle.std.proofs.Common.{◌∙◌, arith, length-set, get_or-set_same, get_or-set_other}
-use Rattle.sets.specs.Laws.{by_eq, eqb_yes, eqb_no}
+use Rattle.sets.specs.Laws.{by_eq}
+use Rattle.sets.proofs.Laws.{eqb_yes, eqb_no}
 use Rattle.server_tests.specs.Tests.{edge_set}
 
 abbrev pub unknown : ℕ

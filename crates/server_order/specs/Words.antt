@@ -10,7 +10,8 @@ use Rattle.le.specs.Le.{u64_at}
 use Rattle.le.specs.Laws.{u64_at_is}
 use Rattle.le.specs.Width.{num_at}
 use Rattle.cells.specs.Num.{AllBytes}
-use Rattle.cells.specs.Bits.{tb, tb_zero, tb_or, tb_and, tb_not}
+use Rattle.cells.specs.Bits.{tb, tb_not}
+use Rattle.cells.proofs.Bits.{tb_zero, tb_or, tb_and}
 
 -- bit j of set i
 abbrev pub edge_in : ℕ → ℕ → ℕ → Bool

@@ -1,3 +1,4 @@
+#![tactic(auto)]
 // Cycles of waits-for edges, and the victim.
 ghost use Rattle.std.specs.Prelude.{◌≡◌, cond, ◌≤◌, ◌<◌, length};
 ghost use Rattle.server_state.specs.Layout.{server_length};

@@ -2,7 +2,8 @@
 use Rattle.std.specs.Prelude.{ℕ, ◌+◌, ◌≡◌, ◌≢◌, true, false, not, List, length, eqb}
 use Rattle.std.proofs.Common.{sym, ap, subst, ◌∙◌, arith}
 use borrow.Author.Tests.{eq-eqb, ne_eqb}
-use Rattle.sets.specs.Laws.{by_b, by_eq, eqb_yes, eqb_no, not_no}
+use Rattle.sets.specs.Laws.{by_b, by_eq}
+use Rattle.sets.proofs.Laws.{eqb_yes, eqb_no, not_no}
 use Rattle.server_actions.specs.declared.Counts.{Counts}
 use Rattle.server_order.specs.Order.{victim_b}
 use Rattle.server_actions.specs.Actions.{Serving, abort_b}

@@ -2,7 +2,8 @@
 -- the victim is found without asking again.
 use Rattle.std.specs.Prelude.{ℕ, ◌+◌, ◌≤◌, ◌<◌, ◌≡◌, refl, cond, List, length, get_or, set, ltb}
 use Rattle.std.proofs.Common.{ap, subst, ◌∙◌, add-one, arith, lt-ltb, le-ltb}
-use Rattle.sets.specs.Laws.{by_b, ltb_yes}
+use Rattle.sets.specs.Laws.{by_b}
+use Rattle.sets.proofs.Laws.{ltb_yes}
 use Rattle.server_state.specs.Layout.{server_length}
 use Rattle.server_tests.specs.Tests.{edge_set}
 use Rattle.server_order.specs.Known.{Known, known_next}

@@ -3,7 +3,8 @@
 use Rattle.std.specs.Prelude.{ℕ, zero, suc, ◌+◌, ◌≤◌, ◌≡◌, refl, true, false, not, cond, List, [], ◌∷◌, length, eqb}
 use Rattle.std.proofs.Common.{sym, ap, subst, ◌∙◌, arith, length-append, eq-eqb, ne_eqb}
 use Rattle.std.proofs.lemmas.Bool.{false≢true}
-use Rattle.sets.specs.Laws.{by_b, by_eq, eqb_yes, eqb_no, not_no}
+use Rattle.sets.specs.Laws.{by_b, by_eq}
+use Rattle.sets.proofs.Laws.{eqb_yes, eqb_no, not_no}
 use Rattle.cells.specs.Upd.{cond_rel, branch_rel}
 use Rattle.line.specs.Server.{start, pass, order, victim, moved, abort}
 use Rattle.line.specs.Server as Model
@@ -15,9 +16,9 @@ use Rattle.server_actions.specs.Pass.{order_b, pass_b, moved_b, settle_b}
 use Rattle.server_actions.specs.Posting.{from, Acts, acts_not, acts_cond, acts_with, acts_then, acts_same}
 use Rattle.server_actions.specs.Parts.{acts_abort, acts_pass}
 use Rattle.server_meaning.specs.Meant.{meant}
-use Rattle.server_meaning.specs.Order.{victim_at}
+use Rattle.server_meaning.proofs.Order.{victim_at}
 use Rattle.step_meaning.specs.Relation.{Serves}
-use Rattle.step_meaning.specs.Pass.{order_at, pass_means, moved_at, victim_means}
+use Rattle.step_meaning.proofs.Pass.{order_at, pass_means, moved_at, victim_means}
 use Rattle.server_pass.specs.Sane.{Sane, begun, after}
 
 abbrev pub passed_b : Serving → Serving

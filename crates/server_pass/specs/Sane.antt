@@ -9,9 +9,10 @@ use Rattle.server_actions.specs.Pass.{visit_b}
 use Rattle.server_actions.specs.Posting.{from, Posted, posted, post}
 use Rattle.server_visit.specs.Asked.{Held}
 use Rattle.server_meaning.specs.Meant.{Is}
-use Rattle.server_meaning.specs.Tests.{Wanting, whole_at}
+use Rattle.server_meaning.specs.Tests.{Wanting}
+use Rattle.server_meaning.proofs.Tests.{whole_at}
 use Rattle.step_meaning.specs.Relation.{Sound, Serves}
-use Rattle.step_meaning.specs.Pass.{visit_means}
+use Rattle.step_meaning.proofs.Pass.{visit_means}
 
 pub record Sane (s : List ℕ) : Type 0 where
   pub server : Server

@@ -2,7 +2,8 @@
 -- the list.
 use Rattle.std.specs.Prelude.{ℕ, zero, suc, ◌≡◌, refl, cond, List, [], ◌∷◌, length, get_or, ltb}
 use Rattle.std.proofs.Common.{ap, ◌∙◌}
-use Rattle.sets.specs.Laws.{by_b, ltb_yes}
+use Rattle.sets.specs.Laws.{by_b}
+use Rattle.sets.proofs.Laws.{ltb_yes}
 use Rattle.server_actions.specs.declared.Counts.{Counts}
 use Rattle.server_actions.specs.Actions.{Serving}
 use Rattle.server_actions.specs.Pass.{visit_b, pass_b}

@@ -1,3 +1,4 @@
+#![tactic(auto)]
 // The pass over the waiting list in order, and rounds of it until nothing changes.
 ghost use Rattle.std.specs.Prelude.{◌≡◌, ◌<◌, length};
 ghost use Rattle.server_actions.specs.Pass.{settle_b};

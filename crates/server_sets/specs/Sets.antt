@@ -8,11 +8,13 @@ use Rattle.std.specs.Int.Bits.{bit_and, bit_or}
 use Rattle.std.proofs.lemmas.Nat.{and_le_l, and_le_r, or_lt}
 use Rattle.std.proofs.Math.Pow.{pow-lt}
 use Rattle.sets.specs.Base.{any}
-use Rattle.sets.specs.Laws.{or_no, not_no, eqb_yes}
+use Rattle.sets.proofs.Laws.{or_no, not_no, eqb_yes}
 use Rattle.le.specs.Le.{u64_at}
-use Rattle.cells.specs.Bits.{tb, tb_or, tb_and, tb_pow, tb_not, tb_tells}
-use Rattle.cells.specs.Loops.{any_to_lem, any_same, mask_to, mask_is, mask_lt}
-use Rattle.cells.specs.Pages.{any_bits, any_byte}
+use Rattle.cells.specs.Bits.{tb, tb_not}
+use Rattle.cells.proofs.Bits.{tb_or, tb_and, tb_pow, tb_tells}
+use Rattle.cells.specs.Loops.{mask_to}
+use Rattle.cells.proofs.Loops.{any_to_lem, any_same, mask_is, mask_lt}
+use Rattle.cells.proofs.Pages.{any_bits, any_byte}
 use Rattle.station_state.specs.Layout.{has_bit}
 use Rattle.server_state.specs.Layout.{lock_from, listed_of, whole_of, written_set, locking_b}
 use Rattle.server_tests.specs.Tests.{lock_on_b, concerns_at, concerned_b, concerned_set, hinders_b, hindered_b, written_page_b, written_pages_b, informed_b, edge_b, edge_set}

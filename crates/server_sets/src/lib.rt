@@ -1,3 +1,4 @@
+#![tactic(auto)]
 // Sets of stations, a bit for each: who is listed, who locks, whom a waiter waits for. Who gets 20, who gets 23 and what hinders a
 // whole lock are tests of these bits.
 ghost use Rattle.std.specs.Prelude.{◌≡◌, cond, ◌^◌, ◌<◌, length};

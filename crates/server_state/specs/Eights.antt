@@ -8,11 +8,14 @@ use Rattle.std.specs.Int.Bits.{bit_and, bit_or}
 use Rattle.std.proofs.lemmas.Nat.{or_lt}
 use Rattle.lists.specs.Tests.{all_to, all_to_at, all_to_of, and_l, and_r, and_both}
 use Rattle.lists.specs.Parts.{all_to_same}
-use Rattle.sets.specs.Laws.{by_b, any_some}
+use Rattle.sets.specs.Laws.{by_b}
+use Rattle.sets.proofs.Laws.{any_some}
 use Rattle.le.specs.Le.{u64_at}
 use Rattle.le.specs.Laws.{u64_at_is}
-use Rattle.cells.specs.Num.{AllBytes, num_lt}
-use Rattle.cells.specs.Bits.{tb, tb_or, tb_zero}
+use Rattle.cells.specs.Num.{AllBytes}
+use Rattle.cells.proofs.Num.{num_lt}
+use Rattle.cells.specs.Bits.{tb}
+use Rattle.cells.proofs.Bits.{tb_or, tb_zero}
 use Rattle.station_state.specs.Layout.{member, none_in}
 use Rattle.station_state.specs.Sets.{none_numbers, over, over_each, each_over, or_left, or_right, eight_bytes, eight_zero, row_bytes, bytes_row, words_members}
 use Rattle.station_state.specs.Facts.{same}

@@ -7,12 +7,14 @@ use Rattle.std.proofs.lemmas.Bool.{false≢true}
 use Rattle.std.specs.Int.Bits.{bit_and}
 use Rattle.std.specs.Int.Count.{count_trailing_zeros, trailing_of_zero}
 use Rattle.lists.specs.Tests.{all_to, all_to_of}
-use Rattle.sets.specs.Laws.{by_eq, eqb_yes}
-use Rattle.cells.specs.Bits.{tb, tb_test, tb_zero}
+use Rattle.sets.specs.Laws.{by_eq}
+use Rattle.sets.proofs.Laws.{eqb_yes}
+use Rattle.cells.specs.Bits.{tb}
+use Rattle.cells.proofs.Bits.{tb_test, tb_zero}
 use Rattle.station_state.specs.Layout.{has_bit}
 use Rattle.server_state.specs.Layout.{pend_of}
 use Rattle.server_state.specs.Valid.{owes_at}
-use Rattle.cells.specs.Lowest.{low_below, rest_is, rest_lt, rest_above}
+use Rattle.cells.proofs.Lowest.{low_below, rest_is, rest_lt, rest_above}
 
 -- a set that has nothing but its lowest member has one
 pub one_member : (n x : ℕ) → x < 2 ^ n → x ≢ 0 → bit_and x (x - 1) ≡ 0 → (j k : ℕ) → tb x j ≡ true → tb x k ≡ true → j ≡ k

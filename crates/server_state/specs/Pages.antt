@@ -7,11 +7,13 @@ use Rattle.std.proofs.lemmas.Bool.{false≢true}
 use Rattle.std.proofs.Math.Dec.{eqb}
 use Rattle.lists.specs.Tests.{all_to_at, all_to_of}
 use Rattle.sets.specs.Base.{any}
-use Rattle.sets.specs.Laws.{by_b, by_eq, eqb_same, eqb_yes, eqb_no, any_some}
+use Rattle.sets.specs.Laws.{by_b, by_eq}
+use Rattle.sets.proofs.Laws.{eqb_same, eqb_yes, eqb_no, any_some}
 use Rattle.cells.specs.Num.{AllBytes}
-use Rattle.cells.specs.Bits.{tb, tb_zero, tb_test}
-use Rattle.cells.specs.Loops.{any_same}
-use Rattle.cells.specs.Pages.{any_byte}
+use Rattle.cells.specs.Bits.{tb}
+use Rattle.cells.proofs.Bits.{tb_zero, tb_test}
+use Rattle.cells.proofs.Loops.{any_same}
+use Rattle.cells.proofs.Pages.{any_byte}
 use Rattle.station_state.specs.Layout.{has_bit, member}
 use Rattle.server_state.specs.Valid.{page_only_at, page_only}
 

@@ -3,10 +3,12 @@ use Rattle.std.specs.Prelude.{ℕ, zero, suc, ◌+◌, ◌*◌, ◌/◌, ◌%◌
 use Rattle.std.proofs.Common.{sym, ap, ◌∙◌, arith, eqb-true, eq-eqb, ne_eqb}
 use Rattle.std.proofs.Math.Pow.{pow-lt}
 use Rattle.lists.specs.Tests.{and_l, and_r}
-use Rattle.sets.specs.Laws.{by_eq, eqb_yes, eqb_no}
+use Rattle.sets.specs.Laws.{by_eq}
+use Rattle.sets.proofs.Laws.{eqb_yes, eqb_no}
 use Rattle.le.specs.Le.{u64_at}
 use Rattle.cells.specs.Num.{AllBytes}
-use Rattle.cells.specs.Bits.{tb, tb_zero, tb_pow}
+use Rattle.cells.specs.Bits.{tb}
+use Rattle.cells.proofs.Bits.{tb_zero, tb_pow}
 use Rattle.station_state.specs.Layout.{member}
 use Rattle.station_state.specs.Sets.{words_members, members_words}
 use Rattle.server_state.specs.Valid.{word_of, only_in}

@@ -1,3 +1,4 @@
+#![tactic(auto)]
 // The bytes of the server's state: number 1, a fresh state, the age counter.
 ghost use Rattle.std.specs.Prelude.{◌≡◌, ◌+◌, ◌*◌, ◌≤◌, ◌<◌, length, replicate};
 ghost use Rattle.lists.specs.Tests.{all_to};
@@ -911,13 +912,13 @@ pub fn fresh(kinds: &[u8], s: &mut [u8]) -> u32
 }
 
 // The age counter: the age that the next transaction gets.
-#[derive(Drop)]
+#[derive(Clone, Copy)]
 pub struct Ages {
     pub next: u64,
 }
 
 // The counter afterwards, and the age that it gave.
-#[derive(Drop)]
+#[derive(Clone, Copy)]
 pub struct Aged {
     pub ages: Ages,
     pub age: u64,

@@ -5,9 +5,11 @@ use Rattle.std.proofs.Math.Path.{sym, ap₂}
 use Rattle.std.proofs.Common.{ap, ◌∙◌, arith}
 use Rattle.std.proofs.Math.Bool.{or-false}
 use Rattle.std.specs.Int.Bits.{bit_or, or_zero_l, or_zero_r}
-use Rattle.sets.specs.Laws.{by_b, by_eq, eqb_yes, eqb_no}
+use Rattle.sets.specs.Laws.{by_b, by_eq}
+use Rattle.sets.proofs.Laws.{eqb_yes, eqb_no}
 use Rattle.le.specs.Le.{u64_at}
-use Rattle.cells.specs.Loops.{any_to, mask_to, mask_same}
+use Rattle.cells.specs.Loops.{any_to, mask_to}
+use Rattle.cells.proofs.Loops.{mask_same}
 use Rattle.station_state.specs.Sets.{or_right}
 use Rattle.server_state.specs.Layout.{lock_from, read_set, written_set, wanted_on}
 use Rattle.server_tests.specs.Tests.{stale_on_b, stale_b, locked_on_b, locked_b, earlier_b, shut_b, shut_out_b}

@@ -6,13 +6,16 @@ use Rattle.std.specs.Int.Bits.{bit_and, bit_or}
 use Rattle.std.proofs.lemmas.Nat.{and_le_l, or_lt}
 use Rattle.std.proofs.Math.Pow.{pow-lt}
 use Rattle.sets.specs.Base.{any}
-use Rattle.sets.specs.Laws.{by_b, by_eq, eqb_same, eqb_yes, eqb_no, and_l, and_r, not_yes, any_ext}
+use Rattle.sets.specs.Laws.{by_b, by_eq}
+use Rattle.sets.proofs.Laws.{eqb_same, eqb_yes, eqb_no, and_l, and_r, not_yes, any_ext}
 use Rattle.le.specs.Le.{u64_at}
 use Rattle.cells.specs.Num.{AllBytes}
-use Rattle.cells.specs.Upd.{eqb_diff}
-use Rattle.cells.specs.Bits.{tb, tb_zero, tb_or, tb_and, tb_pow, tb_test, tb_tells}
-use Rattle.cells.specs.Loops.{any_to, any_to_lem, any_suc, any_same, mask_to, mask_is, mask_lt}
-use Rattle.cells.specs.Pages.{any_byte}
+use Rattle.cells.proofs.Upd.{eqb_diff}
+use Rattle.cells.specs.Bits.{tb}
+use Rattle.cells.proofs.Bits.{tb_zero, tb_or, tb_and, tb_pow, tb_test, tb_tells}
+use Rattle.cells.specs.Loops.{any_to, mask_to}
+use Rattle.cells.proofs.Loops.{any_to_lem, any_suc, any_same, mask_is, mask_lt}
+use Rattle.cells.proofs.Pages.{any_byte}
 use Rattle.station_state.specs.Layout.{has_bit}
 use Rattle.server_state.specs.Facts.{zero_eight}
 use Rattle.server_state.specs.Layout.{lock_from, busy_from, read_set_from, written_set_from, lock_of, read_set, written_set, busy_of, waits_b, other_b, wanted_on}

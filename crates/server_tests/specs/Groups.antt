@@ -5,10 +5,13 @@ use Rattle.std.proofs.Common.{◌∙◌, add-zero, add-suc, arith, eqb-true}
 use Rattle.std.proofs.Math.Bool.{or-false, or_assoc}
 use Rattle.std.proofs.Math.Dec.{eqb}
 use Rattle.sets.specs.Base.{any}
-use Rattle.sets.specs.Laws.{by_b, and_l, and_r, any_ext}
+use Rattle.sets.specs.Laws.{by_b}
+use Rattle.sets.proofs.Laws.{and_l, and_r, any_ext}
 use Rattle.le.specs.Le.{u64_at}
-use Rattle.cells.specs.Bits.{tb, tb_tells}
-use Rattle.cells.specs.Loops.{any_to, any_to_lem, any_suc}
+use Rattle.cells.specs.Bits.{tb}
+use Rattle.cells.proofs.Bits.{tb_tells}
+use Rattle.cells.specs.Loops.{any_to}
+use Rattle.cells.proofs.Loops.{any_to_lem, any_suc}
 use Rattle.station_state.specs.Sets.{eight_bytes}
 use Rattle.server_state.specs.Layout.{lock_from, read_set_from, written_set_from, wanted_on}
 use Rattle.server_tests.specs.Tests.{stale_on_b, stale_b, locked_on_b, locked_b}

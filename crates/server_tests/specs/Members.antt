@@ -7,11 +7,14 @@ use Rattle.std.specs.Int.Bits.{bit_and, bit_or}
 use Rattle.std.proofs.lemmas.Nat.{and_le_l, or_lt}
 use Rattle.std.specs.Int.Count.{count_trailing_zeros}
 use Rattle.sets.specs.Base.{any}
-use Rattle.sets.specs.Laws.{by_b, by_eq, eqb_same, eqb_yes, eqb_no, any_ext}
+use Rattle.sets.specs.Laws.{by_b, by_eq}
+use Rattle.sets.proofs.Laws.{eqb_same, eqb_yes, eqb_no, any_ext}
 use Rattle.le.specs.Le.{u64_at}
-use Rattle.cells.specs.Bits.{tb, tb_zero, tb_or, tb_tells}
-use Rattle.cells.specs.Lowest.{low_in, low_lt, rest_is, rest_lt}
-use Rattle.cells.specs.Loops.{any_to, any_to_lem, any_suc, any_same}
+use Rattle.cells.specs.Bits.{tb}
+use Rattle.cells.proofs.Bits.{tb_zero, tb_or, tb_tells}
+use Rattle.cells.proofs.Lowest.{low_in, low_lt, rest_is, rest_lt}
+use Rattle.cells.specs.Loops.{any_to}
+use Rattle.cells.proofs.Loops.{any_to_lem, any_suc, any_same}
 use Rattle.server_state.specs.Layout.{lock_from, written_set, wanted_on}
 use Rattle.server_tests.specs.Tests.{drops_locked_b, drops_own_b, locked_at_b, locked_on_b}
 use Rattle.server_tests.specs.Blockers.{join_to, join_is, join_lt, any_none, bit_is, holder_at, holder_lt, holders_on}

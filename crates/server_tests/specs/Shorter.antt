@@ -6,10 +6,13 @@ use Rattle.std.proofs.Math.Bool.{or-false}
 use native.Mathlib.Omega.{arith}
 use Rattle.std.specs.Int.Bits.{bit_and}
 use Rattle.std.proofs.lemmas.Nat.{and_le_l}
-use Rattle.sets.specs.Laws.{by_b, eqb_no, and_l, and_r, not_yes}
+use Rattle.sets.specs.Laws.{by_b}
+use Rattle.sets.proofs.Laws.{eqb_no, and_l, and_r, not_yes}
 use Rattle.le.specs.Le.{u64_at}
-use Rattle.cells.specs.Bits.{tb, tb_zero, tb_mask, tb_tells}
-use Rattle.cells.specs.Loops.{any_to, any_to_lem, mask_to, mask_is, mask_lt}
+use Rattle.cells.specs.Bits.{tb}
+use Rattle.cells.proofs.Bits.{tb_zero, tb_mask, tb_tells}
+use Rattle.cells.specs.Loops.{any_to, mask_to}
+use Rattle.cells.proofs.Loops.{any_to_lem, mask_is, mask_lt}
 use Rattle.station_state.specs.Layout.{has_bit}
 use Rattle.server_state.specs.Facts.{zero_eight}
 use Rattle.server_state.specs.Layout.{lock_from, lock_of, whole_of, written_set, other_b, wanted_on}

@@ -6,10 +6,11 @@ use native.Mathlib.Omega.{arith}
 use Rattle.std.specs.Int.Bits.{bit_or, shifted_half, shifted_even}
 use Rattle.std.proofs.lemmas.Nat.{or_lt}
 use Rattle.std.proofs.Math.Pow.{shl_exact}
-use Rattle.sets.specs.Laws.{and_l, and_r, not_no}
+use Rattle.sets.proofs.Laws.{and_l, and_r, not_no}
 use Rattle.le.specs.Le.{u64_at}
 use Rattle.cells.specs.Num.{AllBytes}
-use Rattle.cells.specs.Bits.{tb, tb_zero, tb_or, tb_high, tb_tells}
+use Rattle.cells.specs.Bits.{tb}
+use Rattle.cells.proofs.Bits.{tb_zero, tb_or, tb_high, tb_tells}
 use Rattle.station_state.specs.Layout.{has_bit, member}
 use Rattle.station_state.specs.Sets.{words_members}
 use Rattle.server_state.specs.Facts.{all_3}

@@ -1,3 +1,4 @@
+#![tactic(auto)]
 // What the server asks of its state: number 6, the gates of the pass, who blocks a waiter.
 ghost use Rattle.std.specs.Prelude.{◌≡◌, true, false, cond, ◌≢◌, ◌+◌, ◌*◌, ◌/◌, ◌^◌, ◌≤◌, ◌<◌, length, get_or};
 ghost use Rattle.std.specs.Int.Count.{count_trailing_zeros};

@@ -3,11 +3,13 @@ use Rattle.std.specs.Prelude.{ℕ, zero, suc, ◌+◌, ◌*◌, ◌≤◌, ◌<�
 use Rattle.std.proofs.Common.{sym, ◌∙◌, inl, inr, arith}
 use Rattle.std.proofs.Math.Path.{ap₂}
 use Rattle.std.specs.Int.Bits.{bit_or}
-use Rattle.sets.specs.Laws.{by_b, any_no}
+use Rattle.sets.specs.Laws.{by_b}
+use Rattle.sets.proofs.Laws.{any_no}
 use Rattle.le.specs.Le.{u32_at, u64_at}
 use Rattle.le.specs.Laws.{u32_at_is, u64_at_is, set_u32_is}
-use Rattle.cells.specs.Num.{num_frame, put_other}
-use Rattle.cells.specs.Loops.{any_to, any_to_lem, mask_same}
+use Rattle.cells.proofs.Num.{num_frame, put_other}
+use Rattle.cells.specs.Loops.{any_to}
+use Rattle.cells.proofs.Loops.{any_to_lem, mask_same}
 use Rattle.station_state.specs.Layout.{page_set_width, number_width}
 use Rattle.station_state.specs.Changes.{page_on}
 use Rattle.server_state.specs.Layout.{version_row, version_from, last_from, asked_from, lock_from, whole_from, arrival_of, lock_of, whole_of, read_set, written_set, read_versions_from, written_versions_from, want_of, wanted_on}

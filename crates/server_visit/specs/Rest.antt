@@ -4,10 +4,11 @@ use Rattle.std.proofs.Common.{sym, ◌∙◌, arith, length-append, length-set, 
 use Rattle.std.proofs.Math.Bool.{false}
 use Rattle.std.proofs.Math.ListN.{length}
 use Rattle.std.proofs.Math.Dec.{eqb}
-use Rattle.sets.specs.Laws.{by_b, by_eq, eqb_yes, eqb_no, any_some}
+use Rattle.sets.specs.Laws.{by_b, by_eq}
+use Rattle.sets.proofs.Laws.{eqb_yes, eqb_no, any_some}
 use Rattle.cells.specs.Bits.{tb}
-use Rattle.cells.specs.Loops.{mask_lt}
-use Rattle.cells.specs.Pages.{any_byte}
+use Rattle.cells.proofs.Loops.{mask_lt}
+use Rattle.cells.proofs.Pages.{any_byte}
 use Rattle.station_state.specs.Layout.{has_bit}
 use Rattle.server_state.specs.Layout.{server_length, called_from, pend_from, whole_of, written_set, pend_of, called_of_lem, want_of, request_of}
 use Rattle.server_tests.specs.Tests.{fault_b, blocked_b, shut_out_b, out_of_time_b, due_b, concerned_b, concerned_set, hindered_b, unavailable_b, written_pages_b}

@@ -8,9 +8,11 @@ use mathlib.Core.List.{List, []}
 use Rattle.std.proofs.lemmas.List.Edits.{sets}
 use borrow.Author.Tests.{eq-eqb, ne_eqb}
 use Rattle.sets.specs.Base.{turned}
-use Rattle.sets.specs.Laws.{by_eq, eqb_no, and_l}
+use Rattle.sets.specs.Laws.{by_eq}
+use Rattle.sets.proofs.Laws.{eqb_no, and_l}
 use Rattle.le.specs.Laws.{u32_at_is}
-use Rattle.cells.specs.Num.{AllBytes, num_lt, num_frame}
+use Rattle.cells.specs.Num.{AllBytes}
+use Rattle.cells.proofs.Num.{num_lt, num_frame}
 use Rattle.message.specs.Layout.{message_length}
 use Rattle.station_state.specs.Layout.{has_bit}
 use Rattle.server_state.specs.Layout.{last_from, called_from, pend_from, last_of, asked_of, whole_for_of, whole_of, written_set, want_of, request_of, called_of_lem, keeps_b}

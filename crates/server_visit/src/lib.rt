@@ -1,3 +1,4 @@
+#![tactic(auto)]
 // One waiter's turn in the pass: the gates, 19s, the page that is read, 20s, locks, the installation. Messages and records go where
 // server_actions puts them.
 ghost use Rattle.std.specs.Prelude.{◌≡◌, ◌≢◌, ◌+◌, ◌-◌, ◌*◌, ◌≤◌, ◌<◌, length};

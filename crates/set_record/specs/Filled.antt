@@ -13,12 +13,14 @@ use Rattle.lists.specs.Stores.{sets_join, sets_front, put_part, copy_whole}
 use Rattle.le.specs.Le.{u64_at, set_u64}
 use Rattle.le.specs.Width.{bytes, length_bytes}
 use Rattle.sets.specs.Base.{Val, none, some}
-use Rattle.cells.specs.Le.{set_u64_is}
-use Rattle.cells.specs.Loops.{rank, rank_size}
+use Rattle.cells.proofs.Le.{set_u64_is}
+use Rattle.cells.specs.Loops.{rank}
+use Rattle.cells.proofs.Loops.{rank_size}
 use Rattle.layout.specs.Record.{header_length, value_length, entry_length, Entry, Record, entries, header, addresses, values, bytes_of}
-use Rattle.entries.specs.Entries.{entry_if, entries_from_lem, entries_of, from_snoc}
+use Rattle.entries.specs.Entries.{entry_if, entries_from_lem, entries_of}
+use Rattle.entries.proofs.Entries.{from_snoc}
 use Rattle.record.specs.Stores.{length_header}
-use Rattle.record_meaning.specs.Layout.{addresses_append, values_append, length_addresses, length_bytes_of}
+use Rattle.record_meaning.proofs.LayoutLaws.{addresses_append, values_append, length_addresses, length_bytes_of}
 use Rattle.station_state.specs.Layout.{member, count_in}
 use Rattle.set_record.specs.Record.{values_at, record_from, filled, record_filled}
 use Rattle.set_record.specs.Stores.{entry_one, entries_to, values_for, both_for}

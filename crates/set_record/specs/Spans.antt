@@ -9,14 +9,16 @@ use Rattle.std.specs.Int.Count.{count_trailing_zeros, trailing_of_zero}
 use Rattle.std.proofs.lemmas.Nat.{trailing_le}
 use Rattle.le.specs.Le.{u64_at}
 use Rattle.le.specs.Laws.{u64_at_is}
-use Rattle.cells.specs.Num.{AllBytes, num_lt}
+use Rattle.cells.specs.Num.{AllBytes}
+use Rattle.cells.proofs.Num.{num_lt}
 use Rattle.cells.specs.Bits.{tb}
-use Rattle.cells.specs.Loops.{rank, rank_most}
+use Rattle.cells.specs.Loops.{rank}
+use Rattle.cells.proofs.Loops.{rank_most}
 use Rattle.station_state.specs.Layout.{member}
 use Rattle.station_state.specs.Sets.{words_members}
 use Rattle.set_record.specs.Record.{Filled, filled}
 use Rattle.set_record.specs.Stores.{entry_one, entries_to}
-use Rattle.cells.specs.Lowest.{low_in, low_lt, low_below, rest_is, rest_lt, rest_above}
+use Rattle.cells.proofs.Lowest.{low_in, low_lt, low_below, rest_is, rest_lt, rest_above}
 
 -- whether address b + x is in the set
 abbrev pub member_from : List ℕ → ℕ → ℕ → ℕ → Bool

@@ -1,3 +1,4 @@
+#![tactic(auto)]
 // A record out of two sets of addresses and their values, written anywhere.
 ghost use Rattle.std.specs.Prelude.{◌≡◌, cond, ◌++◌, ◌+◌, ◌*◌, ◌≤◌, ◌<◌, length};
 ghost use Rattle.std.proofs.lemmas.List.Edits.{sets};
@@ -94,7 +95,7 @@ fn put_entries(
     let e = base + record::HEADER;
     let a = e + k;
     let v = a + k * record::VALUE;
-    bytes::copy(addresses, &mut out[e..a]);
+    out[e..a].copy_from_slice(addresses);
     fill_values(&mut out[a..v], s, addresses, n, read_values, written_values);
 }
 

@@ -1,1 +1,2 @@
+#![tactic(auto)]
 // No code: sets and functions by index, and paths between eight nodes, are in specs/.

@@ -1,3 +1,4 @@
+#![tactic(auto)]
 // Changes of a counter as signed numbers of 64 bits, and numbers without their sign.
 ghost use Rattle.std.specs.Prelude.{◌≡◌, ◌<◌, ◌^◌, pos, negsuc, neg_ℤ, nat_abs, ◌+ℤ◌, ◌≤ℤ◌};
 ghost use Rattle.std.specs.Int.{w64};
@@ -5,7 +6,7 @@ ghost use Rattle.std.proofs.Common.{SFits};
 ghost use Rattle.signed.specs.Change.{diff, Sums, plus, change_of, with_sign};
 
 // The change between two values, or that one of them is above 2^63 - 1.
-#[derive(Drop)]
+#[derive(Clone, Copy)]
 pub enum Change {
     By(i64),
     Beyond,

@@ -1,3 +1,4 @@
+#![tactic(auto)]
 // A station's step, on a lent state and lent output.
 ghost use Rattle.std.specs.Prelude.{◌≡◌, length};
 ghost use Rattle.station_answer.specs.Did.{outcome};

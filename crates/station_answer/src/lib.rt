@@ -1,9 +1,10 @@
+#![tactic(auto)]
 // What a station says to its owner.
 ghost use Rattle.std.specs.Prelude.{◌≡◌};
 ghost use Rattle.station_answer.specs.Did.{said};
 
 // What an owner is told.
-#[derive(Drop)]
+#[derive(Clone, Copy)]
 pub enum Answer {
     Refused(u32),
     Begun(u32),
@@ -17,7 +18,7 @@ pub enum Answer {
 }
 
 // An answer, with how many messages and how many bytes of a commit are to be sent.
-#[derive(Drop)]
+#[derive(Clone, Copy)]
 pub struct Said {
     pub answer: Answer,
     pub messages: usize,

@@ -6,7 +6,8 @@ use Rattle.std.proofs.Common.{sym, ap, ◌∙◌, append_assoc, append-nil, arit
 use Rattle.std.proofs.lemmas.List.Edits.{sets}
 use Rattle.lists.specs.Stores.{sets_join}
 use Rattle.sets.specs.Base.{snoc}
-use Rattle.sets.specs.Laws.{by_b, by_eq, eqb_same, eqb_yes, eqb_no, ltb_yes, ltb_no, or_no}
+use Rattle.sets.specs.Laws.{by_b, by_eq}
+use Rattle.sets.proofs.Laws.{eqb_same, eqb_yes, eqb_no, ltb_yes, ltb_no, or_no}
 use Rattle.message.specs.Stores.{length_up}
 use Rattle.station_state.specs.Layout.{kept_of, named_from}
 use Rattle.station_state.specs.Changes.{unkeep_b, closed_b}

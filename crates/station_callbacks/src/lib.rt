@@ -1,3 +1,4 @@
+#![tactic(auto)]
 // Callbacks done and kept, and the end of a transaction.
 ghost use Rattle.std.specs.Prelude.{◌≡◌, ◌+◌, ◌*◌, ◌≤◌, ◌<◌, length, ◌≢◌};
 ghost use Rattle.station_callbacks.specs.Callbacks.{sets_at, not_kept_b, undo_b, posted, callback_posted, kept_posted, kept_posted_to, close_posted};
@@ -14,7 +15,7 @@ fn sets_at(s: &[u8], at: usize) -> [u8; SET_ROW]
 {
     let mut x = [0; SET_ROW];
     let e = at + SET_ROW;
-    bytes::copy(&s[at..e], &mut x);
+    x.copy_from_slice(&s[at..e]);
     x
 }
 

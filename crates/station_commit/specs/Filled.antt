@@ -8,7 +8,7 @@ use Rattle.le.specs.Width.{bytes, length_bytes}
 use Rattle.le.specs.Laws.{set_u32_is}
 use Rattle.cells.specs.Loops.{rank}
 use Rattle.layout.specs.Record.{entries, addresses, record_length, bytes_of}
-use Rattle.record_meaning.specs.Layout.{length_addresses, length_bytes_of}
+use Rattle.record_meaning.proofs.LayoutLaws.{length_addresses, length_bytes_of}
 use Rattle.message.specs.Layout.{version_width, up_message}
 use Rattle.message.specs.Stores.{length_up}
 use Rattle.message.specs.Commit.{versions_at}

@@ -6,7 +6,7 @@ use Rattle.std.specs.Int.Bits.{and_zero_r}
 use Rattle.std.proofs.lemmas.List.Edits.{sets}
 use borrow.Author.Tests.{eq-eqb, ne_eqb}
 use Rattle.message.specs.Layout.{sets_from, page_of, requester_of, cause_of, transaction_of, version_of, up_message}
-use Rattle.cells.specs.Loops.{any_to_lem}
+use Rattle.cells.proofs.Loops.{any_to_lem}
 use Rattle.station_state.specs.Layout.{read_set_from, written_set_from, copy_of, station, opened, wait, address, waiting_set}
 use Rattle.station_state.specs.Facts.{Closed}
 use Rattle.station_state.specs.Sets.{row_bytes}

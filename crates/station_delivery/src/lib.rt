@@ -1,3 +1,4 @@
+#![tactic(auto)]
 // What a station does with each message from the server.
 ghost use Rattle.std.specs.Prelude.{◌≡◌, List, not, ◌&&◌, eqb, ◌+◌, ◌*◌, ◌≤◌, ◌<◌, length};
 ghost use Rattle.station_answer.specs.Did.{delivered, handed};

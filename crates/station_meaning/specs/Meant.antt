@@ -1,10 +1,9 @@
 -- What the bytes of a station's state mean: docs/STATE.md as the table of regions of crate station_state, and the station of crate line read from its cells.
-use Rattle.std.specs.Prelude.{ℕ, ◌+◌, ◌*◌, ◌/◌, ◌%◌, ◌≤◌, ◌≡◌, Bool, not, ◌||◌, cond, List, eqb, length}
-use Rattle.std.proofs.Common.{ap, ◌∙◌, arith}
+use Rattle.std.specs.Prelude.{ℕ, ◌/◌, ◌%◌, ◌≤◌, ◌≡◌, Bool, not, ◌||◌, cond, List, eqb, length}
 use Rattle.sets.specs.Base.{Val, none, some}
 use Rattle.cells.specs.Num.{AllBytes}
 use Rattle.cells.specs.Bits.{tb}
-use Rattle.cells.specs.Cells.{Cells, view, Holds, begin}
+use Rattle.cells.specs.Cells.{Cells, view}
 use Rattle.line.specs.Station.{Station, Wait, Idle, ForRead, ForWrite, ForCommit, of_page, Kept, NotKept, KeptCall}
 use Rattle.station_state.specs.Layout.{state_length, copy_cell, read_value_cell, written_value_cell, waiting_value_cell, kept_cell, version_cell, seen_cell, number_cell, cached_cell, whole_cell, unavailable_cell, read_set_cell, written_set_cell, locks_cell, named_cell, station_cell, kind_cell, open_cell, wait_cell, address_cell, waiting_set_cell, table}
 
@@ -64,26 +63,3 @@ pub record Is (i : ℕ) (s : List ℕ) (m : Station) : Type 0 where
   pub wait_flag : view table 0 s wait_cell 0 0 ≤ 3
   pub stands : Stands (view table 0 s wait_cell 0 0) (view table 0 s address_cell 0 0)
   pub is : meant s ≡ m
-
-pub start : {i : ℕ} {s : List ℕ} {m : Station} → Is i s m → Holds table 0 s s (view table 0 s)
-start {i} {s} h = begin table 0 s (omega (arith, h.len)) h.bytes
-
--- changed cells are the model's change, and the flags are in range
-pub done_flags : {i : ℕ} {s t : List ℕ} {C : Cells} {m : Station} → Is i s m → (op : Station → Station) → Holds table 0 s t C → meant_c C ≡ op (meant s)
-    → C station_cell 0 0 ≡ view table 0 s station_cell 0 0 → C open_cell 0 0 ≤ 1 → C wait_cell 0 0 ≤ 3 → Stands (C wait_cell 0 0) (C address_cell 0 0) → Is i t (op m)
-done_flags {i} {s} {t} {C} h op k e a b c d =
-    let cell : (r : ℕ) → view table 0 t r 0 0 ≡ C r 0 0 = λ r. ap (λ (D : Cells). D r 0 0) k.is in
-    record {
-      len = k.len ∙ h.len;
-      bytes = k.bytes;
-      own = cell station_cell ∙ a ∙ h.own;
-      open_flag = rw (cell open_cell) b;
-      wait_flag = rw (cell wait_cell) c;
-      stands = rw (cell wait_cell, cell address_cell) d;
-      is = ap meant_c k.is ∙ e ∙ ap op h.is;
-    }
-
--- .. or as they were
-pub done : {i : ℕ} {s t : List ℕ} {C : Cells} {m : Station} → Is i s m → (op : Station → Station) → Holds table 0 s t C → meant_c C ≡ op (meant s)
-    → (C station_cell 0 0 ≡ view table 0 s station_cell 0 0) × (C open_cell 0 0 ≡ view table 0 s open_cell 0 0) × (C wait_cell 0 0 ≡ view table 0 s wait_cell 0 0) × (C address_cell 0 0 ≡ view table 0 s address_cell 0 0) → Is i t (op m)
-done h op k e f = done_flags h op k e f.0 (rw f.1 h.open_flag) (rw f.2 h.wait_flag) (rw (f.2, f.3) h.stands)

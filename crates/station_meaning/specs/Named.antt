@@ -1,9 +1,10 @@
 -- The addresses that 32 object sets by page name.
 use Rattle.std.specs.Prelude.{ℕ, ◌≤◌, ◌<◌, ◌/◌, ◌%◌, ◌≡◌, Bool, false, cond, List, ltb, get_or}
 use Rattle.std.proofs.Math.Path.{fun_ext}
-use Rattle.std.proofs.Common.{lt-ltb}
-use Rattle.sets.specs.Laws.{by_b, ltb_yes, ltb_no}
-use Rattle.cells.specs.Bits.{tb, tb_zero}
+use Rattle.sets.specs.Laws.{by_b}
+use Rattle.sets.proofs.Laws.{ltb_yes, ltb_no}
+use Rattle.cells.specs.Bits.{tb}
+use Rattle.cells.proofs.Bits.{tb_zero}
 use Rattle.station_meaning.specs.Meant.{within}
 
 -- what stands behind the 32 names nothing
@@ -19,7 +20,3 @@ named_is D sets f g =
     by_b (ltb (a / 8) 32)
     (λ e. rw (e, f (a / 8) (ltb_yes (a / 8) 32 e)))
     (λ e. rw (e, g (a / 8) (ltb_no (a / 8) 32 e)) (tb_zero (a % 8))))
-
--- an address on one of the pages
-pub named_at : (sets : List ℕ) (a : ℕ) → a / 8 < 32 → named sets a ≡ tb (get_or sets (a / 8) 0) (a % 8)
-named_at sets a l = rw (lt-ltb (a / 8) 32 l)

@@ -7,7 +7,8 @@ use Rattle.std.proofs.lemmas.List.Edits.{sets}
 use Rattle.std.proofs.Math.Dec.{eqb}
 use Rattle.std.proofs.lemmas.Bool.{eqb-false, not-true}
 use Rattle.sets.specs.Base.{turned}
-use Rattle.sets.specs.Laws.{by_b, ltb_yes, ltb_no, or_no, not_no}
+use Rattle.sets.specs.Laws.{by_b}
+use Rattle.sets.proofs.Laws.{ltb_yes, ltb_no, or_no, not_no}
 use Rattle.lists.specs.Tests.{and_l, and_r}
 use Rattle.station_state.specs.Layout.{state_length, number, station, opened, wait, locking_b}
 use Rattle.station_state.specs.Valid.{valid, rests_ok}

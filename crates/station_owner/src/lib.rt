@@ -1,3 +1,4 @@
+#![tactic(auto)]
 // The operations of a station's owner, on a lent state and lent output.
 ghost use Rattle.std.specs.Prelude.{◌≡◌, ◌≢◌, ◌+◌, ◌*◌, ◌≤◌, ◌<◌, length};
 ghost use Rattle.std.proofs.lemmas.List.Edits.{sets};

@@ -1,8 +1,10 @@
 -- The pages of a set dropped one by one, the lowest first.
 use Rattle.std.specs.Prelude.{ℕ, ◌≡◌, refl, List}
 use Rattle.std.proofs.Common.{arith}
-use Rattle.cells.specs.Bits.{tb, tb_test}
-use Rattle.cells.specs.Each.{each_to, each_is}
+use Rattle.cells.specs.Bits.{tb}
+use Rattle.cells.proofs.Bits.{tb_test}
+use Rattle.cells.specs.Each.{each_to}
+use Rattle.cells.proofs.Each.{each_is}
 use Rattle.station_state.specs.Layout.{has_bit}
 use Rattle.station_pages.specs.Pages.{drop_page_b, drop_one_b, drop_to}
 

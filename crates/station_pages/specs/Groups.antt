@@ -7,7 +7,8 @@ use Rattle.std.specs.Int.Bits.{bit_or, or_zero_r}
 use Rattle.std.proofs.lemmas.Nat.{or_lt}
 use Rattle.le.specs.Le.{u64_at}
 use Rattle.sets.specs.Laws.{by_b}
-use Rattle.cells.specs.Bits.{tb, tb_or, tb_tells}
+use Rattle.cells.specs.Bits.{tb}
+use Rattle.cells.proofs.Bits.{tb_or, tb_tells}
 use Rattle.cells.specs.Loops.{mask_to}
 use Rattle.station_state.specs.Layout.{unavailable_from, has_bit, cached, unavailable}
 use Rattle.station_state.specs.Runs.{run, run_idle}

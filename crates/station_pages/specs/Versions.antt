@@ -4,12 +4,15 @@ use Rattle.std.specs.Prelude.{◌≡◌, true, false, cond, List, get_or}
 use Rattle.std.proofs.Math.Path.{refl}
 use Rattle.std.proofs.Common.{sym, ◌∙◌, inr}
 use native.Mathlib.Omega.{arith}
-use Rattle.sets.specs.Laws.{by_b, by_eq, eqb_yes}
+use Rattle.sets.specs.Laws.{by_b, by_eq}
+use Rattle.sets.proofs.Laws.{eqb_yes}
 use Rattle.le.specs.Le.{u64_at, set_u32}
 use Rattle.le.specs.Laws.{u32_at_is, set_u32_is}
-use Rattle.cells.specs.Num.{AllBytes, put_other, num_frame}
-use Rattle.cells.specs.Bits.{tb_zero, tb_test}
-use Rattle.cells.specs.Each.{each_to, each_word}
+use Rattle.cells.specs.Num.{AllBytes}
+use Rattle.cells.proofs.Num.{put_other, num_frame}
+use Rattle.cells.proofs.Bits.{tb_zero, tb_test}
+use Rattle.cells.specs.Each.{each_to}
+use Rattle.cells.proofs.Each.{each_word}
 use Rattle.station_state.specs.Layout.{number_width, version_from, cached_from, written_set_from, cached, written_set, has_bit, member}
 use Rattle.station_state.specs.Runs.{run, run_group, run_idle}
 use Rattle.station_state.specs.Sets.{words_members}

@@ -1,3 +1,4 @@
+#![tactic(auto)]
 // Changes of a station's state page by page: dropped pages, marks, arriving pages, versions.
 ghost use Rattle.std.specs.Prelude.{◌≡◌, cond, ◌+◌, ◌*◌, ◌≤◌, ◌<◌, ◌^◌, length};
 ghost use Rattle.station_pages.specs.Pages.{used_page_b, wrote_page_b, used_pages_b, written_pages_b, uses_b, in_use_b, drops_b, dropped_b, blank_to, unversion_to, drop_page_b, drop_pages_b, mark_one_b, mark_b, arrives_b, arrive_to, arrive_versions_to, arrive_b, versions_b};

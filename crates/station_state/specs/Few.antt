@@ -9,14 +9,17 @@ use Rattle.std.specs.Int.Bits.{bit_and, bit_or, or_lt, and_le_r}
 use Rattle.std.proofs.lemmas.Nat.{and_le_l}
 use Rattle.std.specs.Int.Count.{ones, ones-le, count_trailing_zeros}
 use Rattle.limits.specs.Limit.{limit}
-use Rattle.sets.specs.Laws.{by_b, by_eq, eqb_yes, eqb_no}
-use Rattle.sets.specs.Size.{size_part, size_joined}
+use Rattle.sets.specs.Laws.{by_b, by_eq}
+use Rattle.sets.proofs.Laws.{eqb_yes, eqb_no}
+use Rattle.sets.proofs.Size.{size_part, size_joined}
 use Rattle.le.specs.Le.{u64_at}
 use Rattle.le.specs.Laws.{u64_at_is}
-use Rattle.cells.specs.Num.{AllBytes, num_lt}
-use Rattle.cells.specs.Bits.{tb, tb_or}
-use Rattle.cells.specs.Loops.{ones_size}
-use Rattle.cells.specs.Lowest.{rest_is}
+use Rattle.cells.specs.Num.{AllBytes}
+use Rattle.cells.proofs.Num.{num_lt}
+use Rattle.cells.specs.Bits.{tb}
+use Rattle.cells.proofs.Bits.{tb_or}
+use Rattle.cells.proofs.Loops.{ones_size}
+use Rattle.cells.proofs.Lowest.{rest_is}
 use Rattle.station_state.specs.Layout.{read_set_from, written_set_from, wait, address, waiting_set, member, count_in, written_set, written_with}
 use Rattle.station_state.specs.Valid.{few_in, few_written, limited_ok}
 use Rattle.station_state.specs.Sets.{joined, count_words}

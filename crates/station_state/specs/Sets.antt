@@ -7,13 +7,16 @@ use Rattle.std.specs.Int.Bits.{bit_and, bit_or, or_add_and, or_zero_r}
 use Rattle.std.proofs.lemmas.Nat.{and_le_l, and_le_r, ones-le}
 use Rattle.std.specs.Int.Count.{ones}
 use Rattle.lists.specs.Tests.{and_l, and_r}
-use Rattle.sets.specs.Size.{size, size_join, size_same, size_most}
+use Rattle.sets.specs.Size.{size}
+use Rattle.sets.proofs.Size.{size_join, size_same, size_most}
 use Rattle.le.specs.Le.{u32_at, u64_at}
 use Rattle.le.specs.Width.{num_at}
 use Rattle.le.specs.Laws.{u64_at_is, zero_bytes, bytes_zero}
-use Rattle.cells.specs.Num.{AllBytes, num_lt}
-use Rattle.cells.specs.Bits.{tb, tb_zero, tb_test, tb_tells}
-use Rattle.cells.specs.Loops.{ones_size}
+use Rattle.cells.specs.Num.{AllBytes}
+use Rattle.cells.proofs.Num.{num_lt}
+use Rattle.cells.specs.Bits.{tb}
+use Rattle.cells.proofs.Bits.{tb_zero, tb_test, tb_tells}
+use Rattle.cells.proofs.Loops.{ones_size}
 use Rattle.station_state.specs.Layout.{has_bit, member, count_in, none_in}
 
 -- BITS OF A NUMBER'S BYTES

@@ -2,7 +2,8 @@
 use Rattle.std.specs.Prelude.{ℕ, zero, suc, ◌+◌, ◌*◌, ◌≤◌, ◌<◌, ◌≡◌, List, length, set, get_or, replicate}
 use Rattle.std.proofs.Common.{ap, ◌∙◌, arith, length-set, get_or-set_same, get_or-set_other}
 use Rattle.std.proofs.lemmas.List.{length-replicate}
-use Rattle.sets.specs.Laws.{by_eq, eqb_yes, eqb_no}
+use Rattle.sets.specs.Laws.{by_eq}
+use Rattle.sets.proofs.Laws.{eqb_yes, eqb_no}
 use Rattle.le.specs.Le.{set_u32, set_u64}
 use Rattle.station_state.specs.Layout.{set_row, value_width, number_width, copy_from, read_value_from, written_value_from, seen_from, copy_of, version_of, whole_from, station_from, kind_from, open_from, state_length, read_set_from, written_set_from, locks_from}
 use Rattle.station_state.specs.Valid.{fresh_state}

@@ -1,3 +1,4 @@
+#![tactic(auto)]
 // The bytes of a station's state: number 1, a fresh state, and the changes that touch one place or one set.
 // Where each field stands is said here for all code, in specs/Layout.antt for the definitions and in docs/STATE.md for readers.
 ghost use Rattle.std.specs.Prelude.{◌≡◌, ◌≢◌, ◌+◌, ◌^◌, ◌≤◌, ◌<◌, length, replicate};

@@ -2,6 +2,5 @@
 pub mod Relation
 pub mod Posts
 pub mod Keeps
-pub mod Actions
 pub mod Accept
 pub mod Pass

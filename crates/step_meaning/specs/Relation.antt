@@ -1,7 +1,6 @@
 -- What it is that a server's step over bytes means a step of the model: a state that means the server, messages that their stations read
 -- as those sent, records that are document 01's bytes of those archived.
 use Rattle.std.specs.Prelude.{ℕ, suc, ◌≤◌, ◌<◌, ◌≡◌, Bool, true, ◌≢◌, List, [], ◌∷◌, length}
-use Rattle.sets.specs.Base.{snoc}
 use Rattle.lists.specs.Bytes.{Bytes}
 use Rattle.kinds.specs.Kinds.{most_kind}
 use Rattle.layout.specs.Record.{bytes_of}
@@ -47,24 +46,12 @@ AllSent [] (x ∷ xs) = ⊥
 AllSent (m ∷ ms) [] = ⊥
 AllSent (m ∷ ms) (x ∷ xs) = ReadAs m x × AllSent ms xs
 
-pub sent_snoc : (ms : List (List ℕ)) (xs : List Sent) (m : List ℕ) (x : Sent) → AllSent ms xs → ReadAs m x → AllSent (snoc ms m) (snoc xs x)
-sent_snoc [] [] m x h k = (k, tt)
-sent_snoc [] (y ∷ xs) m x h k = absurd h
-sent_snoc (n ∷ ms) [] m x h k = absurd h
-sent_snoc (n ∷ ms) (y ∷ xs) m x h k = (h.0, sent_snoc ms xs m x h.1 k)
-
 -- a record's bytes are document 01's
 abbrev pub AllRecs : List (List ℕ) → List Rec → Type 0
 AllRecs [] [] = Unit {0}
 AllRecs [] (r ∷ rs) = ⊥
 AllRecs (b ∷ bs) [] = ⊥
 AllRecs (b ∷ bs) (r ∷ rs) = (b ≡ bytes_of (as_record r)) × AllRecs bs rs
-
-pub recs_snoc : (bs : List (List ℕ)) (rs : List Rec) (b : List ℕ) (r : Rec) → AllRecs bs rs → b ≡ bytes_of (as_record r) → AllRecs (snoc bs b) (snoc rs r)
-recs_snoc [] [] b r h k = (k, tt)
-recs_snoc [] (q ∷ rs) b r h k = absurd h
-recs_snoc (c ∷ bs) [] b r h k = absurd h
-recs_snoc (c ∷ bs) (q ∷ rs) b r h k = (h.0, recs_snoc bs rs b r h.1 k)
 
 -- a step under way
 pub record Serves (b : Serving) (x : Model.Serving) : Type 0 where

@@ -1,3 +1,4 @@
+#![tactic(auto)]
 // A tariff as a lent table (docs/LICENCE.md): whether it keeps its rules, and what frames cost by it.
 ghost use Rattle.std.specs.Prelude.{◌≡◌, ◌+◌, ◌*◌, ◌-◌, ◌/◌, ◌≤◌, length};
 ghost use Rattle.wide.specs.Wide.{words};
@@ -107,7 +108,7 @@ fn charge(table: &[u8], n: u64) -> Wide
 }
 
 // Whole cents, or that they are above 2^63 - 1.
-#[derive(Drop)]
+#[derive(Clone, Copy)]
 pub enum Cents {
     Of(u64),
     Beyond,
@@ -133,7 +134,7 @@ fn rounded(x: Wide) -> Cents
 }
 
 // A fee in cents, or that it is beyond 2^63 - 1 either way.
-#[derive(Drop)]
+#[derive(Clone, Copy)]
 pub enum Fee {
     Owed(i64),
     Beyond,

@@ -1,7 +1,7 @@
 -- A word read byte by byte, and a line up to its first space.
-use Rattle.std.specs.Prelude.{ℕ, zero, suc, ◌+◌, ◌*◌, ◌-◌, ◌≤◌, ◌<◌, ◌≡◌, refl, List, [], ◌∷◌, ◌++◌, Bool, true, false, cond, length, take, drop, get_or, eqb, leb}
+use Rattle.std.specs.Prelude.{ℕ, suc, ◌+◌, ◌*◌, ◌-◌, ◌≤◌, ◌<◌, ◌≡◌, refl, List, [], ◌∷◌, ◌++◌, true, false, length, take, drop, get_or, leb}
 use Rattle.std.proofs.Math.Path.{sym}
-use Rattle.std.proofs.Common.{ap, ◌∙◌, append_assoc, append-nil, arith}
+use Rattle.std.proofs.Common.{◌∙◌, append_assoc, append-nil, arith}
 use Rattle.std.proofs.Math.Numerals.{add-one}
 use Rattle.std.proofs.Math.ListN.{drop_of_length-le}
 use Rattle.std.proofs.Math.Seq.{drop-cons, take-suc}
@@ -12,7 +12,6 @@ use Rattle.arguments.specs.declared.Commit.{Commit}
 use Rattle.arguments.specs.Modes.{is_number, commit_of}
 use Rattle.tariff_file.specs.declared.Count.{Count}
 use Rattle.tariff_file.specs.declared.Count.TheVariants.{Number, Nothing}
-use Rattle.tariff_file.specs.declared.Line.{Line}
 use Rattle.tariff_file.specs.declared.Line.TheVariants.{Wrong}
 use Rattle.tariff_file.specs.Line.{is_digit, read_from, count_of, word_of, rest_of, step_of, line_of}
 

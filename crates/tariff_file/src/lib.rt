@@ -1,3 +1,4 @@
+#![tactic(auto)]
 // A line of a tariff file (docs/LICENCE.md, "The tariff file"): `upper price`.
 ghost use Rattle.std.specs.Prelude.{◌≡◌, ◌+◌, ◌≤◌, length, take, drop};
 ghost use Rattle.tariff_file.specs.Line.{is_digit, count_of, word_of, rest_of, line_of};
@@ -5,14 +6,14 @@ ghost use Rattle.tariff_file.specs.Line.{is_digit, count_of, word_of, rest_of, l
 use arguments::Commit;
 
 // An upper frame count that a word gives.
-#[derive(Drop)]
+#[derive(Clone, Copy)]
 pub enum Count {
     Number(u64),
     Nothing,
 }
 
 // What a line says.
-#[derive(Drop)]
+#[derive(Clone, Copy)]
 pub enum Line {
     Step { upper: u64, price: u32 },
     Wrong,

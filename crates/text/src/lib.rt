@@ -1,3 +1,4 @@
+#![tactic(auto)]
 // Numbers and texts put into a lent output, and the room that a line asks for.
 ghost use Rattle.std.specs.Prelude.{◌≡◌, ◌+◌, ◌≤◌, length};
 ghost use Rattle.std.proofs.lemmas.List.Edits.{sets};
@@ -63,7 +64,7 @@ pub fn put_text(out: &mut [u8], at: usize, text: &[u8]) -> usize
     ensures { (put out.new result ≡ put_of out.old at text.now) × (result ≡ at + length text.now) }
 {
     let end = at + text.len();
-    bytes::copy(text, &mut out[at..end]);
+    out[at..end].copy_from_slice(text);
     end
 }
 

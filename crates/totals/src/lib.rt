@@ -1,3 +1,4 @@
+#![tactic(auto)]
 // The table of counters that playback prints: how often each counter was written, and the lines, put into a lent output.
 ghost use Rattle.std.specs.Prelude.{◌≡◌, ◌+◌, ◌<◌, length, get_or, set};
 ghost use Rattle.text.specs.Text.{columns, put, line_within};

@@ -4,7 +4,7 @@ use Rattle.std.specs.Prelude.{◌≡◌, Bool, true, false, not, ◌&&◌, ◌||
 use Rattle.sets.specs.Base.{Val, none, some, has, val_or, zeros}
 use Rattle.line.specs.All.{All}
 use Rattle.line.specs.Messages.{page_of, locking, Work, Up, ReadRequest, WriteRequest, Commit, Abort, Purge, Busy, Done, WrittenSet, NoLock, ObjectLock, WholeLock, Down, Page, Deescalate, Callback, Committed, Aborted, Invalidate, Sent, To, Rec}
-use Rattle.line.specs.Station.{Station, Wait, Idle, ForRead, ForWrite, ForCommit, waiting, for_read, for_write, writes_to, for_commit, requested, some_on, Kept, NotKept, KeptCall}
+use Rattle.line.specs.Station.{Station, Wait, Idle, ForRead, ForWrite, ForCommit, waiting, for_read, for_write, writes_to, for_commit, some_on, Kept, NotKept, KeptCall}
 use Rattle.line.specs.Server.{Server, Waiter, Want, NoWant, WantRead, WantWrite, WantCommit, is_want, no_waiter, other}
 use Rattle.line.specs.Line.{World, Op, Read, Commits, writes_of, Told, ToldRead, ToldWrite, ToldCommit, ToldAbort}
 use Rattle.line.specs.Truth.{In, count, left, NumberedFrom, of_transaction, of_number, last_write, first_read, SameAsTold}

@@ -2,11 +2,11 @@
 -- with this layer. The layers together are then kept by every list of calls (Run).
 use Rattle.std.specs.Prelude.{◌≡◌, true, false, List, ◌∷◌, ℕ, ◌<◌}
 use Rattle.sets.specs.Base.{upd, any}
-use Rattle.line.specs.Messages.{page_of, Up, Down, keeps}
+use Rattle.line.specs.Messages.{page_of, Up, Down}
 use Rattle.line.specs.Station.{station_step}
-use Rattle.line.specs.Server.{Serving, WantRead, WantWrite, WantCommit, waits, hinders, fault, abort, ask, serve_read, call, grant_object, grant_page, install_waiter, unexpected, accept, start, bad_number}
+use Rattle.line.specs.Server.{Serving, WantRead, WantWrite, WantCommit, waits, hinders, fault, abort, ask, serve_read, call, grant_object, grant_page, install_waiter, unexpected, accept, start}
 use Rattle.line.specs.Pass.{Clear, Ready, Shut}
-use Rattle.line.specs.Apart.{Apart, Renews, keeps_locks, renews_good}
+use Rattle.line.specs.Apart.{Apart}
 use Rattle.line.specs.Line.{World, world_up, world_down, Op, perform, tell, carry_up, carry_down, is_refused, fresh}
 use Rattle.truth.specs.Clauses.{TokensAt, CoverageAt, CallbacksAt, G4At, LockedAt, CalledAt, A2At, ValuesAt, Versions, ValidatedAt, Archived, OwnedAt}
 
@@ -49,10 +49,6 @@ pub record Inv (w : World) : Type 0 where
   pub values : ValuesOf w
   pub validated : ValidatedOf w
   pub goals : GoalsOf w
-
--- a new number that an 8 brings is a good one
-pub heard_good : (w : World) → Inv w → (i : ℕ) → i < 8 → (t : ℕ) → keeps (w.server.kind i) ≡ true → Renews (w.server.kind i) (w.server.latest i) t (w.server.fin i) → bad_number w.server i t ≡ false
-heard_good w h i b t k r = renews_good w.server i t r (keeps_locks (w.server.kind i) k) (h.apart.waiting.entry i b).waits_open
 
 -- the worlds after the moves
 abbrev pub after_owner : ℕ → Op → World → World

@@ -4,11 +4,8 @@ pub mod Clauses
 pub mod Frame
 pub mod Inv
 -- the layers
-pub mod Kept
 pub mod Tokens
 pub mod Coverage
-pub mod Spread
-pub mod Callbacks
 pub mod CallbacksServer
 pub mod CallbacksStation
 pub mod CallbacksWaiters
@@ -16,30 +13,20 @@ pub mod CallbacksLayer
 pub mod Exclusion
 pub mod ExclusionStation
 pub mod ExclusionFields
-pub mod ExclusionAccept
-pub mod ExclusionPass
 pub mod ValuesEvents
 pub mod ValuesStation
 pub mod ValuesServer
 pub mod Values
 pub mod ValidatedHist
 pub mod ValidatedEvents
-pub mod ValidatedPages
 pub mod ValidatedStation
-pub mod ValidatedMoves
 pub mod ValidatedServer
-pub mod ValidatedAccept
 pub mod Validated
 pub mod GoalsLists
 pub mod GoalsEight
-pub mod GoalsTrue
 pub mod GoalsTold
 pub mod GoalsSent
-pub mod GoalsServer
-pub mod GoalsAccept
 pub mod GoalsOwner
 pub mod GoalsStation
-pub mod Goals
+
 -- the layers together, and the theorem
-pub mod Theorem
-pub mod Truth

@@ -1,12 +1,13 @@
 -- What a turn that is given says of its lines: every field is in range, some line waits, and the line that is given it waited and had share left.
-use Rattle.std.specs.Prelude.{ℕ, ◌+◌, ◌≤◌, ◌<◌, ◌≡◌, Bool, not, cond, List, eqb, ltb, leb}
+use Rattle.std.specs.Prelude.{ℕ, ◌≤◌, ◌<◌, ◌≡◌, List, ltb, leb}
 use Rattle.std.proofs.Math.Path.{refl, ap}
 use Rattle.std.proofs.Common.{sym, ◌∙◌, arith}
 use Rattle.std.proofs.Math.Bool.{true, false}
 use Rattle.lists.specs.Tests.{all_to, all_to_at}
-use Rattle.sets.specs.Laws.{by_b, ltb_yes, ltb_no, and_l, and_r, not_yes, not_no}
+use Rattle.sets.specs.Laws.{by_b}
+use Rattle.sets.proofs.Laws.{ltb_yes, and_l}
 use Rattle.turns.specs.declared.Choice.{Choice}
-use Rattle.turns.specs.Turn.{of, waits, ready, lowest, new_round, in_range, share_ok, rests, refused, begins, round_of, found, choice_of}
+use Rattle.turns.specs.Turn.{of, ready, lowest, in_range, share_ok, rests, begins, round_of, found, choice_of}
 use Rattle.turns.specs.Lowest.{lowest_ready, fresh_lowest, leb_yes, ready_left, share_most}
 
 module _ (s g w : List ℕ) where

@@ -1,6 +1,6 @@
 -- The lowest waiting line with share left is one, and no line below it is.
 use Prim.Native.Nat.{ℕ, zero, suc, ◌+◌, ◌-◌, ◌≤◌, ◌<◌}
-use Rattle.std.specs.Prelude.{◌≡◌, refl, Bool, true, false, not, ◌&&◌, List, get_or, ltb, leb}
+use Rattle.std.specs.Prelude.{◌≡◌, Bool, true, false, List, ltb, leb}
 use Rattle.std.proofs.Common.{sym, ◌∙◌, leb→le, lt-ltb}
 use Rattle.std.proofs.Math.Path.{ap}
 use Rattle.std.proofs.Math.Bool.{cond}
@@ -8,8 +8,9 @@ use Rattle.std.proofs.lemmas.Bool.{false≢true}
 use native.Mathlib.Omega.{arith}
 use Rattle.std.proofs.lemmas.List.{get_or-replicate}
 use Rattle.lists.specs.Tests.{all_to, all_to_at}
-use Rattle.sets.specs.Laws.{by_b, by_eq, eqb_yes, eqb_no, ltb_yes, ltb_no, and_l, and_r, and_both, not_no}
-use Rattle.turns.specs.Turn.{lines, of, waits, ready, lowest_of, lowest, new_round, share_ok, rests}
+use Rattle.sets.specs.Laws.{by_b, by_eq}
+use Rattle.sets.proofs.Laws.{eqb_yes, eqb_no, ltb_yes, ltb_no, and_l, and_r, and_both, not_no}
+use Rattle.turns.specs.Turn.{of, waits, ready, lowest_of, lowest, new_round, share_ok, rests}
 
 module _ (s g w : List ℕ) where
   of_is_ready : (n : ℕ) → lowest_of s g w n < 8 → ready s g w (lowest_of s g w n) ≡ true

@@ -1,3 +1,4 @@
+#![tactic(auto)]
 // Document 02's turns over the numbers of eight lines: whose turn is next.
 ghost use Rattle.std.specs.Prelude.{◌≡◌, ◌<◌};
 ghost use Rattle.lists.specs.Tests.{all_to};
@@ -7,7 +8,7 @@ ghost use Rattle.turns.specs.Turn.{ready, lowest, in_range, share_ok, rests, ref
 pub const LINES: usize = 8;
 
 // Whom a turn is given to: its number, the line, and whether a round begins with it.
-#[derive(Drop)]
+#[derive(Clone, Copy)]
 pub struct Choice {
     pub number: u32,
     pub line: usize,

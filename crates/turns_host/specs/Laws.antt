@@ -10,7 +10,7 @@ use Rattle.turns.specs.Lowest.{new_count}
 use Rattle.turns.specs.Chosen.{choice_below, choice_room}
 use Rattle.turns_host.specs.declared.Line.{Line}
 use Rattle.turns_host.specs.declared.Eight.{Eight}
-use Rattle.turns_host.specs.Host.{shares_of, counts_of, marks_of, with_count, with_counts, turned, taken, taken_of, chosen, first_turn, no_line, line_at, eight_of}
+use Rattle.turns_host.specs.Host.{shares_of, counts_of, marks_of, with_count, with_counts, turned, taken, taken_of, chosen, first_turn, line_at, eight_of}
 
 -- ---- a list by its elements
 abbrev by_elements : (ℕ → Line) → ℕ → List Line

@@ -1,3 +1,4 @@
+#![tactic(auto)]
 // Document 02's turns for C: eight lines in a lent slice.
 ghost use Rattle.std.specs.Prelude.{◌≡◌, [], ◌∷◌};
 ghost use Rattle.turns_host.specs.Host.{with_counts, turned, taken_of, chosen, first_turn, eight_of};
@@ -6,14 +7,14 @@ use turns::{Choice, LINES};
 
 // A line as its host lends it: its share of a round, the turns given in it, and its mark, 1 while a message waits.
 #[repr(C)]
-#[derive(Drop)]
+#[derive(Clone, Copy)]
 pub struct Line {
     pub share: u8,
     pub given: u8,
     pub waiting: u8,
 }
 
-#[derive(Drop)]
+#[derive(Clone, Copy)]
 pub struct Eight {
     pub l0: Line,
     pub l1: Line,
@@ -140,8 +141,7 @@ fn begun(
 }
 
 // A turn over lent lines: 0, and line says to whom; 1, 19 or 20, and nothing lent changes.
-#[unsafe(no_mangle)]
-pub extern "C" fn wax_turn_next(lines: &mut [Line], line: &mut usize) -> u32
+pub fn wax_turn_next(lines: &mut [Line], line: &mut usize) -> u32
     ensures { turned lines.new line.new result ≡ taken_of lines.old line.old }
 {
     if lines.len() != LINES {

@@ -1,13 +1,13 @@
 -- Over lent lines: "A turn changes counts alone", a refused one nothing, and no line waits for more than 57 turns.
-use Prim.Native.Nat.{ℕ, zero, suc, ◌+◌, ◌≤◌, ◌<◌}
-use Rattle.std.specs.Prelude.{◌≡◌, Bool, true, false, cond, ◌≢◌, eqb}
+use Prim.Native.Nat.{ℕ, zero, suc, ◌+◌, ◌<◌}
+use Rattle.std.specs.Prelude.{◌≡◌, true, ◌≢◌, eqb}
 use Rattle.std.proofs.Math.Path.{refl, ap}
-use Rattle.std.proofs.Common.{sym, subst, ◌∙◌, arith}
+use Rattle.std.proofs.Common.{sym, ◌∙◌, arith}
 use mathlib.Core.List.{List, [], ◌∷◌}
 use Rattle.std.proofs.Math.Nat.{suc_inj}
 use Rattle.std.proofs.Math.ListN.{length}
 use borrow.Author.Tests.{eq-eqb, ne_eqb}
-use Rattle.sets.specs.Laws.{by_b, eqb_yes}
+use Rattle.sets.specs.Laws.{by_b}
 use Rattle.turns.specs.Turn.{of, waits, Turn, turn_of}
 use Rattle.turns_host.specs.declared.Line.{Line}
 use Rattle.turns_host.specs.Host.{shares_of, counts_of, marks_of, with_count, recount, with_counts, turned, taken, taken_of}

@@ -1,5 +1,5 @@
 -- 57 turns are needed: a run in which the line that waits is given the 57th, computed.
-use Rattle.std.specs.Prelude.{ℕ, zero, suc, ◌+◌, ◌<◌, ◌≡◌, refl, List, [], ◌∷◌, ◌++◌, replicate}
+use Rattle.std.specs.Prelude.{ℕ, zero, suc, ◌<◌, ◌≡◌, refl, List, [], ◌∷◌, ◌++◌, replicate}
 use Rattle.std.proofs.Common.{ap, ◌∙◌, arith}
 use Rattle.lists.specs.Tests.{all_to}
 use Rattle.turns.specs.Turn.{of, new_round, ready, lowest_of, lowest, in_range, share_ok, rests, begins, found, choice_of, one_more, turn_of}

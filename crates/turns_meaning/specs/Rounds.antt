@@ -1,7 +1,8 @@
 -- "In a round a line is given at most its share": what a line is given is counted from what the turns answer.
-use Rattle.std.specs.Prelude.{ℕ, zero, suc, ◌+◌, ◌≤◌, ◌<◌, ◌≡◌, refl, Bool, true, false, cond, ◌≢◌, List, length, eqb}
-use Rattle.std.proofs.Common.{sym, ap, subst, ◌∙◌, arith, ne_eqb}
-use Rattle.sets.specs.Laws.{by_b, by_eq, eqb_yes, eqb_no, eqb_same}
+use Rattle.std.specs.Prelude.{ℕ, zero, suc, ◌+◌, ◌≤◌, ◌<◌, ◌≡◌, refl, Bool, true, false, cond, List, length, eqb}
+use Rattle.std.proofs.Common.{sym, ap, subst, ◌∙◌, arith}
+use Rattle.sets.specs.Laws.{by_b, by_eq}
+use Rattle.sets.proofs.Laws.{eqb_yes, eqb_no}
 use Rattle.turns.specs.Turn.{of, new_round, begins, round_of, choice_of, Turn, one_more, turn_of}
 use Rattle.turns.specs.Lowest.{new_count}
 use Rattle.turns.specs.Chosen.{Passes, given_passes}

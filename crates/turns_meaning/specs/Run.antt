@@ -1,5 +1,5 @@
 -- A run of turns: the shares stay, and between two turns the host sets and clears marks alone.
-use Rattle.std.specs.Prelude.{ℕ, zero, suc, ◌+◌, ◌≤◌, ◌<◌, ◌≡◌, Bool, cond, List, [], ◌∷◌, length, eqb}
+use Rattle.std.specs.Prelude.{ℕ, zero, suc, ◌+◌, ◌≤◌, ◌<◌, ◌≡◌, Bool, cond, List, length, eqb}
 use Rattle.turns.specs.Turn.{of, new_round, begins, Turn, turn_of}
 
 -- lines that numbers 1 and 19 let pass, whatever their marks

@@ -1,7 +1,8 @@
 -- Sums over the lines, and over all but one of them.
-use Rattle.std.specs.Prelude.{ℕ, zero, suc, ◌+◌, ◌*◌, ◌≤◌, ◌<◌, ◌≡◌, refl, Bool, true, false, cond, ◌≢◌, eqb}
-use Rattle.std.proofs.Common.{sym, ap, ◌∙◌, arith, ne_eqb}
-use Rattle.sets.specs.Laws.{by_eq, eqb_yes, eqb_no, eqb_same}
+use Rattle.std.specs.Prelude.{ℕ, zero, suc, ◌+◌, ◌*◌, ◌≤◌, ◌<◌, ◌≡◌, refl, cond, ◌≢◌, eqb}
+use Rattle.std.proofs.Common.{arith, ne_eqb}
+use Rattle.sets.specs.Laws.{by_eq}
+use Rattle.sets.proofs.Laws.{eqb_yes, eqb_no}
 
 unfoldable pub sum_to : (ℕ → ℕ) → ℕ → ℕ
 sum_to f zero = 0

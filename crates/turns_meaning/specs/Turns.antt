@@ -1,13 +1,13 @@
 -- One turn of sound lines: it is given, the lines stay sound, and the line that is given it waited, had share left, and is the lowest such line.
-use Rattle.std.specs.Prelude.{ℕ, zero, suc, ◌+◌, ◌≤◌, ◌<◌, ◌≡◌, refl, Bool, true, false, not, cond, ◌&&◌, ◌≢◌, List, length, get_or, set, eqb, ltb, leb}
-use Rattle.std.proofs.Common.{sym, ap, subst, ◌∙◌, arith, length-set, get_or-set_same, get_or-set_other, le-leb, ne_eqb}
+use Rattle.std.specs.Prelude.{ℕ, ◌+◌, ◌≤◌, ◌<◌, ◌≡◌, refl, Bool, true, false, ◌≢◌, List, length, eqb, ltb, leb}
+use Rattle.std.proofs.Common.{sym, subst, ◌∙◌, arith, length-set, get_or-set_same, get_or-set_other, le-leb, ne_eqb}
 use Rattle.std.proofs.lemmas.Bool.{false≢true}
 use Rattle.lists.specs.Tests.{all_to, all_to_at, all_to_of}
-use Rattle.sets.specs.Laws.{by_b, by_eq, eqb_yes, eqb_no, eqb_same, and_both, ltb_yes, ltb_no, not_yes, not_no}
-use Rattle.turns.specs.declared.Choice.{Choice}
-use Rattle.turns.specs.Turn.{of, waits, ready, lowest, new_round, in_range, share_ok, rests, refused, begins, round_of, found, choice_of, Turn, one_more, counts_after, turn_of}
+use Rattle.sets.specs.Laws.{by_b, by_eq}
+use Rattle.sets.proofs.Laws.{eqb_yes, eqb_no, and_both, ltb_no, not_yes}
+use Rattle.turns.specs.Turn.{of, waits, ready, lowest, in_range, share_ok, rests, begins, round_of, found, choice_of, Turn, one_more, turn_of}
 use Rattle.turns.specs.Lowest.{lowest_first, new_count, ready_left, ready_waits, lowest_below}
-use Rattle.turns.specs.Chosen.{Passes, passed_is, given_passes, given_below, given_ready, count_most}
+use Rattle.turns.specs.Chosen.{Passes, passed_is, given_passes, given_below, given_ready}
 use Rattle.turns_meaning.specs.Run.{Sound, Marks}
 
 -- a count of the line that is given a turn, and of the others

@@ -1,13 +1,14 @@
 -- "a line whose mark stays set is given a turn within 57 turns of setting it, if between turns only the other marks change"
-use Rattle.std.specs.Prelude.{ℕ, zero, suc, ◌+◌, ◌-◌, ◌*◌, ◌≤◌, ◌<◌, ◌≡◌, refl, Bool, true, false, cond, ◌≢◌, List, length, eqb, ltb}
+use Rattle.std.specs.Prelude.{ℕ, zero, suc, ◌+◌, ◌-◌, ◌≤◌, ◌<◌, ◌≡◌, refl, true, false, cond, ◌≢◌, List, eqb, ltb}
 use Rattle.std.proofs.Common.{sym, ap, subst, ◌∙◌, arith, lt-ltb, le-ltb, ne_eqb}
-use Rattle.sets.specs.Laws.{by_b, by_eq, eqb_yes, eqb_no, eqb_same}
+use Rattle.sets.specs.Laws.{by_b, by_eq}
+use Rattle.sets.proofs.Laws.{eqb_yes, eqb_no}
 use Rattle.turns.specs.Turn.{of, waits, new_round, begins, round_of, Turn, one_more, turn_of}
 use Rattle.turns.specs.Lowest.{new_count}
 use Rattle.turns.specs.Chosen.{Passes}
 use Rattle.turns_meaning.specs.Run.{Sound, Marks, counts_at, turn_at}
 use Rattle.turns_meaning.specs.Sums.{sum_to, but, sum_same, sum_less, sum_but}
-use Rattle.turns_meaning.specs.Turns.{more_here, more_there, round_sound, sound_passes, turn_sound, before, next, turn_is, next_below, next_left, round_ends}
+use Rattle.turns_meaning.specs.Turns.{more_here, more_there, round_sound, sound_passes, turn_sound, next, turn_is, next_below, next_left, round_ends}
 
 -- the turns that lines other than i may still be given in this round, and in a whole round
 abbrev left : List ℕ → List ℕ → ℕ → ℕ

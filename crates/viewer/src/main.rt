@@ -1,3 +1,4 @@
+#![tactic(auto)]
 // An archive from standard input as one of its two readers shows it (docs/COUNTS.md, "The program"): the counts of each commit, all
 // fields of each commit, or the counts file. What the counts are printed from is the counts file's bytes, and nothing else.
 //
@@ -7,10 +8,8 @@ ghost use Rattle.std.specs.Prelude.{◌≤◌, length};
 
 use archive::Found;
 use counts_file::{Counted, Next, Written};
-use libc::{STDERR_FILENO, STDIN_FILENO, STDOUT_FILENO};
-
-// Bytes asked of one read.
-const CHUNK: usize = 131072;
+use std::process::ExitCode;
+use streams::{More, read_more, tell};
 
 // Room for a line, of six numbers and 512 entries at most, and for the closing line.
 const LINE: usize = 16384;
@@ -30,12 +29,22 @@ const FILE: u8 = 3;
 // The answer where standard output failed.
 const FAILED: u32 = 254;
 
-// Bytes in the input buffer that are not played yet, the last commit number, and whether there is more to do.
+// The exit statuses: 0 accepted, 1 refused, 2 the arguments are not understood, 3 reading or writing failed.
+const ACCEPTED: u8 = 0;
+
+const REFUSED: u8 = 1;
+
+const UNCLEAR: u8 = 2;
+
+const BROKEN: u8 = 3;
+
+// Bytes in the input buffer that are not played yet, the last commit number, and whether there is more to do; if not, the exit status.
 #[derive(Drop)]
 struct State {
     len: usize,
     last: u32,
     going: bool,
+    status: u8,
 }
 
 // Where a play of the input buffer stopped, and the number that stopped it: 0 at the end of what is there.
@@ -44,14 +53,6 @@ struct Stop {
     at: usize,
     last: u32,
     number: u32,
-}
-
-// What a read brings: the bytes that the buffer now has, the end, or a failure.
-#[derive(Drop)]
-enum More {
-    Bytes(usize),
-    End,
-    Failed,
 }
 
 fn least(a: usize, b: usize) -> usize
@@ -75,17 +76,14 @@ fn first(text: &[u8], n: usize) -> &[u8] {
 }
 
 // Writes to standard output: 0, or FAILED where that could not be.
-fn say(text: &[u8]) -> u32 {
-    if io::write_all(STDOUT_FILENO, text) {
-        return 0;
+fn say(rt: HostRuntime, text: &[u8]) -> u32 {
+    match rt.write_all(text) {
+        Ok(()) => 0,
+        Err(error) => {
+            streams::fail(rt, b"standard output", error);
+            FAILED
+        }
     }
-    os::fail(b"standard output");
-    FAILED
-}
-
-// Where a message to standard error fails there is nobody to tell.
-fn tell(text: &[u8]) {
-    io::write_all(STDERR_FILENO, text);
 }
 
 // Each function below that puts something into a line answers the position behind it; what has no room is left out.
@@ -110,7 +108,7 @@ fn put_text(line: &mut [u8], at: usize, text: &[u8]) -> usize {
 
 fn put_number(line: &mut [u8], at: usize, n: u64) -> usize {
     let mut text = [0u8; player::DIGITS];
-    let k = io::decimal(n, &mut text);
+    let k = streams::decimal(n, &mut text);
     put_text(line, at, &text[..k])
 }
 
@@ -151,14 +149,14 @@ fn counts_line(line: &mut [u8], counts: &[u8], c: Counted) -> usize {
 }
 
 // Shows the counts of a record, or writes them as they stand.
-fn show_counts(counts: &[u8], before: u32, asked: u8, line: &mut [u8]) -> u32 {
+fn show_counts(rt: HostRuntime, counts: &[u8], before: u32, asked: u8, line: &mut [u8]) -> u32 {
     match counts_file::read(counts, 0, before) {
         Next::Counts(c) => {
             if asked == FILE {
-                return say(first(counts, c.end));
+                return say(rt, first(counts, c.end));
             }
             let length = counts_line(line, counts, c);
-            say(first(line, length))
+            say(rt, first(line, length))
         }
         Next::End => 0,
         Next::Refused(number) => number,
@@ -198,20 +196,33 @@ fn service_line(line: &mut [u8], part: &[u8], fields: &[u64; readers::SERVICE]) 
 }
 
 // Plays the record at the start of `part` and shows all of it.
-fn service(part: &[u8], last: &mut u32, values: &mut [u64; 256], line: &mut [u8]) -> u32 {
+fn service(
+    rt: HostRuntime,
+    part: &[u8],
+    last: &mut u32,
+    values: &mut [u64; 256],
+    line: &mut [u8],
+) -> u32 {
     let mut fields = [0u64; readers::SERVICE];
     let number = readers::wax_service_record(part, values, last, &mut fields);
     if number != 0 {
         return number;
     }
     let length = service_line(line, part, &fields);
-    say(first(line, length))
+    say(rt, first(line, length))
 }
 
 // Plays the record at the start of `part` and shows what is asked for of it.
-fn show(part: &[u8], asked: u8, last: &mut u32, values: &mut [u64; 256], line: &mut [u8]) -> u32 {
+fn show(
+    rt: HostRuntime,
+    part: &[u8],
+    asked: u8,
+    last: &mut u32,
+    values: &mut [u64; 256],
+    line: &mut [u8],
+) -> u32 {
     if asked == SERVICE {
-        return service(part, last, values, line);
+        return service(rt, part, last, values, line);
     }
     let before = *last;
     let mut counts = [0u8; counts::LONGEST];
@@ -219,11 +230,18 @@ fn show(part: &[u8], asked: u8, last: &mut u32, values: &mut [u64; 256], line: &
     if number != 0 {
         return number;
     }
-    show_counts(&counts, before, asked, line)
+    show_counts(rt, &counts, before, asked, line)
 }
 
 // Plays the records that are whole in the input: a record has at least a byte.
-fn play(input: &[u8], asked: u8, last: u32, values: &mut [u64; 256], line: &mut [u8]) -> Stop {
+fn play(
+    rt: HostRuntime,
+    input: &[u8],
+    asked: u8,
+    last: u32,
+    values: &mut [u64; 256],
+    line: &mut [u8],
+) -> Stop {
     let mut at = 0;
     let mut commit = last;
     let mut turns = input.len();
@@ -236,7 +254,7 @@ fn play(input: &[u8], asked: u8, last: u32, values: &mut [u64; 256], line: &mut 
             };
         }
         let part = &input[at..];
-        let number = show(part, asked, &mut commit, values, line);
+        let number = show(rt, part, asked, &mut commit, values, line);
         if number != 0 {
             return Stop {
                 at,
@@ -254,73 +272,51 @@ fn play(input: &[u8], asked: u8, last: u32, values: &mut [u64; 256], line: &mut 
     }
 }
 
-// One read behind the first `len` bytes of the buffer.
-fn read_more(input: &mut [u8], len: usize) -> More
-    requires { len ≤ length input.old }
-{
-    let e = len + least(CHUNK, input.len() - len);
-    let part = &mut input[len..e];
-    let got = libc::read(STDIN_FILENO, part);
-    if got < 0 {
-        return More::Failed;
-    }
-    let n = io::count(got, part);
-    if n == 0 {
-        return More::End;
-    }
-    More::Bytes(len + n)
-}
-
-fn stopped() -> State {
+fn stopped(status: u8) -> State {
     State {
         len: 0,
         last: 0,
         going: false,
+        status,
     }
 }
 
-// The exit status, for the command in front of this program.
-fn status(digit: &[u8]) {
-    io::write_all(3, digit);
-}
-
-// The last line, the first `length` bytes of these: of a counts file it goes to standard error.
-fn close(asked: u8, line: &[u8], length: usize, digit: &[u8]) {
+// The last line, the first `length` bytes of these: of a counts file it goes to standard error. Answers the exit status.
+fn close(rt: HostRuntime, asked: u8, line: &[u8], length: usize, status: u8) -> u8 {
     let text = first(line, length);
     if asked == FILE {
-        tell(text);
-        status(digit);
-        return;
+        tell(rt, text);
+        return status;
     }
-    if say(text) != 0 {
-        status(b"3");
-        return;
+    if say(rt, text) != 0 {
+        return BROKEN;
     }
-    status(digit);
+    status
 }
 
 // `refused N after K`.
-fn refuse(asked: u8, number: u32, last: u32) {
+fn refuse(rt: HostRuntime, asked: u8, number: u32, last: u32) -> u8 {
     let mut line = [0u8; CLOSING];
     let at = put_text(&mut line, 0, b"refused ");
     let at = put_number(&mut line, at, le::long(number));
     let at = put_text(&mut line, at, b" after ");
     let at = put_number(&mut line, at, le::long(last));
     let at = put_byte(&mut line, at, b'\n');
-    close(asked, &line, at, b"1");
+    close(rt, asked, &line, at, REFUSED)
 }
 
 // `end K`.
-fn end(asked: u8, last: u32) {
+fn end(rt: HostRuntime, asked: u8, last: u32) -> u8 {
     let mut line = [0u8; CLOSING];
     let at = put_text(&mut line, 0, b"end ");
     let at = put_number(&mut line, at, le::long(last));
     let at = put_byte(&mut line, at, b'\n');
-    close(asked, &line, at, b"0");
+    close(rt, asked, &line, at, ACCEPTED)
 }
 
 // Plays the first `len` bytes of the buffer and keeps the record that is cut by its end for the next turn.
 fn advance(
+    rt: HostRuntime,
     input: &mut [u8],
     len: usize,
     asked: u8,
@@ -330,93 +326,98 @@ fn advance(
 ) -> State
     requires { len ≤ length input.old }
 {
-    let stop = play(&input[..len], asked, s.last, values, line);
+    let stop = play(rt, &input[..len], asked, s.last, values, line);
     let at = least(stop.at, len);
     if stop.number == 0 || stop.number == 12 {
         return State {
             len: player::move_down(input, at, len),
             last: stop.last,
             going: true,
+            status: ACCEPTED,
         };
     }
     if stop.number == FAILED {
-        status(b"3");
-        return stopped();
+        return stopped(BROKEN);
     }
-    refuse(asked, stop.number, stop.last);
-    stopped()
+    stopped(refuse(rt, asked, stop.number, stop.last))
 }
 
 // The end of the archive. Bytes that are left are a record cut short.
-fn ended(left: usize, asked: u8, last: u32) {
+fn ended(rt: HostRuntime, left: usize, asked: u8, last: u32) -> u8 {
     if left != 0 {
-        refuse(asked, 12, last);
-        return;
+        return refuse(rt, asked, 12, last);
     }
-    end(asked, last);
+    end(rt, asked, last)
 }
 
 // One read, and the play of what is then there.
-fn turn(input: &mut [u8], asked: u8, values: &mut [u64; 256], line: &mut [u8], s: State) -> State {
+fn turn(
+    rt: HostRuntime,
+    input: &mut [u8],
+    asked: u8,
+    values: &mut [u64; 256],
+    line: &mut [u8],
+    s: State,
+) -> State {
     let len = least(s.len, input.len());
-    match read_more(input, len) {
+    match read_more(&mut rt.stdin(), input, len) {
         More::Bytes(n) => {
             let have = least(n, input.len());
-            advance(input, have, asked, values, line, s)
+            advance(rt, input, have, asked, values, line, s)
         }
-        More::End => {
-            ended(len, asked, s.last);
-            stopped()
-        }
-        More::Failed => {
-            os::fail(b"standard input");
-            status(b"3");
-            stopped()
+        More::End => stopped(ended(rt, len, asked, s.last)),
+        More::Failed(error) => {
+            streams::fail(rt, b"standard input", error);
+            stopped(BROKEN)
         }
     }
 }
 
 // A proved loop has to end, and nothing says that standard input does: it counts down from a number that no run uses up.
-fn run(input: &mut [u8], line: &mut [u8], asked: u8) {
+fn run(rt: HostRuntime, input: &mut [u8], line: &mut [u8], asked: u8) -> u8 {
     let mut values = [0u64; 256];
     let mut s = State {
         len: 0,
         last: 0,
         going: true,
+        status: ACCEPTED,
     };
     let mut turns = u64::MAX;
     while turns > 0 {
         if !s.going {
-            return;
+            return s.status;
         }
-        s = turn(input, asked, &mut values, line, s);
+        s = turn(rt, input, asked, &mut values, line, s);
         turns -= 1;
     }
+    BROKEN
 }
 
 // The buffers come as arrays: their lengths are then known by their types.
-fn start(input: &mut [u8; player::INPUT], line: &mut [u8; LINE], asked: u8) {
-    run(input, line, asked);
+fn start(rt: HostRuntime, input: &mut [u8; player::INPUT], line: &mut [u8; LINE], asked: u8) -> u8 {
+    run(rt, input, line, asked)
 }
 
-fn heading(asked: u8) -> u32 {
+fn heading(rt: HostRuntime, asked: u8) -> u32 {
     if asked == COUNTS {
-        return say(b"commit writes counter=value\n");
+        return say(rt, b"commit writes counter=value\n");
     }
     if asked == SERVICE {
-        return say(b"commit station kind transaction reads writes rcounter=value wcounter=value\n");
+        return say(
+            rt,
+            b"commit station kind transaction reads writes rcounter=value wcounter=value\n",
+        );
     }
     0
 }
 
-fn view(asked: u8) {
-    if heading(asked) != 0 {
-        status(b"3");
-        return;
+fn view(rt: HostRuntime, asked: u8) -> u8 {
+    if heading(rt, asked) != 0 {
+        return BROKEN;
     }
     let mut input = [0u8; player::INPUT];
     let mut line = [0u8; LINE];
-    start(&mut input, &mut line, asked);
+    start(rt, &mut input, &mut line, asked)
 }
 
 fn same(word: &[u8], other: &[u8]) -> bool {
@@ -453,14 +454,21 @@ fn asked_by(word: &[u8]) -> u8 {
     0
 }
 
-fn main() {
-    let mut word = io::buffer();
-    let n = os::arg(1, &mut word);
+// What the one word behind the program's name asks for, if it is one.
+fn answer(rt: HostRuntime) -> u8 {
+    let mut word = streams::buffer();
+    let n = streams::argument(&rt, 1, &mut word);
     let asked = asked_by(&word[..n]);
-    if os::arg_count() != 2 || asked == 0 {
-        tell(b"usage: viewer --counts|--service|--counts-file <ARCHIVE\n");
-        status(b"2");
-        return;
+    if streams::argument_count(&rt) != 2 || asked == 0 {
+        tell(
+            rt,
+            b"usage: viewer --counts|--service|--counts-file <ARCHIVE\n",
+        );
+        return UNCLEAR;
     }
-    view(asked);
+    view(rt, asked)
+}
+
+fn main(rt: HostRuntime) -> ExitCode {
+    ExitCode::from(answer(rt))
 }

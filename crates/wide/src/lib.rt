@@ -1,3 +1,4 @@
+#![tactic(auto)]
 // Numbers of two words: products and sums, with no type of 128 bits.
 ghost use Rattle.std.specs.Prelude.{◌≡◌, ◌+◌, ◌*◌, ◌<◌, ◌≤◌};
 ghost use Rattle.wide.specs.Wide.{words};
@@ -5,7 +6,7 @@ ghost use Rattle.wide.specs.Wide.{words};
 // The most that a word says.
 const MOST: u64 = 18446744073709551615;
 
-#[derive(Drop)]
+#[derive(Clone, Copy)]
 pub struct Wide {
     pub hi: u64,
     pub lo: u64,

@@ -1,3 +1,4 @@
+#![tactic(auto)]
 // Document 02's register window: what a write to a register does, and a message that is delivered to the station behind it.
 ghost use Rattle.std.specs.Prelude.{◌≡◌, ◌<◌, length};
 ghost use Rattle.station_answer.specs.Did.{outcome};

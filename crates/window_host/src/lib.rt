@@ -1,3 +1,4 @@
+#![tactic(auto)]
 // Document 02's register window for C: numbers and byte slices.
 ghost use Rattle.std.specs.Prelude.{◌≡◌, length};
 ghost use Rattle.host.specs.Host.{hosted};
@@ -5,22 +6,19 @@ ghost use Rattle.window_state.specs.Registers.{reading, read_of, interrupt_of};
 ghost use Rattle.window.specs.Window.{write_of, step_of};
 ghost use Rattle.window_host.specs.Host.{windowed, window_of};
 
-#[unsafe(no_mangle)]
-pub extern "C" fn wax_window_read(offset: u32, registers: &[u8], state: &[u8], byte: &mut u8) -> u32
+pub fn wax_window_read(offset: u32, registers: &[u8], state: &[u8], byte: &mut u8) -> u32
     ensures { reading byte.new result ≡ read_of offset registers.now state.now byte.old }
 {
     window_state::read(offset, registers, state, byte)
 }
 
-#[unsafe(no_mangle)]
-pub extern "C" fn wax_window_interrupt(registers: &[u8], state: &[u8], level: &mut u8) -> u32
+pub fn wax_window_interrupt(registers: &[u8], state: &[u8], level: &mut u8) -> u32
     ensures { reading level.new result ≡ interrupt_of registers.now state.now level.old }
 {
     window_state::interrupt(registers, state, level)
 }
 
-#[unsafe(no_mangle)]
-pub extern "C" fn wax_window_write(
+pub fn wax_window_write(
     offset: u32,
     byte: u8,
     registers: &mut [u8],
@@ -38,8 +36,7 @@ pub extern "C" fn wax_window_write(
     host::tell(x, told)
 }
 
-#[unsafe(no_mangle)]
-pub extern "C" fn wax_window_step(
+pub fn wax_window_step(
     message: &[u8],
     registers: &mut [u8],
     state: &mut [u8],

@@ -7,13 +7,16 @@ use Rattle.std.proofs.lemmas.List.Edits.{sets}
 use Rattle.std.proofs.Math.Seq.{length-sets, get_or-set_other}
 use Rattle.std.specs.Int.Bits.{bit_and, bit_or, or_lt}
 use Rattle.std.proofs.lemmas.Nat.{and_le_l}
-use Rattle.sets.specs.Laws.{by_b, by_eq, eqb_yes, eqb_no, ltb_yes, or_yes, and_r}
+use Rattle.sets.specs.Laws.{by_b, by_eq, or_yes}
+use Rattle.sets.proofs.Laws.{eqb_yes, eqb_no, ltb_yes, and_r}
 use Rattle.le.specs.Le.{set_u32, set_u64}
 use Rattle.le.specs.Laws.{set_u32_is}
 use Rattle.le.specs.Width.{bytes}
-use Rattle.cells.specs.Num.{AllBytes, set_all, put_other, put_all}
-use Rattle.cells.specs.Le.{set_u64_is}
-use Rattle.cells.specs.Bits.{tb, tb_or, tb_and}
+use Rattle.cells.specs.Num.{AllBytes}
+use Rattle.cells.proofs.Num.{set_all, put_other, put_all}
+use Rattle.cells.proofs.Le.{set_u64_is}
+use Rattle.cells.specs.Bits.{tb}
+use Rattle.cells.proofs.Bits.{tb_or, tb_and}
 use Rattle.station_answer.specs.declared.Answer.{Answer}
 use Rattle.station_answer.specs.declared.Answer.TheVariants.{Refused, Begun, Value, Waits, Written, Committed, Aborted, Purged, Nothing}
 use Rattle.window_state.specs.Layout.{command_from, refusal_from, value_from, commit_from, flags_from, mask_from, blank_from, registers, raised, done_flag, aborted_flag}

@@ -8,8 +8,10 @@ use Rattle.std.proofs.lemmas.Bool.{false≢true}
 use Rattle.std.specs.Int.Bits.{bit_and, bit_or, or_lt}
 use Rattle.std.proofs.lemmas.Nat.{and_le_l}
 use Rattle.sets.specs.Base.{any}
-use Rattle.sets.specs.Laws.{by_b, by_eq, eqb_no, any_no, any_some}
-use Rattle.cells.specs.Bits.{tb, tb_zero, tb_or, tb_and, tb_tells, tb_test, tb_high}
+use Rattle.sets.specs.Laws.{by_b, by_eq}
+use Rattle.sets.proofs.Laws.{eqb_no, any_no, any_some}
+use Rattle.cells.specs.Bits.{tb}
+use Rattle.cells.proofs.Bits.{tb_zero, tb_or, tb_and, tb_tells, tb_test, tb_high}
 use Rattle.station_state.specs.Layout.{opened, wait, has_bit}
 use Rattle.window_state.specs.Layout.{flags_from, mask_from, raised, mask, open_flag, waiting_flag}
 use Rattle.window_state.specs.Registers.{valid, flag_if, flags_of, register_of, up, level, reading, interrupt_of}

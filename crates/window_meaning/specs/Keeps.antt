@@ -2,11 +2,13 @@
 use Rattle.std.specs.Prelude.{ℕ, zero, suc, ◌+◌, ◌%◌, ◌≤◌, ◌<◌, ◌≡◌, refl, true, List, length, get_or, replicate, ltb}
 use Rattle.std.proofs.Common.{sym, ◌∙◌, arith, eq-eqb, lt-ltb}
 use Rattle.std.proofs.Math.ListN.{set}
-use Rattle.sets.specs.Laws.{by_b, by_eq, ltb_yes}
+use Rattle.sets.specs.Laws.{by_b, by_eq}
+use Rattle.sets.proofs.Laws.{ltb_yes}
 use Rattle.le.specs.Le.{u16_at, u32_at, u64_at}
 use Rattle.le.specs.Laws.{u16_at_is, u32_at_is, u64_at_is}
 use Rattle.le.specs.Width.{num_at}
-use Rattle.cells.specs.Num.{AllBytes, num_frame}
+use Rattle.cells.specs.Num.{AllBytes}
+use Rattle.cells.proofs.Num.{num_frame}
 use Rattle.station_owner.specs.Owner.{called}
 use Rattle.station.specs.Station.{station_step_b}
 use Rattle.window_state.specs.Layout.{command_from, blank_from, blank_four_from, blank_two_from, registers, raised}

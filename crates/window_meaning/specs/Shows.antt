@@ -10,8 +10,9 @@ use Rattle.sets.specs.Laws.{by_eq}
 use Rattle.le.specs.Le.{u64_at}
 use Rattle.le.specs.Laws.{u32_at_is, u64_at_is, set_u32_is}
 use Rattle.le.specs.Width.{bytes}
-use Rattle.cells.specs.Num.{AllBytes, put_other, num_put, num_frame, num_lt}
-use Rattle.cells.specs.Le.{set_u64_is}
+use Rattle.cells.specs.Num.{AllBytes}
+use Rattle.cells.proofs.Num.{put_other, num_put, num_frame, num_lt}
+use Rattle.cells.proofs.Le.{set_u64_is}
 use Rattle.cells.specs.Bits.{tb}
 use Rattle.station_state.specs.Layout.{has_bit}
 use Rattle.station_answer.specs.declared.Answer.{Answer}

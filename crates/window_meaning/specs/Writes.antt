@@ -7,11 +7,14 @@ use Rattle.std.proofs.Math.Bool.{true, false}
 use Rattle.std.proofs.lemmas.Bool.{false≢true, lt-leb}
 use Rattle.std.proofs.Math.ListN.{length, set, length-set}
 use Rattle.std.specs.Int.Bits.{bit_and}
-use Rattle.sets.specs.Laws.{by_b, by_eq, eqb_yes, eqb_no, ltb_yes, or_yes, and_r}
+use Rattle.sets.specs.Laws.{by_b, by_eq, or_yes}
+use Rattle.sets.proofs.Laws.{eqb_yes, eqb_no, ltb_yes, and_r}
 use Rattle.le.specs.Le.{u64_at, set_u64}
-use Rattle.cells.specs.Num.{AllBytes, put_other}
-use Rattle.cells.specs.Le.{set_u64_is}
-use Rattle.cells.specs.Bits.{tb, tb_mask}
+use Rattle.cells.specs.Num.{AllBytes}
+use Rattle.cells.proofs.Num.{put_other}
+use Rattle.cells.proofs.Le.{set_u64_is}
+use Rattle.cells.specs.Bits.{tb}
+use Rattle.cells.proofs.Bits.{tb_mask}
 use Rattle.station_state.specs.Layout.{has_bit}
 use Rattle.station_answer.specs.declared.Answer.{Answer}
 use Rattle.station_answer.specs.declared.Answer.TheVariants.{Refused, Begun, Value, Waits, Written, Committed, Aborted, Purged, Nothing}

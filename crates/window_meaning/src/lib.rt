@@ -1,1 +1,2 @@
+#![tactic(auto)]
 // No code: what is true of every window of document 02's wish 5 is in specs/.

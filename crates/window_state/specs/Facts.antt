@@ -1,7 +1,7 @@
 -- What number 1 of a window tells.
 use Rattle.std.specs.Prelude.{ℕ, ◌+◌, ◌<◌, ◌%◌, ◌≡◌, true, ◌&&◌, List, length, eqb, ltb}
 use Rattle.std.proofs.Common.{eqb-true}
-use Rattle.sets.specs.Laws.{ltb_yes}
+use Rattle.sets.proofs.Laws.{ltb_yes}
 use Rattle.lists.specs.Tests.{and_l, and_r}
 use Rattle.le.specs.Le.{u16_at, u32_at, u64_at}
 use Rattle.station_state.specs.Layout.{state_length, kind}

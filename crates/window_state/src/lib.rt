@@ -1,3 +1,4 @@
+#![tactic(auto)]
 // The registers of a window, 32 lent bytes beside the state of the station that they drive: number 1, what is read, the interrupt, and the
 // changes of a register. Where each register stands is said here for all code, in specs/Layout.antt for the definitions and in
 // docs/STATE.md for readers.

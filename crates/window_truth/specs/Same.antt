@@ -5,7 +5,8 @@ use Rattle.std.proofs.Math.Path.{refl, sym}
 use Rattle.std.proofs.Common.{ap, subst, ◌∙◌, arith, get_or-set_other}
 use Rattle.std.proofs.lemmas.Bool.{false≢true}
 use mathlib.Core.List.{List, [], ◌∷◌, ◌++◌, append-nil}
-use Rattle.sets.specs.Laws.{by_b, by_eq, eqb_yes, and_l, and_r}
+use Rattle.sets.specs.Laws.{by_b, by_eq}
+use Rattle.sets.proofs.Laws.{eqb_yes, and_l, and_r}
 use Rattle.line.specs.Line.{Op, is_refused}
 use Rattle.message.specs.Layout.{kind_of}
 use Rattle.station_callbacks.specs.Callbacks.{flat}
@@ -17,7 +18,8 @@ use Rattle.station_owner.specs.Owner.{ready}
 use Rattle.host.specs.Host.{told_length}
 use Rattle.call_meaning.specs.Relation.{answer_of}
 use Rattle.call_meaning.specs.Buffers.{messages_in, sent_by}
-use Rattle.call_meaning.specs.Calls.{perform_b, one_called, step_b}
+use Rattle.call_meaning.specs.Calls.{perform_b, step_b}
+use Rattle.call_meaning.proofs.Calls.{one_called}
 use Rattle.line_bytes.specs.Bytes.{WorldB, carry_up_b, tell_b, rest_down, owner_acts_b, station_takes_b}
 use Rattle.line_bytes.specs.Simulates.{carry_none}
 use Rattle.line_host.specs.Line as Hosts

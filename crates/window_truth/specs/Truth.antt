@@ -8,7 +8,7 @@ use borrow.Author.Tests.{eq-eqb, lt-ltb}
 use Rattle.sets.specs.Base.{any, upd}
 use Rattle.sets.specs.Laws.{by_b, by_eq}
 use Rattle.station_state.specs.Layout.{kind}
-use Rattle.station_meaning.specs.Tests.{kind_at}
+use Rattle.station_meaning.proofs.Tests.{kind_at}
 use Rattle.server_state.specs.Valid.{kinds_ok}
 use Rattle.host.specs.Host.{told_length}
 use Rattle.line_host.specs.Line.{ArgumentsFit, CallH, OwnerH, StationH, FitsH, AllFitH, run_h}

@@ -1,3 +1,4 @@
+#![tactic(auto)]
 // The line of words for a fault of a record (docs/PLAYBACK.md, "What is wrong, in words"), put into a lent output.
 ghost use Rattle.std.specs.Prelude.{◌≡◌, ◌+◌, ◌≤◌, length};
 ghost use Rattle.text.specs.Text.{put, put_of, line_within};

@@ -1,0 +1,6 @@
+pub mod Facts
+pub mod Parts
+pub mod Playback
+pub mod Reader
+pub mod Replay
+pub mod Stored

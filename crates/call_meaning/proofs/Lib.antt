@@ -1,0 +1,11 @@
+pub mod Buffers
+pub mod Callbacks
+pub mod Calls
+pub mod Commit
+pub mod Delivery
+pub mod Names
+pub mod Owner
+pub mod Relation
+pub mod Sets
+pub mod Stays
+pub mod Valid

@@ -1,0 +1,11 @@
+pub mod Bits
+pub mod Cells
+pub mod Each
+pub mod Le
+pub mod Loops
+pub mod Lowest
+pub mod Num
+pub mod Pages
+pub mod Sets
+pub mod Tells
+pub mod Upd

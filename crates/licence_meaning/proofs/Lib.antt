@@ -1,0 +1,4 @@
+pub mod Meaning
+pub mod Rounding
+pub mod Steps
+pub mod Sum

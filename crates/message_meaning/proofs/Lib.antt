@@ -1,0 +1,9 @@
+pub mod CommitRead
+pub mod CommitSent
+pub mod Inverse
+pub mod KindsLaws
+pub mod Numbers
+pub mod Sent
+pub mod UpAccepted
+pub mod Uses
+pub mod WorkSent

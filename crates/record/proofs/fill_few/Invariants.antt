@@ -1,0 +1,13 @@
+-- `record::fill_few` meets its contract. The loop's invariant: as many bytes as turns passed are copied.
+use Prim.Native.Nat.{◌≤◌, ◌-◌}
+use mathlib.Core.Path.{◌≡◌}
+use lib.ListN.{length}
+use Rattle.record.specs.Few.{few_entries}
+use Rattle.record.specs.Copies.{Copied}
+use Rattle.record.proofs.fill_few.Given as goal
+
+abbrev pub invariant-loop-i : goal.invariant-loop-i
+invariant-loop-i l = (l.i ≤ few_entries) × (length l.to ≡ length l.from) × Copied l.to l.from l.i
+
+abbrev pub decreases-loop-i : goal.decreases-loop-i
+decreases-loop-i l = few_entries - l.i

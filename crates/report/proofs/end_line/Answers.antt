@@ -1,0 +1,20 @@
+-- `report::end_line` meets its contract.
+use Rattle.report.specs.Text.{end_line}
+use Rattle.text.specs.Stores.{put_join, has_room, line_put, line_refused}
+use native.Mathlib.Omega.{arith}
+use mathlib.Core.Path.{ap}
+use mathlib.Core.Bool.{not}
+use Rattle.report.proofs.end_line.Goals as goal
+
+pub returns-then-not-room : goal.returns-then-not-room
+returns-then-not-room c = line_refused _ _ _ _ c.room.ensures (ap not c.if-not-room.true)
+
+pub put_text-at-requires : goal.put_text-at-requires
+put_text-at-requires c = omega (arith, has_room _ _ _ c.room.ensures (ap not c.if-not-room.false))
+
+pub put_field-requires : goal.put_field-requires
+put_field-requires c = omega (arith, has_room _ _ _ c.room.ensures (ap not c.if-not-room.false))
+
+pub returns : goal.returns
+unfolding end_line
+returns c = line_put _ _ _ _ c.room.ensures (ap not c.if-not-room.false) (put_join _ _ _ _ c.put_text-at.ensures.0 c.put_field.ensures.0)

@@ -1,0 +1,10 @@
+pub mod Changes
+pub mod Commit
+pub mod CycleCases
+pub mod Frees
+pub mod Order
+pub mod Sets
+pub mod Tests
+pub mod Unlocked
+pub mod Waiting
+pub mod Writes

@@ -1,0 +1,13 @@
+-- `server_state::entry_ok` meets its contract.
+use mathlib.Core.Path.{sym}
+use borrow.Author.Tests.{eq-eqb, ne_eqb}
+use Rattle.server_state.specs.Valid.{entry_ok}
+use Rattle.server_state.proofs.entry_ok.Goals as goal
+
+pub returns-then-want-eq0 : goal.returns-then-want-eq0
+unfolding entry_ok
+returns-then-want-eq0 c = simp (sym c.want.ensures, eq-eqb _ _ c.if-want-eq0.true, sym c.blank_ok.ensures)
+
+pub returns : goal.returns
+unfolding entry_ok
+returns c = simp (sym c.want.ensures, ne_eqb _ _ c.if-want-eq0.false, sym c.waiter_ok.ensures)

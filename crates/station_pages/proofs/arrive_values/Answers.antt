@@ -1,0 +1,17 @@
+use mathlib.Core.Path.{ap, ◌∙◌}
+use native.Mathlib.Numerals.{add-one}
+use native.Mathlib.Omega.{arith}
+use borrow.Author.Rules.{rules}
+use Rattle.station_pages.specs.Pages.{arrive_to}
+use Rattle.station_pages.proofs.arrive_values.Goals as goal
+
+pub loop-o-init : goal.loop-o-init
+unfolding arrive_to
+loop-o-init c = search rules
+
+pub loop-o-preserved : goal.loop-o-preserved
+unfolding arrive_to
+loop-o-preserved c = (search rules, search rules, rw add-one (cc))
+
+pub returns : goal.returns
+returns c = c.loop-o.invariant.2 ∙ ap (arrive_to _ _ _) (omega arith)

@@ -1,0 +1,12 @@
+-- `station_pages::arrive_values` meets its contract. The loop's invariant: the state is the definition's at the count of objects passed.
+use Prim.Native.Nat.{◌≤◌, ◌-◌}
+use mathlib.Core.Path.{◌≡◌}
+use Rattle.station_pages.specs.Pages.{arrive_to}
+use lib.ListN.{length}
+use Rattle.station_pages.proofs.arrive_values.Given as goal
+
+abbrev pub invariant-loop-o : goal.invariant-loop-o
+invariant-loop-o l = (l.o ≤ 8) × (length l.s ≡ length l.initial.s) × (l.s ≡ arrive_to l.m l.initial.s l.p l.o)
+
+abbrev pub decreases-loop-o : goal.decreases-loop-o
+decreases-loop-o l = 8 - l.o

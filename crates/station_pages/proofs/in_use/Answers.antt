@@ -1,0 +1,19 @@
+use mathlib.Core.Path.{ap, ◌∙◌}
+use native.Mathlib.Numerals.{add-one}
+use native.Mathlib.Omega.{arith}
+use borrow.Author.Rules.{rules}
+use Rattle.station_pages.specs.Pages.{in_use_b}
+use Rattle.cells.specs.Loops.{any_to}
+use Rattle.station_pages.proofs.in_use.Goals as goal
+
+pub loop-p-init : goal.loop-p-init
+unfolding any_to
+loop-p-init c = search rules
+
+pub loop-p-preserved : goal.loop-p-preserved
+unfolding any_to
+loop-p-preserved c = (search rules, rw add-one (cc))
+
+pub returns : goal.returns
+unfolding in_use_b
+returns c = c.loop-p.invariant.1 ∙ ap (any_to _) (omega arith)

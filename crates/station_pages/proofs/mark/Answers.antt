@@ -1,0 +1,19 @@
+use Prim.Native.Nat.{◌*◌}
+use mathlib.Core.Path.{◌≡◌, ap, ◌∙◌}
+use native.Mathlib.Omega.{arith}
+use borrow.Author.Rules.{rules}
+use Rattle.station_state.specs.Runs.{run, run_group}
+use Rattle.station_pages.specs.Pages.{mark_b}
+use Rattle.station_pages.specs.Groups.{mark_run}
+use Rattle.station_pages.proofs.mark.Goals as goal
+
+pub loop-g-init : goal.loop-g-init
+unfolding run
+loop-g-init c = search rules
+
+pub loop-g-preserved : goal.loop-g-preserved
+loop-g-preserved c = (search rules, search rules, run_group _ _ _ _ _ _ _ c.loop-g.invariant.2 c.mark_group.ensures (omega arith) (omega arith))
+
+pub returns : goal.returns
+unfolding mark_b
+returns c = let e : c.loop-g.g * 8 ≡ 32 = omega arith in c.loop-g.invariant.2 ∙ ap (run _ _ _) e ∙ mark_run _ _ _

@@ -1,0 +1,12 @@
+-- `station_pages::written_pages` meets its contract. The loop's invariant: the mask is the definition's at the count of pages passed.
+use Prim.Native.Nat.{◌≤◌, ◌-◌}
+use mathlib.Core.Path.{◌≡◌}
+use Rattle.station_pages.specs.Pages.{wrote_page_b}
+use Rattle.cells.specs.Loops.{mask_to}
+use Rattle.station_pages.proofs.written_pages.Given as goal
+
+abbrev pub invariant-loop-p : goal.invariant-loop-p
+invariant-loop-p l = (l.p ≤ 32) × (l.d ≡ mask_to (wrote_page_b l.s) l.p)
+
+abbrev pub decreases-loop-p : goal.decreases-loop-p
+decreases-loop-p l = 32 - l.p

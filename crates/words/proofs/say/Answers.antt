@@ -1,0 +1,5 @@
+-- `words::say` meets its contract.
+use Rattle.words.proofs.say.Goals as goal
+
+pub returns : goal.returns
+returns c = rw c.long.ensures at c.say_long.ensures
