@@ -25,8 +25,8 @@ DOCUMENTS = $(addprefix docs/,C-INTERFACE.md STATE.md PROTOCOL.md DECISIONS.md P
 PLAY_DOCUMENT = docs/PLAYBACK.md
 CHARTS := $(sort $(wildcard docs/protocol/*.svg))
 
-# edits that the prover must refuse do not come into the library
-SOURCES := $(shell find crates -type f ! -name '*.edit')
+# neither edits that the prover must refuse nor what rt has made comes into the library
+SOURCES := crates.txt $(shell find crates -name out -prune -o -type f ! -name '*.edit' -print)
 
 # beneath DOCDIR the documents keep the places that they have beneath docs/
 INSTALLED = $(INCLUDEDIR)/waxwingrack.h $(LIBDIR)/libwaxwingrack.a $(LIBDIR)/pkgconfig/waxwingrack.pc \

@@ -5,7 +5,7 @@
  * so they may run at the same time on different buffers.
  *
  * The library is compiled for x86-64 Linux and for nothing else: the toolchain that proves it has one back end, and writes no C.
- * It is position-independent, wants memcpy and memset and nothing else of a C library, no operating system, and no vector unit
+ * It is position-independent, wants memcpy, memmove and memset, nothing else of a C library, no operating system, and no vector unit
  * beyond SSE2. A head with another processor can hold states, messages and archives that an x86-64 machine works on, all of them
  * little-endian bytes without alignment; it cannot run a station. No call goes deeper than WAX_STACK bytes of stack.
  *
