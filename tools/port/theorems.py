@@ -1,13 +1,12 @@
 #!/usr/bin/env python3
-"""Tells the theorems of specs/ from its definitions, by text; the other scripts of this folder use it.
+"""Tells the theorems of specs/ from its definitions, by text; move_theorems.py and list_moved.py use it.
 
-A definition is what is declared by data, record, abbrev or unfoldable, what an `unfolding` line opens, what a signature or a clause names,
-and what the body of a definition names. Every other declaration of specs/ is a theorem or a lemma: its name stands in proofs alone.
+A theorem is a declaration without data, record, abbrev or unfoldable whose signature concludes a fact: a relation (≡, ≤, ..), a product of
+facts, or a type that takes parameters. Every other declaration is a definition.
 """
 
 import os
 import re
-import sys
 
 TOKEN = re.compile(r"[^\s(){}.;,@\"«»]+")
 HEAD = re.compile(r"^(\s*)((?:(?:pub|abbrev|unfoldable)\s+)*)(\S+)((?:\s+[({].*?[)}])*)\s*:(?=\s|$)")
@@ -147,32 +146,23 @@ def flat(decls):
             yield d
 
 
-def conclusion(sig, indent=0):
+def bare(text, wanted):
+    """Where a sign stands in the text outside parentheses."""
+    deep = 0
+    for i, ch in enumerate(text):
+        deep += (ch in "({") - (ch in ")}")
+        if ch == wanted and deep == 0:
+            yield i
+
+
+def conclusion(sig):
     """What a signature concludes, its arguments left out."""
     text = " ".join(code(l).strip() for l in sig)
-    m = re.search(r"(?<=\s): ", text)
-    # the first colon outside parentheses
-    deep = 0
-    start = None
-    for i, ch in enumerate(text):
-        if ch in "({":
-            deep += 1
-        elif ch in ")}":
-            deep -= 1
-        elif ch == ":" and deep == 0:
-            start = i + 1
-            break
+    start = next(bare(text, ":"), None)
     if start is None:
         return ""
-    rest, deep, last = text[start:], 0, 0
-    for i, ch in enumerate(rest):
-        if ch in "({":
-            deep += 1
-        elif ch in ")}":
-            deep -= 1
-        elif ch == "→" and deep == 0:
-            last = i + 1
-    rest = rest[last:].strip()
+    rest = text[start + 1 :]
+    rest = rest[max(bare(rest, "→"), default=-1) + 1 :].strip()
     m = re.match(r"let .* in (.*)$", rest)
     return m[1] if m else rest
 
@@ -213,27 +203,3 @@ def is_theorem(d, facts):
     if c.startswith("("):
         return True
     return bool(head and head[1] in facts)
-
-
-if __name__ == "__main__":
-    root = "."
-    files, clauses = load(root)
-    facts, data = families(files)
-    for crate in sys.argv[1:]:
-        print("##", crate)
-        for p, (c, folder, lines, decls) in files.items():
-            if c != crate or folder != "specs":
-                continue
-            defs = [d.name for d in decls if d.kind not in ("use", "section") and not is_theorem(d, facts)]
-            thms = [d.name for d in decls if d.kind not in ("use", "section") and is_theorem(d, facts)]
-            pure = 0
-            mx = []
-            for d in decls:
-                if d.kind == "section":
-                    its = [x for x in flat(d.subs) if x.kind != "use"]
-                    ds = [x.name for x in its if not is_theorem(x, facts)]
-                    if ds:
-                        mx.append((len(its) - len(ds), ds[:6]))
-                    else:
-                        pure += 1
-            print(os.path.relpath(p), "defs", len(defs), "thms", len(thms), "pure", pure, "mixed", mx[:5], "DEFS:", defs[:14])
