@@ -3,10 +3,14 @@
 ghost use Rattle.std.specs.Prelude.{◌≡◌, ◌+◌, ◌*◌, ◌^◌, ◌≤◌, ◌<◌, eqb, length, drop};
 ghost use Rattle.std.proofs.lemmas.List.Edits.{sets};
 ghost use Rattle.record.specs.Check.{length_of};
+ghost use Rattle.refusals.specs.Refusals.{code};
 ghost use Rattle.archive.specs.Read.{fields_of, read_of};
+ghost use Rattle.archive.specs.Answered.{answer_of};
 ghost use Rattle.archive.specs.Parts.{holds_at, address_part, value_part, entry_of};
 ghost use Rattle.archive.specs.Told.{told, field_list, fields_length, told_read_of, told_entry_of};
 ghost use Rattle.layout.specs.Record.{header_length};
+
+use refusals::Refusal;
 
 // Where C is told each number of a record, and how many they are.
 const END: usize = 0;
@@ -45,7 +49,8 @@ pub struct Fields {
     pub kind: u32,
 }
 
-// What stands at a position of an archive.
+// What stands at a position of an archive: a `Result<Option<Fields>, Refusal>` with a refusal's number, as theorems name it: `recorded`
+// of this crate, `replay_read` of replay and those above them.
 #[derive(Clone, Copy)]
 pub enum Answer {
     Record(Fields),
@@ -53,7 +58,19 @@ pub enum Answer {
     Refused(u32),
 }
 
-// An entry of a record.
+impl From<Result<Option<Fields>, Refusal>> for Answer {
+    ghost from_gives = { λ r a. a ≡ answer_of r };
+
+    fn from(found: Result<Option<Fields>, Refusal>) -> Answer {
+        match found {
+            Ok(Some(f)) => Answer::Record(f),
+            Ok(None) => Answer::End,
+            Err(why) => Answer::Refused(why.number()),
+        }
+    }
+}
+
+// An entry of a record: an `Option` as the theorem `Shown` of archive_meaning names it.
 #[derive(Clone, Copy)]
 pub enum Found {
     Entry { address: u8, value: u64 },
@@ -61,13 +78,14 @@ pub enum Found {
 }
 
 // Whether a commit number is one more than the last.
-fn follows(last: u32, commit: u32) -> bool
+pub fn follows(last: u32, commit: u32) -> bool
     ensures { result ≡ eqb commit (last + 1) }
 {
     commit as u64 == last as u64 + 1
 }
 
 // The fields of the record that starts at `at`; `part` is the archive from there on.
+#[tactic(auto, unfolding(crate::specs::Read::fields_of))]
 fn fields_at(part: &[u8], at: usize) -> Fields
     requires { (header_length ≤ length part.now) × (at + length_of part.now < 2 ^ 64) }
     ensures { result ≡ fields_of part.now at }
@@ -76,48 +94,55 @@ fn fields_at(part: &[u8], at: usize) -> Fields
     let writes = le::get_u16(part, record::WRITES);
     Fields {
         at,
-        end: at + (record::HEADER + record::ENTRY * (le::index(reads) + le::index(writes))),
+        end: at + (record::HEADER + record::ENTRY * (reads as usize + writes as usize)),
         reads,
         writes,
         commit: le::get_u32(part, record::COMMIT),
         transaction: le::get_u32(part, record::TRANSACTION),
-        station: le::wide(part[record::STATION]),
-        kind: le::wide(part[record::KIND]),
+        station: u32::from(part[record::STATION]),
+        kind: u32::from(part[record::KIND]),
     }
 }
 
-// What stands at position `at` of an archive whose last commit number before it is `last`.
+// The record at position `at` of an archive whose last commit number before it is `last`, or none at its end.
+#[tactic(auto, using(record::specs::Facts::accepted), unfolding(crate::specs::Read::first_of, crate::specs::Read::read_of))]
+pub fn record_at(archive: &[u8], at: usize, last: u32) -> Result<Option<Fields>, Refusal>
+    ensures { answer_of result ≡ read_of archive.now at last }
+{
+    if archive.len() < at {
+        return Err(Refusal::Short);
+    }
+    if at == archive.len() {
+        return Ok(None);
+    }
+    let part = &archive[at..];
+    record::check(part)?;
+    if !follows(last, le::get_u32(part, record::COMMIT)) {
+        return Err(Refusal::Sequence);
+    }
+    Ok(Some(fields_at(part, at)))
+}
+
+// `record_at` as an `Answer`.
 pub fn read(archive: &[u8], at: usize, last: u32) -> Answer
     ensures { result ≡ read_of archive.now at last }
 {
-    if archive.len() < at {
-        return Answer::Refused(12);
-    }
-    if at == archive.len() {
-        return Answer::End;
-    }
-    let part = &archive[at..];
-    let number = record::wax_record_check(part);
-    if number != 0 {
-        return Answer::Refused(number);
-    }
-    if !follows(last, le::get_u32(part, record::COMMIT)) {
-        return Answer::Refused(13);
-    }
-    Answer::Record(fields_at(part, at))
+    Answer::from(record_at(archive, at, last))
 }
 
 // Whether a record of so many entries at `at` ends within the archive.
+#[tactic(auto, unfolding(crate::specs::Parts::holds_at))]
 fn holds(archive: &[u8], at: usize, entries: u32) -> bool
     ensures { result ≡ holds_at archive.now at entries }
 {
     if archive.len() < at {
         return false;
     }
-    record::HEADER + record::ENTRY * le::index(entries) <= archive.len() - at
+    record::HEADER + record::ENTRY * (entries as usize) <= archive.len() - at
 }
 
 // The addresses of the record of so many entries at `at`, reads first: that part of the archive itself. Empty where there is none.
+#[tactic(auto, using(crate::specs::Facts::holds), unfolding(crate::specs::Parts::address_part))]
 pub fn address_part(archive: &[u8], at: usize, entries: u32) -> &[u8]
     ensures { result.now ≡ address_part archive.now at entries }
 {
@@ -125,24 +150,26 @@ pub fn address_part(archive: &[u8], at: usize, entries: u32) -> &[u8]
         return &archive[..0];
     }
     let a = at + record::HEADER;
-    let e = a + le::index(entries);
+    let e = a + entries as usize;
     &archive[a..e]
 }
 
 // Its values, 8 bytes for each address: that part of the archive itself. Empty where there is none.
+#[tactic(auto, using(crate::specs::Facts::holds), unfolding(crate::specs::Parts::value_part))]
 pub fn value_part(archive: &[u8], at: usize, entries: u32) -> &[u8]
     ensures { result.now ≡ value_part archive.now at entries }
 {
     if !holds(archive, at, entries) {
         return &archive[..0];
     }
-    let k = le::index(entries);
+    let k = entries as usize;
     let a = at + record::HEADER + k;
     let e = a + record::VALUE * k;
     &archive[a..e]
 }
 
 // Entry i of the record of so many entries at `at`.
+#[tactic(auto, using(crate::specs::Facts::holds), unfolding(crate::specs::Parts::entry_of))]
 pub fn entry(archive: &[u8], at: usize, entries: u32, i: u32) -> Found
     ensures { result ≡ entry_of archive.now at entries i }
 {
@@ -154,10 +181,10 @@ pub fn entry(archive: &[u8], at: usize, entries: u32, i: u32) -> Found
     }
     let start = at + record::HEADER;
     Found::Entry {
-        address: archive[start + le::index(i)],
+        address: archive[start + i as usize],
         value: le::get_u64(
             archive,
-            start + le::index(entries) + record::VALUE * le::index(i),
+            start + entries as usize + record::VALUE * (i as usize),
         ),
     }
 }
@@ -167,12 +194,29 @@ fn put_fields(out: &mut [u64], f: Fields)
     ensures { out.new ≡ sets out.old 0 (field_list f) }
 {
     out[END] = f.end as u64;
-    out[READS] = le::long(f.reads);
-    out[WRITES] = le::long(f.writes);
-    out[COMMIT] = le::long(f.commit);
-    out[TRANSACTION] = le::long(f.transaction);
-    out[STATION] = le::long(f.station);
-    out[KIND] = le::long(f.kind);
+    out[READS] = u64::from(f.reads);
+    out[WRITES] = u64::from(f.writes);
+    out[COMMIT] = u64::from(f.commit);
+    out[TRANSACTION] = u64::from(f.transaction);
+    out[STATION] = u64::from(f.station);
+    out[KIND] = u64::from(f.kind);
+}
+
+// A record's end, reads, writes, commit, transaction, station and kind, put to the first seven places of `out`.
+#[tactic(auto, unfolding(crate::specs::Told::told_read_of))]
+fn tell_record(archive: &[u8], at: usize, last: u32, out: &mut [u64]) -> Result<(), Refusal>
+    ensures { told out.new (code result) ≡ told_read_of archive.now at last out.old }
+{
+    if out.len() < FIELDS {
+        return Err(Refusal::Buffer);
+    }
+    match record_at(archive, at, last)? {
+        Some(f) => {
+            put_fields(out, f);
+            Ok(())
+        }
+        None => Err(Refusal::End),
+    }
 }
 
 // `read` for C. A record's end, reads, writes, commit, transaction, station and kind go to the first seven places of `out`:
@@ -180,17 +224,29 @@ fn put_fields(out: &mut [u64], f: Fields)
 pub fn wax_archive_read(archive: &[u8], at: usize, last: u32, out: &mut [u64]) -> u32
     ensures { told out.new result ≡ told_read_of archive.now at last out.old }
 {
-    if out.len() < FIELDS {
-        return 1;
+    refusals::code(tell_record(archive, at, last, out))
+}
+
+// An entry's address and value, put to the first two places of `out`.
+#[tactic(auto, unfolding(crate::specs::Told::told_entry_of))]
+fn tell_entry(
+    archive: &[u8],
+    at: usize,
+    entries: u32,
+    i: u32,
+    out: &mut [u64],
+) -> Result<(), Refusal>
+    ensures { told out.new (code result) ≡ told_entry_of archive.now at entries i out.old }
+{
+    if out.len() < ENTRY_FIELDS {
+        return Err(Refusal::Buffer);
     }
-    match read(archive, at, last) {
-        Answer::Record(f) => {
-            put_fields(out, f);
-            0
-        }
-        Answer::End => 255,
-        Answer::Refused(number) => number,
-    }
+    let Found::Entry { address, value } = entry(archive, at, entries, i) else {
+        return Err(Refusal::End);
+    };
+    out[ADDRESS] = address as u64;
+    out[VALUE] = value;
+    Ok(())
 }
 
 // `entry` for C. Its address and value go to the first two places of `out`: 1 where it has fewer, 255 where there is no
@@ -198,13 +254,5 @@ pub fn wax_archive_read(archive: &[u8], at: usize, last: u32, out: &mut [u64]) -
 pub fn wax_archive_entry(archive: &[u8], at: usize, entries: u32, i: u32, out: &mut [u64]) -> u32
     ensures { told out.new result ≡ told_entry_of archive.now at entries i out.old }
 {
-    if out.len() < ENTRY_FIELDS {
-        return 1;
-    }
-    let Found::Entry { address, value } = entry(archive, at, entries, i) else {
-        return 255;
-    };
-    out[ADDRESS] = address as u64;
-    out[VALUE] = value;
-    0
+    refusals::code(tell_entry(archive, at, entries, i, out))
 }

@@ -1,9 +1,7 @@
 -- What the words behind the program's name ask for (docs/PLAYBACK.md, "Arguments"): each word changes ten numbers.
-use Rattle.std.specs.Prelude.{ℕ, List, [], ◌∷◌, ◌++◌, Bool, true, false, ◌&&◌, not, cond, length, take, get_or, set, eqb, ltb, leb}
+use Rattle.std.specs.Prelude.{Option, None, Some, ℕ, List, [], ◌∷◌, ◌++◌, Bool, true, false, ◌&&◌, not, cond, length, take, get_or, set, eqb, ltb, leb}
 use Rattle.text.specs.Text.{ascii}
 use Rattle.text.specs.Decimal.{number}
-use Rattle.arguments.specs.declared.Commit.{Commit}
-use Rattle.arguments.specs.declared.Commit.TheVariants.{Number, Nothing}
 use Rattle.arguments.specs.Words.{all_digits, same_word}
 
 -- "decimal number from 0 to 4294967295"
@@ -13,8 +11,8 @@ most_commits = 4294967295
 unfoldable pub is_number : List ℕ → Bool
 is_number word = not (eqb (length word) 0) && (all_digits word && leb (number word) most_commits)
 
-unfoldable pub commit_of : List ℕ → Commit
-commit_of word = cond (is_number word) (Number (number word)) Nothing
+unfoldable pub commit_of : List ℕ → Option ℕ
+commit_of word = cond (is_number word) (Some (number word)) None
 
 -- the ten numbers: which listing, its N or A, `--from`, `--to`, whether `--csv` and `--status` are there, the option that waits for its
 -- number, and the words that name the archive, a range, and what is not understood (0: none)
@@ -100,10 +98,10 @@ number_fits o n = cond (eqb o 3) (leb n 255) (cond (eqb o 4) (leb 1 n) true)
 unfoldable pub place_for : ℕ → ℕ
 place_for o = cond (eqb o 7) from_at (cond (eqb o 8) until_at number_at)
 
-abbrev pub number_taken : List ℕ → ℕ → Commit → List ℕ
-number_taken a i (Number n) =
+abbrev pub number_taken : List ℕ → ℕ → Option ℕ → List ℕ
+number_taken a i (Some n) =
     cond (number_fits (get_or a wants_at 0) n) (set (set a (place_for (get_or a wants_at 0)) n) wants_at 0) (wrong a i)
-number_taken a i Nothing = wrong a i
+number_taken a i None = wrong a i
 
 -- word i, counted from 1; behind one that is not understood none is looked at
 unfoldable pub word_taken : List ℕ → ℕ → List ℕ → List ℕ

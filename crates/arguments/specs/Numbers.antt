@@ -1,20 +1,18 @@
 -- A word's number, read digit by digit, and that the text of a commit number gives it back.
-use Rattle.std.specs.Prelude.{ℕ, zero, suc, ◌+◌, ◌*◌, ◌-◌, ◌/◌, ◌%◌, ◌≤◌, ◌<◌, ◌≡◌, refl, List, [], ◌∷◌, ◌++◌, Bool, true, false, ◌&&◌, cond, length, drop, get_or, ltb, leb}
+use Rattle.std.specs.Prelude.{Option, None, Some, ℕ, zero, suc, ◌+◌, ◌*◌, ◌-◌, ◌/◌, ◌%◌, ◌≤◌, ◌<◌, ◌≡◌, refl, List, [], ◌∷◌, ◌++◌, Bool, true, false, ◌&&◌, cond, length, drop, get_or, ltb, leb}
 use Rattle.std.proofs.Common.{sym, arith, add-one, drop_of_length-le, length-append}
 use Rattle.std.proofs.Math.Seq.{drop-cons}
 use borrow.Author.Tests.{ltb-true, leb-true, leb-false, le-leb, lt-leb, eq-eqb, ne_eqb}
 use Rattle.lists.specs.Tests.{and_l, and_r, and_both}
 use Rattle.text.specs.Text.{decimal_to}
 use Rattle.text.specs.Decimal.{number_from, number_decimal}
-use Rattle.arguments.specs.declared.Commit.{Commit}
-use Rattle.arguments.specs.declared.Commit.TheVariants.{Number, Nothing}
 use Rattle.arguments.specs.Words.{is_digit, all_digits}
 use Rattle.arguments.specs.Modes.{most_commits, is_number, commit_of}
 
 -- the rest of a word behind digits that mean n
-unfoldable pub read_from : ℕ → List ℕ → Commit
-read_from n [] = Number n
-read_from n (b ∷ bs) = cond (is_digit b) (cond (leb (n * 10 + (b - 48)) most_commits) (read_from (n * 10 + (b - 48)) bs) Nothing) Nothing
+unfoldable pub read_from : ℕ → List ℕ → Option ℕ
+read_from n [] = Some n
+read_from n (b ∷ bs) = cond (is_digit b) (cond (leb (n * 10 + (b - 48)) most_commits) (read_from (n * 10 + (b - 48)) bs) None) None
 
 -- digits only add
 grows : (n : ℕ) (bs : List ℕ) → n ≤ number_from n bs
@@ -25,7 +23,7 @@ and_false : (a : Bool) → a && false ≡ false
 and_false true = refl
 and_false false = refl
 
-read_is : (n : ℕ) (bs : List ℕ) → n ≤ most_commits → read_from n bs ≡ cond (all_digits bs && leb (number_from n bs) most_commits) (Number (number_from n bs)) Nothing
+read_is : (n : ℕ) (bs : List ℕ) → n ≤ most_commits → read_from n bs ≡ cond (all_digits bs && leb (number_from n bs) most_commits) (Some (number_from n bs)) None
 unfolding read_from
 read_is n [] h = rw (le-leb n most_commits h)
 read_is n (b ∷ bs) h = by_tests (λ le. read_is (n * 10 + (b - 48)) bs le) (is_digit b) (leb (n * 10 + (b - 48)) most_commits) refl
@@ -33,11 +31,11 @@ read_is n (b ∷ bs) h = by_tests (λ le. read_is (n * 10 + (b - 48)) bs le) (is
     next : ℕ
     next = n * 10 + (b - 48)
 
-    given : List ℕ → Commit
-    given cs = cond (all_digits cs && leb (number_from next cs) most_commits) (Number (number_from next cs)) Nothing
+    given : List ℕ → Option ℕ
+    given cs = cond (all_digits cs && leb (number_from next cs) most_commits) (Some (number_from next cs)) None
 
     by_tests : (next ≤ most_commits → read_from next bs ≡ given bs) → (d k : Bool) → leb next most_commits ≡ k
-        → cond d (cond k (read_from next bs) Nothing) Nothing ≡ cond ((d && all_digits bs) && leb (number_from next bs) most_commits) (Number (number_from next bs)) Nothing
+        → cond d (cond k (read_from next bs) None) None ≡ cond ((d && all_digits bs) && leb (number_from next bs) most_commits) (Some (number_from next bs)) None
     by_tests rest false k e = refl
     by_tests rest true true e = rest (leb-true _ _ e)
     by_tests rest true false e =
@@ -49,7 +47,7 @@ pub begins : (w : List ℕ) → (length w ≡ 0 → ⊥) → commit_of w ≡ rea
 unfolding commit_of is_number
 begins w h = rw (ne_eqb (length w) 0 h) (sym (read_is 0 w (omega arith)))
 
-pub nothing_there : (w : List ℕ) → length w ≡ 0 → commit_of w ≡ Nothing
+pub nothing_there : (w : List ℕ) → length w ≡ 0 → commit_of w ≡ None
 unfolding commit_of is_number
 nothing_there w h = rw (eq-eqb (length w) 0 h)
 
@@ -63,11 +61,11 @@ digit b h = record { least = leb-true _ _ (and_l (leb 48 b) (leb b 57) h); most 
 
 -- a turn at byte i: it is no digit, the number is too large, or it goes on
 module _ (w : List ℕ) (n i : ℕ) (inside : i < length w) where
-  pub stops_at : is_digit (get_or w i 0) ≡ false → read_from n (drop i w) ≡ Nothing
+  pub stops_at : is_digit (get_or w i 0) ≡ false → read_from n (drop i w) ≡ None
   unfolding read_from
   stops_at h = rw (drop-cons w i 0 inside, h)
 
-  pub too_large : is_digit (get_or w i 0) ≡ true → most_commits < n * 10 + (get_or w i 0 - 48) → read_from n (drop i w) ≡ Nothing
+  pub too_large : is_digit (get_or w i 0) ≡ true → most_commits < n * 10 + (get_or w i 0 - 48) → read_from n (drop i w) ≡ None
   unfolding read_from
   too_large h over = rw (drop-cons w i 0 inside, h, lt-leb _ _ over)
 
@@ -75,7 +73,7 @@ module _ (w : List ℕ) (n i : ℕ) (inside : i < length w) where
   unfolding read_from
   goes_on h le = rw (add-one, drop-cons w i 0 inside, h, le-leb _ _ le)
 
-pub ends : (w : List ℕ) (n i : ℕ) → length w ≤ i → read_from n (drop i w) ≡ Number n
+pub ends : (w : List ℕ) (n i : ℕ) → length w ≤ i → read_from n (drop i w) ≡ Some n
 unfolding read_from
 ends w n i h = rw (drop_of_length-le w h)
 
@@ -107,7 +105,7 @@ not_empty k n = by_test (ltb n 10)
     by_test false e = omega (arith, simp length-append at e)
 
 -- a commit number as the playback prints it is taken
-pub printed_taken : (n : ℕ) → n ≤ most_commits → commit_of (decimal_to 10 n) ≡ Number n
+pub printed_taken : (n : ℕ) → n ≤ most_commits → commit_of (decimal_to 10 n) ≡ Some n
 unfolding commit_of is_number
 printed_taken n h =
     rw (ne_eqb (length (decimal_to 10 n)) 0 (not_empty 9 n), decimal_digits 10 n, number_decimal 10 n (omega arith), le-leb n most_commits h)

@@ -1,18 +1,13 @@
 #![tactic(auto)]
 // What the playback program is asked for, told by the words behind its name (docs/PLAYBACK.md, "Arguments").
-ghost use Rattle.std.specs.Prelude.{◌≡◌, ◌+◌, ◌≤◌, ◌<◌, length};
+ghost use Rattle.std.specs.Prelude.{◌≡◌, ◌+◌, ◌≤◌, ◌<◌, length, Some};
 ghost use Rattle.arguments.specs.Words.{is_digit, same_at, same_word};
 ghost use Rattle.text.specs.Text.{ascii, put, line_within};
 ghost use Rattle.arguments.specs.Modes.{commit_of, listing_of, other_of, is_name, name_taken, listing_taken, other_taken, option_taken, number_fits, place_for, number_taken, word_taken, ranges, settled, fresh, shown_length, shown, unclear_line, longest};
 
-// A commit number that a word gives.
-#[derive(Clone, Copy)]
-pub enum Commit {
-    Number(u32),
-    Nothing,
-}
-
 // The ten numbers that the words become: which listing, its number, a range, how it is printed, and what is known of the words so far.
+// They stay an array and their listings numbers: `take` and `settle` change every array of ten, and the definitions `word_taken` and
+// `settled` say what becomes of each number, and `player::job_of` takes each listing.
 pub const LISTING: usize = 0;
 
 pub const NUMBER: usize = 1;
@@ -66,6 +61,7 @@ pub const LINE: usize = 256;
 // What a line shows of a long word.
 const SHOWN: usize = 64;
 
+#[tactic(auto, unfolding(crate::specs::Words::is_digit))]
 fn is_digit(b: u8) -> bool
     ensures { result ≡ is_digit b }
 {
@@ -79,45 +75,35 @@ fn long(b: u8) -> u64
 }
 
 // The commit number that a word of digits is, where 32 bits hold it.
-pub fn commit_of(word: &[u8]) -> Commit
+pub fn commit_of(word: &[u8]) -> Option<u32>
     ensures { result ≡ commit_of word.now }
 {
     if word.len() == 0 {
-        return Commit::Nothing;
+        return None;
     }
     let mut n: u64 = 0;
-    let mut i = 0;
-    while i < word.len() {
+    for i in 0..word.len() {
         let b = word[i];
         if !is_digit(b) {
-            return Commit::Nothing;
+            return None;
         }
         n = n * 10 + (long(b) - 48);
         if 4294967295 < n {
-            return Commit::Nothing;
+            return None;
         }
-        i += 1;
     }
-    Commit::Number(n as u32)
+    Some(n as u32)
 }
 
 // Whether two words are the same.
 fn same(a: &[u8], b: &[u8]) -> bool
     ensures { result ≡ same_word a.now b.now }
 {
-    if a.len() != b.len() {
-        return false;
-    }
-    let mut ok = true;
-    let mut i = 0;
-    while i < a.len() {
-        ok &= a[i] == b[i];
-        i += 1;
-    }
-    ok
+    a == b
 }
 
 // The listing that a word chooses, 0 for none.
+#[tactic(auto, unfolding(crate::specs::Modes::listing_of))]
 fn listing_of(word: &[u8]) -> u64
     ensures { (result ≡ listing_of word.now) × (result ≤ 6) }
 {
@@ -143,6 +129,7 @@ fn listing_of(word: &[u8]) -> u64
 }
 
 // The other options.
+#[tactic(auto, unfolding(crate::specs::Modes::other_of))]
 fn other_of(word: &[u8]) -> u64
     ensures { result ≡ other_of word.now }
 {
@@ -162,6 +149,7 @@ fn other_of(word: &[u8]) -> u64
 }
 
 // Whether a word that is no option names an archive.
+#[tactic(auto, unfolding(crate::specs::Modes::is_name))]
 fn is_name(word: &[u8]) -> bool
     ensures { result ≡ is_name word.now }
 {
@@ -174,6 +162,7 @@ fn is_name(word: &[u8]) -> bool
     true
 }
 
+#[tactic(auto, unfolding(crate::specs::Modes::name_taken, crate::specs::Modes::wrong))]
 fn take_name(a: &mut [u64; NUMBERS], i: u64, word: &[u8])
     ensures { a.new ≡ name_taken a.old i word.now }
 {
@@ -188,6 +177,7 @@ fn take_name(a: &mut [u64; NUMBERS], i: u64, word: &[u8])
     a[FILE] = i;
 }
 
+#[tactic(auto, unfolding(crate::specs::Modes::listing_taken, crate::specs::Modes::wrong))]
 fn take_listing(a: &mut [u64; NUMBERS], i: u64, o: u64)
     ensures { a.new ≡ listing_taken a.old i o }
 {
@@ -205,6 +195,7 @@ fn take_listing(a: &mut [u64; NUMBERS], i: u64, o: u64)
     a[WANTS] = o;
 }
 
+#[tactic(auto, unfolding(crate::specs::Modes::other_taken))]
 fn take_other(a: &mut [u64; NUMBERS], i: u64, word: &[u8])
     ensures { a.new ≡ other_taken a.old i word.now }
 {
@@ -225,6 +216,7 @@ fn take_other(a: &mut [u64; NUMBERS], i: u64, word: &[u8])
     a[WANTS] = o;
 }
 
+#[tactic(auto, unfolding(crate::specs::Modes::option_taken))]
 fn take_option(a: &mut [u64; NUMBERS], i: u64, word: &[u8])
     ensures { a.new ≡ option_taken a.old i word.now }
 {
@@ -237,6 +229,7 @@ fn take_option(a: &mut [u64; NUMBERS], i: u64, word: &[u8])
 }
 
 // Whether an option takes this number.
+#[tactic(auto, unfolding(crate::specs::Modes::number_fits))]
 fn number_fits(o: u64, n: u32) -> bool
     ensures { result ≡ number_fits o n }
 {
@@ -250,6 +243,7 @@ fn number_fits(o: u64, n: u32) -> bool
 }
 
 // Where an option's number goes.
+#[tactic(auto, unfolding(crate::specs::Modes::place_for))]
 fn place_for(o: u64) -> usize
     ensures { (result ≡ place_for o) × (result < 4) }
 {
@@ -263,7 +257,7 @@ fn place_for(o: u64) -> usize
 }
 
 fn take_number(a: &mut [u64; NUMBERS], i: u64, n: u32)
-    ensures { a.new ≡ number_taken a.old i (Commit.Number n) }
+    ensures { a.new ≡ number_taken a.old i (Some n) }
 {
     let o = a[WANTS];
     if !number_fits(o, n) {
@@ -286,7 +280,7 @@ pub fn take(a: &mut [u64; NUMBERS], i: u64, word: &[u8])
         take_option(a, i, word);
         return;
     }
-    let Commit::Number(n) = commit_of(word) else {
+    let Some(n) = commit_of(word) else {
         a[WRONG] = i;
         return;
     };
@@ -294,6 +288,7 @@ pub fn take(a: &mut [u64; NUMBERS], i: u64, word: &[u8])
 }
 
 // Whether a listing can be of a range of commits.
+#[tactic(auto, unfolding(crate::specs::Modes::ranges))]
 fn ranges(listing: u64) -> bool
     ensures { result ≡ ranges listing }
 {
@@ -304,6 +299,7 @@ fn ranges(listing: u64) -> bool
 }
 
 // What is left to test behind the last word, which is word i.
+#[tactic(auto, unfolding(crate::specs::Modes::settled, crate::specs::Modes::wrong))]
 pub fn settle(a: &mut [u64; NUMBERS], i: u64)
     ensures { a.new ≡ settled a.old i }
 {
@@ -328,6 +324,7 @@ pub fn settle(a: &mut [u64; NUMBERS], i: u64)
 }
 
 // Before the first word.
+#[tactic(auto, unfolding(crate::specs::Modes::fresh))]
 pub fn nothing_asked() -> [u64; NUMBERS]
     ensures { result ≡ fresh }
 {
@@ -342,6 +339,7 @@ pub fn is_dash(word: &[u8]) -> bool
 }
 
 // Of a long word the first bytes.
+#[tactic(auto, unfolding(crate::specs::Modes::shown))]
 fn shown(word: &[u8]) -> &[u8]
     ensures { (result.now ≡ shown word.now) × (length result.now ≤ shown_length) }
 {

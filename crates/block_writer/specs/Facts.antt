@@ -1,5 +1,5 @@
 -- What a scan of records tells.
-use Rattle.std.specs.Prelude.{ℕ, zero, suc, ◌+◌, ◌-◌, ◌*◌, ◌≤◌, ◌<◌, ◌≡◌, refl, List, Bool, true, false, cond, length, take, drop, eqb, ltb}
+use Rattle.std.specs.Prelude.{ℕ, zero, suc, ◌+◌, ◌-◌, ◌*◌, ◌≤◌, ◌<◌, ◌≡◌, refl, List, Bool, true, false, cond, length, take, drop, eqb, ltb, Result, Ok, Err, IsErrAnd}
 use Rattle.std.proofs.Common.{ap, ◌∙◌, ⊎_elim, eq-or-lt_of_le, le_of_suc-le-suc, not-suc-le-zero, arith, length-drop, ltb-true, ltb-false, eqb-true, lt-ltb, le-ltb, eq-eqb, ne_eqb}
 use Rattle.std.proofs.lemmas.Bool.{eqb-false}
 use Rattle.layout.specs.Record.{header_length, value_length, entry_length, most_entries, record_length}
@@ -10,8 +10,10 @@ use Rattle.lists.specs.Stores.{to_the_end}
 use Rattle.block.specs.Block.{most_records}
 use Rattle.block.specs.Places.{size_at}
 use Rattle.block.specs.Facts.{size_at_is, head_size}
-use Rattle.block_writer.specs.declared.Scanned.{Scanned}
-use Rattle.block_writer.specs.Write.{scanned, scan_from, scan_of, start_of, entries_in}
+use Rattle.refusals.specs.declared.Refusal.{Refusal}
+use Rattle.refusals.specs.Refusals.{number_of}
+use Rattle.block_writer.specs.declared.Counts.{Counts}
+use Rattle.block_writer.specs.Write.{Scanned, Finds, scanned, scan_from, scan_of, start_of, entries_in}
 
 -- the places of the first c records
 pub starts : (s : List ℕ) (c : ℕ) → start_of s c ≡ header_length * c + entry_length * entries_in s c
@@ -78,6 +80,11 @@ pub scan_ends : (room : ℕ) (s : List ℕ) (at i e : ℕ) → length s ≤ at �
 unfolding scan_from
 scan_ends zero s at i e h = rw (le-ltb at (length s) h)
 scan_ends (suc room) s at i e h = rw (le-ltb at (length s) h)
+
+-- a refused scan
+pub finds_refusal : (r : Result Counts Refusal) (why : Refusal) (x : Scanned) → IsErrAnd r (λ y. y ≡ why) → number_of why ≡ x.number → Finds r x
+finds_refusal (Ok n) why x e h = absurd e
+finds_refusal (Err y) why x e h = ap number_of e ∙ h
 
 -- records that a scan accepts: c of them, t entries, each checked, and nothing behind them
 pub record Whole (s : List ℕ) (c t : ℕ) : Type 0 where

@@ -1,5 +1,5 @@
 -- Writing a block: number 1, then 21, 12 and 5, and the bytes.
-use Rattle.std.specs.Prelude.{ℕ, zero, suc, ◌+◌, ◌*◌, List, [], ◌∷◌, ◌++◌, cond, length, take, drop, get_or, eqb, ltb}
+use Rattle.std.specs.Prelude.{ℕ, zero, suc, ◌+◌, ◌*◌, List, [], ◌∷◌, ◌++◌, cond, length, take, drop, get_or, eqb, ltb, ◌≡◌, Result, Ok, Err}
 use Rattle.std.proofs.lemmas.List.Edits.{sets}
 use Rattle.le.specs.Width.{bytes}
 use Rattle.layout.specs.Record.{header_length, value_length, record_length}
@@ -7,9 +7,16 @@ use Rattle.record.specs.Check.{check_of}
 use Rattle.record.specs.Write.{Written, written}
 use Rattle.block.specs.Block.{most_records, joined}
 use Rattle.block.specs.Places.{counts_length, size_at}
-use Rattle.block_writer.specs.declared.Scanned.{Scanned}
+use Rattle.refusals.specs.declared.Refusal.{Refusal}
+use Rattle.refusals.specs.Refusals.{number_of}
+use Rattle.block_writer.specs.declared.Counts.{Counts}
 
 -- the number, and the records and entries before the end or before the one that is refused
+pub record Scanned : Type 0 where
+  pub number : ℕ
+  pub count : ℕ
+  pub total : ℕ
+
 abbrev pub scanned : ℕ → ℕ → ℕ → Scanned
 scanned k c t = record { number = k; count = c; total = t }
 
@@ -24,6 +31,11 @@ scan_from (suc room) s at i e =
 -- "not 1 to 64 records": no record at all
 unfoldable pub scan_of : List ℕ → Scanned
 scan_of s = cond (eqb (length s) 0) (scanned 21 0 0) (scan_from most_records s 0 0 0)
+
+-- the code's answer to a scan, which counts nothing where it refuses
+abbrev pub Finds : Result Counts Refusal → Scanned → Type 0
+Finds (Ok n) x = scanned 0 n.records n.entries ≡ x
+Finds (Err why) x = number_of why ≡ x.number
 
 -- where record i starts
 unfoldable pub start_of : List ℕ → ℕ → ℕ

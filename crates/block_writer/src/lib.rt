@@ -7,51 +7,44 @@ ghost use Rattle.layout.specs.Record.{header_length, value_length, most_entries}
 ghost use Rattle.record.specs.Write.{written};
 ghost use Rattle.block.specs.Block.{most_records, joined};
 ghost use Rattle.block.specs.Places.{counts_length, header_at, planes_at, block_length};
-ghost use Rattle.block_writer.specs.Write.{scanned, scan_of, start_of, entries_in, headers_to, addresses_to, column, plane_to, packed, block_write_of};
+ghost use Rattle.block_writer.specs.Write.{Finds, scan_of, start_of, entries_in, headers_to, addresses_to, column, plane_to, packed, block_write_of};
 ghost use Rattle.block_writer.specs.Stripes.{stripes};
+ghost use Rattle.refusals.specs.Refusals.{code};
 
-// What a scan of records finds: the number that refuses them or 0, and the records and entries before that.
+use refusals::Refusal;
+
+// How many records and entries there are.
 #[derive(Clone, Copy)]
-struct Scanned {
-    number: u32,
-    count: usize,
-    total: usize,
+struct Counts {
+    records: usize,
+    entries: usize,
 }
 
-fn found(number: u32, count: usize, total: usize) -> Scanned
-    ensures { result ≡ scanned number count total }
-{
-    Scanned {
-        number,
-        count,
-        total,
-    }
-}
-
-// 21 where there is no record or a 65th, else what record check says of the first record that it refuses, else 0.
-fn scan(s: &[u8]) -> Scanned
-    ensures { result ≡ scan_of s.now }
+// Counts records, one behind the other, each checked: refused with 21 where there is no record or a 65th, else with what record check
+// says of the first record that it refuses. Where the next record starts is known only behind that check.
+fn scan(s: &[u8]) -> Result<Counts, Refusal>
+    ensures { Finds result (scan_of s.now) }
 {
     if s.len() == 0 {
-        return found(21, 0, 0);
+        return Err(Refusal::Block);
     }
     let mut at = 0;
     let mut count: usize = 0;
     let mut total: usize = 0;
     while at < s.len() {
         if count == block::RECORDS {
-            return found(21, count, total);
+            return Err(Refusal::Block);
         }
-        let number = record::wax_record_check(&s[at..]);
-        if number != 0 {
-            return found(number, count, total);
-        }
+        record::check(&s[at..])?;
         let k = block::size_at(s, at);
         at += record::HEADER + record::ENTRY * k;
         total += k;
         count += 1;
     }
-    found(0, count, total)
+    Ok(Counts {
+        records: count,
+        entries: total,
+    })
 }
 
 // One value, a byte to each plane, from the value's place p in the first one on; the planes are t bytes long.
@@ -59,11 +52,9 @@ fn put_value(to: &mut [u8], p: usize, t: usize, s: &[u8], a: usize)
     requires { (p + 7 * t < length to.old) × (a + value_length ≤ length s.now) }
     ensures { to.new ≡ stripes value_length to.old p t (λ k. get_or s.now (a + k) 0 ∷ []) }
 {
-    let mut k = 0;
-    while k < record::VALUE {
+    for k in 0..record::VALUE {
         let q = block::plane_at(p, t, k);
         to[q] = s[a + k];
-        k += 1;
     }
 }
 
@@ -71,10 +62,8 @@ fn put_values(to: &mut [u8], p: usize, t: usize, s: &[u8], a: usize, n: usize)
     requires { (n ≤ t) × (p + n + 7 * t ≤ length to.old) × (a + value_length * n ≤ length s.now) }
     ensures { to.new ≡ stripes value_length to.old p t (λ k. column s.now (a + k) n) }
 {
-    let mut i = 0;
-    while i < n {
+    for i in 0..n {
         put_value(to, p + i, t, s, a + record::VALUE * i);
-        i += 1;
     }
 }
 
@@ -95,13 +84,11 @@ fn put_heads(to: &mut [u8], s: &[u8], c: usize)
     let a = block::header_at(c);
     let mut at: usize = 0;
     let mut q: usize = 0;
-    let mut i = 0;
-    while i < c {
+    for i in 0..c {
         let k = block::size_at(s, at);
         put_head(to, block::header_at(i), a + q, s, at, k);
         at += record::HEADER + record::ENTRY * k;
         q += k;
-        i += 1;
     }
 }
 
@@ -113,13 +100,11 @@ fn put_planes(to: &mut [u8], s: &[u8], c: usize, t: usize)
     let p = block::header_at(c) + t;
     let mut at: usize = 0;
     let mut q: usize = 0;
-    let mut i = 0;
-    while i < c {
+    for i in 0..c {
         let k = block::size_at(s, at);
         put_values(to, p + q, t, s, at + record::HEADER + k, k);
         at += record::HEADER + record::ENTRY * k;
         q += k;
-        i += 1;
     }
 }
 
@@ -134,19 +119,23 @@ fn put_block(to: &mut [u8], s: &[u8], c: usize, t: usize)
     put_planes(to, s, c, t);
 }
 
+// Writes these records, one behind the other, as a block to the start of `out`. A refusal changes nothing.
+fn write(records: &[u8], out: &mut [u8]) -> Result<(), Refusal>
+    ensures { written out.new (code result) ≡ block_write_of records.now out.old }
+{
+    if out.len() < records.len() + block::COUNTS {
+        return Err(Refusal::Buffer);
+    }
+    let found = scan(records)?;
+    put_block(out, records, found.records, found.entries);
+    Ok(())
+}
+
 // Writes these records, one behind the other, as a block to the start of `out`. 1 where `out` is under their length plus 4; 21 where there
 // is no record; then record by record 21 at a 65th, 12 where the bytes end inside it, 5 where it breaks a record's rules; else 0. Any
 // commit numbers are taken. A refusal changes nothing.
 pub fn wax_block_write(records: &[u8], out: &mut [u8]) -> u32
     ensures { written out.new result ≡ block_write_of records.now out.old }
 {
-    if out.len() < records.len() + block::COUNTS {
-        return 1;
-    }
-    let found = scan(records);
-    if found.number != 0 {
-        return found.number;
-    }
-    put_block(out, records, found.count, found.total);
-    0
+    refusals::code(write(records, out))
 }

@@ -17,7 +17,8 @@ const WORD: usize = record::VALUE;
 
 const FEW_WORDS: usize = (record::HEADER + record::ENTRY * (2 * record::FEW)) / WORD;
 
-// What two archives are to each other, or the number that refuses one of them. They part at the first commit that differs.
+// What two archives are to each other, or the number that refuses one of them. They part at the first commit that differs. No `Result`:
+// theorems `records_compared` and `same_answer` of `compare_meaning` speak of it.
 #[derive(Clone, Copy)]
 pub enum Order {
     Same,
@@ -36,6 +37,7 @@ struct Reach {
 }
 
 // Whether n bytes are a word at least, and few words.
+#[tactic(auto, unfolding(crate::specs::Words::is_words))]
 fn few_words(n: usize) -> bool
     ensures { result ≡ is_words n }
 {
@@ -43,6 +45,7 @@ fn few_words(n: usize) -> bool
 }
 
 // Where word i of n bytes starts: the word that ends with the last byte, past the last whole one.
+#[tactic(auto, unfolding(crate::specs::Words::word_from))]
 fn word_from(i: usize, n: usize) -> usize
     requires { (word_length ≤ n) × (i < few_words) }
     ensures { (result ≡ word_from i n) × (result + word_length ≤ n) }
@@ -54,16 +57,15 @@ fn word_from(i: usize, n: usize) -> usize
 }
 
 // Whether the first n bytes of both, which are few words, are the same.
+#[tactic(auto, unfolding(lists::specs::Tests::all_to, crate::specs::Words::same_word))]
 fn same_words(a: &[u8], b: &[u8], n: usize) -> bool
     requires { (n ≤ length a.now) × (n ≤ length b.now) × (is_words n ≡ true) }
     ensures { result ≡ all_to (same_byte a.now b.now) n }
 {
     let mut same = true;
-    let mut i = 0;
-    while i < FEW_WORDS {
+    for i in 0..FEW_WORDS {
         let at = word_from(i, n);
         same &= le::get_u64(a, at) == le::get_u64(b, at);
-        i += 1;
     }
     same
 }
@@ -82,10 +84,8 @@ pub fn same_bytes(a: &[u8], b: &[u8], n: usize) -> bool
         return same_words(a, b, n);
     }
     let mut same = true;
-    let mut i = 0;
-    while i < n {
+    for i in 0..n {
         same &= a[i] == b[i];
-        i += 1;
     }
     same
 }
@@ -134,6 +134,7 @@ fn rest_number(bytes: &[u8], last: u32, values: &[u64; 256]) -> u32
 }
 
 // The commit number of the first record of these bytes; 0 where its header is not whole.
+#[tactic(auto, unfolding(crate::specs::Compare::commit_at))]
 fn commit_of(bytes: &[u8]) -> u32
     ensures { result ≡ commit_at bytes.now }
 {
@@ -144,6 +145,7 @@ fn commit_of(bytes: &[u8]) -> u32
 }
 
 // What the bytes behind the common records tell.
+#[tactic(auto, unfolding(crate::specs::Compare::ending_of))]
 fn ending(first: &[u8], second: &[u8]) -> Order
     ensures { result ≡ ending_of first.now second.now }
 {
@@ -160,6 +162,7 @@ fn ending(first: &[u8], second: &[u8]) -> Order
 }
 
 // Plays the rests of both, the first archive's first.
+#[tactic(auto, unfolding(crate::specs::Compare::decided_of))]
 fn decide(first: &[u8], second: &[u8], last: u32, values: &[u64; 256]) -> Order
     ensures { result ≡ decided_of first.now second.now last values.now }
 {

@@ -3,28 +3,35 @@
 //
 // Memory is constant: a buffer and 256 values for each archive. A buffer holds the longest record that two size fields can claim,
 // 16 + 9 * (65,535 + 65,535) bytes, so that a record is called short only where the archive itself ends inside it.
-ghost use Rattle.std.specs.Prelude.{◌≤◌, ◌≡◌, ◌%◌, length};
+ghost use Rattle.std.specs.Prelude.{◌≡◌, ◌%◌};
 ghost use Rattle.std.specs.Process.{exit_status};
 
 use archive::{Answer, Fields, Found};
 use std::fs::File;
+use std::ops::ControlFlow;
 use std::process::ExitCode;
-use streams::{More, read_more, tell};
+use streams::{Told, read_more, tell, written};
 
-// The exit statuses.
-const SAME: u32 = 0;
+// How the program ends. The numbers are its exit statuses.
+#[derive(Clone, Copy)]
+enum Status {
+    Same = 0,
+    Other = 1,
+    Refused = 2,
+    Failed = 3,
+}
 
-const OTHER: u32 = 1;
-
-const REFUSED: u32 = 2;
-
-const FAILED: u32 = 3;
-
-// In place of a number: the archive could not be read.
-const UNREAD: u32 = 255;
+// What becomes of an archive: its next record is to be played, it is played to its end, it is refused with a number, or it cannot be read.
+#[derive(Clone, Copy)]
+enum State {
+    Going,
+    Done,
+    Refused(u32),
+    Unread,
+}
 
 // How far one of the archives is: the bytes of its buffer that are not played yet, where in the archive they start, whether all of it
-// is read, its last commit number, the number that refuses it, and whether there is more to do.
+// is read, its last commit number, and what becomes of it.
 #[derive(Clone, Copy)]
 struct Side {
     at: usize,
@@ -32,8 +39,7 @@ struct Side {
     byte: u64,
     ended: bool,
     last: u32,
-    number: u32,
-    going: bool,
+    state: State,
 }
 
 // Both archives' files.
@@ -43,99 +49,150 @@ struct Files {
     second: File,
 }
 
-// Both, and whether the next record may be common.
-#[derive(Drop)]
+// How far both are.
+#[derive(Clone, Copy)]
 struct Pair {
     first: Side,
     second: Side,
-    going: bool,
 }
 
-// The field in which two records differ first, its two values, and the counter that it is of.
+// An entry of a record.
+#[derive(Clone, Copy)]
+struct Entry {
+    address: u8,
+    value: u64,
+}
+
+// The fields in which records differ. A value's is of a counter.
+#[derive(Clone, Copy)]
+enum Field {
+    Reads,
+    Writes,
+    Transaction,
+    Station,
+    Kind,
+    ReadCounter,
+    WrittenCounter,
+    ReadValue(u8),
+    WrittenValue(u8),
+}
+
+// The field in which two records differ first, and its two values.
 #[derive(Clone, Copy)]
 struct Difference {
-    field: u32,
+    field: Field,
     first: u64,
     second: u64,
-    counter: u8,
 }
 
-fn least(a: usize, b: usize) -> usize
-    ensures { (result ≤ a) × (result ≤ b) }
-{
-    if a < b { a } else { b }
+// Where two archives part: behind this commit, at this byte, with this difference.
+#[derive(Clone, Copy)]
+struct Parting {
+    last: u32,
+    byte: u64,
+    difference: Difference,
 }
 
-// Each function below that says something writes it unless an earlier one could not, and answers whether the next may.
+// Each function below that says something on standard output fails where that cannot be written, which is told then.
 
-fn say(rt: HostRuntime, going: bool, text: &[u8]) -> bool {
-    if !going {
-        return false;
-    }
-    match rt.write_all(text) {
-        Ok(()) => true,
-        Err(error) => {
-            streams::fail(rt, b"compare: standard output", error);
-            false
-        }
-    }
+fn say(rt: HostRuntime, text: &[u8]) -> Result<(), Told> {
+    written(rt, b"compare: standard output", rt.write_all(text))
 }
 
-fn say_number(rt: HostRuntime, going: bool, n: u64) -> bool {
+fn say_number(rt: HostRuntime, n: u64) -> Result<(), Told> {
     let mut text = [0u8; player::DIGITS];
     let k = streams::decimal(n, &mut text);
-    say(rt, going, &text[..k])
+    say(rt, &text[..k])
+}
+
+impl Side {
+    // Nothing of the archive is read yet.
+    fn opened() -> Side {
+        Side {
+            at: 0,
+            len: 0,
+            byte: 0,
+            ended: false,
+            last: 0,
+            state: State::Going,
+        }
+    }
+
+    fn going(self) -> bool {
+        match self.state {
+            State::Going => true,
+            State::Done => false,
+            State::Refused(_) => false,
+            State::Unread => false,
+        }
+    }
+
+    // Whether more bytes can make another answer.
+    fn wants_more(self) -> bool {
+        match self.state {
+            State::Going => false,
+            State::Done => true,
+            State::Refused(number) => player::wants_more(number),
+            State::Unread => false,
+        }
+    }
+
+    // Nothing more is done.
+    fn stopped(self, state: State) -> Side {
+        let mut s = self;
+        s.ended = true;
+        s.state = state;
+        s
+    }
+
+    // The place behind so many bytes of the buffer.
+    fn further(self, length: usize) -> usize {
+        if self.len < self.at {
+            return self.len;
+        }
+        self.at + length.min(self.len - self.at)
+    }
+
+    // Behind a record of so many bytes.
+    fn behind(self, length: usize, commit: u32) -> Side {
+        let mut s = self;
+        s.at = self.further(length);
+        s.byte = words::further(self.byte, length);
+        s.last = commit;
+        s
+    }
 }
 
 // Keeps what is not played and reads behind it.
 fn refill(rt: HostRuntime, file: &File, input: &mut [u8], s: Side) -> Side {
-    let len = least(s.len, input.len());
-    let at = least(s.at, len);
+    let len = s.len.min(input.len());
+    let at = s.at.min(len);
     let left = player::move_down(input, at, len);
     let mut from = file;
+    let mut t = s;
+    t.at = 0;
     match read_more(&mut from, input, left) {
-        More::Bytes(n) => Side {
-            at: 0,
-            len: n,
-            byte: s.byte,
-            ended: false,
-            last: s.last,
-            number: s.number,
-            going: s.going,
-        },
-        More::End => Side {
-            at: 0,
-            len: left,
-            byte: s.byte,
-            ended: true,
-            last: s.last,
-            number: s.number,
-            going: s.going,
-        },
-        More::Failed(error) => {
-            streams::fail(rt, b"compare: an archive cannot be read", error);
-            stopped(s, UNREAD)
+        Ok(Some(n)) => {
+            t.len = n;
+            t.ended = false;
+            t
         }
-    }
-}
-
-// Nothing more is done, for this number.
-fn stopped(s: Side, number: u32) -> Side {
-    Side {
-        at: s.at,
-        len: s.len,
-        byte: s.byte,
-        ended: true,
-        last: s.last,
-        number,
-        going: false,
+        Ok(None) => {
+            t.len = left;
+            t.ended = true;
+            t
+        }
+        Err(error) => {
+            streams::fail(rt, b"compare: an archive cannot be read", error);
+            s.stopped(State::Unread)
+        }
     }
 }
 
 // The bytes of a buffer that are not played yet.
 fn rest(input: &[u8], s: Side) -> &[u8] {
-    let len = least(s.len, input.len());
-    let at = least(s.at, len);
+    let len = s.len.min(input.len());
+    let at = s.at.min(len);
     &input[at..len]
 }
 
@@ -146,11 +203,10 @@ fn is_whole(input: &[u8], s: Side) -> bool {
 }
 
 // Reads until the next record is whole in the buffer or the archive ends. A proved loop has to end, and nothing says that a file does: it
-// counts down from a number that no run uses up.
+// counts to a number that no run reaches.
 fn fetch(rt: HostRuntime, file: &File, input: &mut [u8], s: Side) -> Side {
     let mut t = s;
-    let mut turns = u64::MAX;
-    while turns > 0 {
+    for _ in 0..u64::MAX {
         if t.ended {
             return t;
         }
@@ -158,55 +214,30 @@ fn fetch(rt: HostRuntime, file: &File, input: &mut [u8], s: Side) -> Side {
             return t;
         }
         t = refill(rt, file, input, t);
-        turns -= 1;
     }
     t
-}
-
-// The place behind so many bytes of the buffer.
-fn further(s: Side, length: usize) -> usize {
-    if s.len < s.at {
-        return s.len;
-    }
-    s.at + least(length, s.len - s.at)
-}
-
-// Behind a record of so many bytes.
-fn behind(s: Side, length: usize, commit: u32) -> Side {
-    Side {
-        at: further(s, length),
-        len: s.len,
-        byte: words::further(s.byte, length),
-        ended: s.ended,
-        last: commit,
-        number: s.number,
-        going: s.going,
-    }
 }
 
 // Plays the next record of an archive.
 fn play_one(input: &[u8], values: &mut [u64; 256], s: Side) -> Side {
     match replay::replay(rest(input, s), 0, s.last, values) {
-        Answer::Record(f) => behind(s, f.end, f.commit),
-        Answer::End => stopped(s, 0),
-        Answer::Refused(number) => stopped(s, number),
+        Answer::Record(f) => s.behind(f.end, f.commit),
+        Answer::End => s.stopped(State::Done),
+        Answer::Refused(number) => s.stopped(State::Refused(number)),
     }
 }
 
 // Plays the next record of an archive; it is read first only where it is not whole in the buffer.
 fn step(rt: HostRuntime, file: &File, input: &mut [u8], values: &mut [u64; 256], s: Side) -> Side {
     let there = play_one(input, values, s);
-    if there.going {
-        return there;
-    }
     if s.ended {
         return there;
     }
-    if !player::wants_more(there.number) {
+    if !there.wants_more() {
         return there;
     }
     let t = fetch(rt, file, input, s);
-    if !t.going {
+    if !t.going() {
         return t;
     }
     play_one(input, values, t)
@@ -221,13 +252,11 @@ fn finish(
     s: Side,
 ) -> Side {
     let mut t = s;
-    let mut turns = u64::MAX;
-    while turns > 0 {
-        if !t.going {
+    for _ in 0..u64::MAX {
+        if !t.going() {
             return t;
         }
         t = step(rt, file, input, values, t);
-        turns -= 1;
     }
     t
 }
@@ -237,27 +266,22 @@ fn is_common(part: &[u8], other: &[u8]) -> bool {
     compare::same_bytes(part, other, record::claimed_length(part))
 }
 
-fn pair_of(first: Side, second: Side, going: bool) -> Pair {
-    Pair {
-        first,
-        second,
-        going,
-    }
-}
-
-// Plays the next record of both, where it is common.
-fn play_both(a: &[u8], b: &[u8], values: &mut [u64; 256], p: Side, q: Side) -> Pair {
+// Plays the next record of both; none where it is not common.
+fn play_both(a: &[u8], b: &[u8], values: &mut [u64; 256], pair: Pair) -> Option<Pair> {
+    let p = pair.first;
+    let q = pair.second;
     let part = rest(a, p);
     if !is_common(part, rest(b, q)) {
-        return pair_of(p, q, false);
+        return None;
     }
     match replay::replay(part, 0, p.last, values) {
         Answer::Record(f) => {
-            let first = behind(p, f.end, f.commit);
-            pair_of(first, behind(q, f.end, f.commit), true)
+            let first = p.behind(f.end, f.commit);
+            let second = q.behind(f.end, f.commit);
+            Some(Pair { first, second })
         }
-        Answer::End => pair_of(p, q, false),
-        Answer::Refused(_) => pair_of(p, q, false),
+        Answer::End => None,
+        Answer::Refused(_) => None,
     }
 }
 
@@ -269,16 +293,18 @@ fn step_both(
     b: &mut [u8],
     values: &mut [u64; 256],
     pair: Pair,
-) -> Pair {
-    let first = pair.first;
-    let second = pair.second;
-    let there = play_both(a, b, values, first, second);
-    if there.going {
-        return there;
+) -> ControlFlow<Pair, Pair> {
+    match play_both(a, b, values, pair) {
+        Some(next) => return ControlFlow::Continue(next),
+        None => {}
     }
-    let p = fetch(rt, &files.first, a, first);
-    let q = fetch(rt, &files.second, b, second);
-    play_both(a, b, values, p, q)
+    let first = fetch(rt, &files.first, a, pair.first);
+    let second = fetch(rt, &files.second, b, pair.second);
+    let read = Pair { first, second };
+    match play_both(a, b, values, read) {
+        Some(next) => ControlFlow::Continue(next),
+        None => ControlFlow::Break(read),
+    }
 }
 
 // Plays what both have in common.
@@ -288,34 +314,33 @@ fn together(
     a: &mut [u8],
     b: &mut [u8],
     values: &mut [u64; 256],
-    first: Side,
-    second: Side,
 ) -> Pair {
-    let mut pair = pair_of(first, second, true);
-    let mut turns = u64::MAX;
-    while turns > 0 {
-        if !pair.going {
-            return pair;
+    let first = Side::opened();
+    let second = Side::opened();
+    let mut pair = Pair { first, second };
+    for _ in 0..u64::MAX {
+        match step_both(rt, files, a, b, values, pair) {
+            ControlFlow::Continue(next) => {
+                pair = next;
+            }
+            ControlFlow::Break(parted) => return parted,
         }
-        pair = step_both(rt, files, a, b, values, pair);
-        turns -= 1;
     }
     pair
 }
 
 // How many bytes both begin with.
 fn common_bytes(a: &[u8], b: &[u8]) -> usize {
-    let n = least(a.len(), b.len());
-    let mut i = 0;
-    while i < n {
+    let n = a.len().min(b.len());
+    for i in 0..n {
         if a[i] != b[i] {
             return i;
         }
-        i += 1;
     }
     n
 }
 
+// What is looked up where the bytes are no record: that is found out before either archive is known to be accepted.
 fn no_fields() -> Fields {
     Fields {
         at: 0,
@@ -337,66 +362,68 @@ fn fields_of(part: &[u8], last: u32) -> Fields {
     }
 }
 
-fn address_of(part: &[u8], k: u32, i: u32) -> u8 {
+// Entry i of k.
+fn entry_of(part: &[u8], k: u32, i: u32) -> Entry {
     let Found::Entry { address, value } = archive::entry(part, 0, k, i) else {
-        return 0;
+        return Entry {
+            address: 0,
+            value: 0,
+        };
     };
-    address
+    Entry { address, value }
 }
 
-fn value_of(part: &[u8], k: u32, i: u32) -> u64 {
-    let Found::Entry { address, value } = archive::entry(part, 0, k, i) else {
-        return 0;
-    };
-    value
-}
-
-// Whether entry i of k is the same in both: its counter, or its value.
-fn same_entry(a: &[u8], b: &[u8], k: u32, i: u32, values: bool) -> bool {
-    if values {
-        return value_of(a, k, i) == value_of(b, k, i);
-    }
-    address_of(a, k, i) == address_of(b, k, i)
-}
-
-// The first of k entries that is another; k where none is.
-fn other_entry(a: &[u8], b: &[u8], k: u32, values: bool) -> u32 {
-    let mut i: u32 = 0;
-    while i < k {
-        if !same_entry(a, b, k, i, values) {
-            return i;
+// The first of k entries that is of another counter.
+fn other_address(a: &[u8], b: &[u8], k: u32) -> Option<u32> {
+    for i in 0..k {
+        if entry_of(a, k, i).address != entry_of(b, k, i).address {
+            return Some(i);
         }
-        i += 1;
     }
-    k
+    None
 }
 
-fn differs(field: u32, first: u64, second: u64, counter: u8) -> Difference {
+// The first of k entries with another value.
+fn other_value(a: &[u8], b: &[u8], k: u32) -> Option<u32> {
+    for i in 0..k {
+        if entry_of(a, k, i).value != entry_of(b, k, i).value {
+            return Some(i);
+        }
+    }
+    None
+}
+
+fn differs(field: Field, first: u64, second: u64) -> Difference {
     Difference {
         field,
         first,
         second,
-        counter,
     }
 }
 
 // The first entry in which two records of n reads and k entries differ.
 fn entry_difference(a: &[u8], b: &[u8], n: u32, k: u32) -> Difference {
-    let i = other_entry(a, b, k, false);
-    if i < k {
-        let first = le::long(le::wide(address_of(a, k, i)));
-        let second = le::long(le::wide(address_of(b, k, i)));
-        let field: u32 = if i < n { 5 } else { 6 };
-        return differs(field, first, second, 0);
+    match other_address(a, b, k) {
+        Some(i) => {
+            let field = if i < n {
+                Field::ReadCounter
+            } else {
+                Field::WrittenCounter
+            };
+            let first = entry_of(a, k, i).address as u64;
+            differs(field, first, entry_of(b, k, i).address as u64)
+        }
+        None => {
+            let j = other_value(a, b, k).unwrap_or(k);
+            let first = entry_of(a, k, j);
+            let field = if j < n {
+                Field::ReadValue(first.address)
+            } else {
+                Field::WrittenValue(first.address)
+            };
+            differs(field, first.value, entry_of(b, k, j).value)
+        }
     }
-    let j = other_entry(a, b, k, true);
-    let field: u32 = if j < n { 7 } else { 8 };
-    differs(
-        field,
-        value_of(a, k, j),
-        value_of(b, k, j),
-        address_of(a, k, j),
-    )
 }
 
 // What differs first in two records behind the same commit.
@@ -404,174 +431,153 @@ fn first_difference(a: &[u8], b: &[u8], last: u32) -> Difference {
     let f = fields_of(a, last);
     let g = fields_of(b, last);
     if f.reads != g.reads {
-        return differs(0, le::long(f.reads), le::long(g.reads), 0);
+        return differs(Field::Reads, u64::from(f.reads), u64::from(g.reads));
     }
     if f.writes != g.writes {
-        return differs(1, le::long(f.writes), le::long(g.writes), 0);
+        return differs(Field::Writes, u64::from(f.writes), u64::from(g.writes));
     }
     if f.transaction != g.transaction {
-        return differs(2, le::long(f.transaction), le::long(g.transaction), 0);
+        return differs(
+            Field::Transaction,
+            u64::from(f.transaction),
+            u64::from(g.transaction),
+        );
     }
     if f.station != g.station {
-        return differs(3, le::long(f.station), le::long(g.station), 0);
+        return differs(Field::Station, u64::from(f.station), u64::from(g.station));
     }
     if f.kind != g.kind {
-        return differs(4, le::long(f.kind), le::long(g.kind), 0);
+        return differs(Field::Kind, u64::from(f.kind), u64::from(g.kind));
     }
     entry_difference(a, b, f.reads, full::entry_count(f))
 }
 
 // What is said in front of the two values of a field.
-fn say_field(rt: HostRuntime, on: bool, d: Difference) -> bool {
-    let field = d.field;
+fn say_field(rt: HostRuntime, field: Field) -> Result<(), Told> {
     match field {
-        0 => say(rt, on, b"its reads are "),
-        1 => say(rt, on, b"its writes are "),
-        2 => say(rt, on, b"its transaction is "),
-        3 => say(rt, on, b"its station is "),
-        4 => say(rt, on, b"its station's kind is "),
-        5 => say(rt, on, b"it reads counter "),
-        6 => say(rt, on, b"it writes counter "),
-        _ => {
-            let on = say(rt, on, b"counter ");
-            let on = say_number(rt, on, le::long(le::wide(d.counter)));
-            if field == 7 {
-                return say(rt, on, b" is read as ");
-            }
-            say(rt, on, b" is written as ")
-        }
+        Field::Reads => say(rt, b"its reads are "),
+        Field::Writes => say(rt, b"its writes are "),
+        Field::Transaction => say(rt, b"its transaction is "),
+        Field::Station => say(rt, b"its station is "),
+        Field::Kind => say(rt, b"its station's kind is "),
+        Field::ReadCounter => say(rt, b"it reads counter "),
+        Field::WrittenCounter => say(rt, b"it writes counter "),
+        Field::ReadValue(counter) => say_counter(rt, counter as u64, b" is read as "),
+        Field::WrittenValue(counter) => say_counter(rt, counter as u64, b" is written as "),
     }
 }
 
-fn say_both(rt: HostRuntime, on: bool, first: u64, second: u64) -> bool {
-    let on = say_number(rt, on, first);
-    let on = say(rt, on, b" in the first and ");
-    let on = say_number(rt, on, second);
-    say(rt, on, b" in the second\n")
+fn say_counter(rt: HostRuntime, counter: u64, text: &[u8]) -> Result<(), Told> {
+    say(rt, b"counter ")?;
+    say_number(rt, counter)?;
+    say(rt, text)
+}
+
+fn say_both(rt: HostRuntime, first: u64, second: u64) -> Result<(), Told> {
+    say_number(rt, first)?;
+    say(rt, b" in the first and ")?;
+    say_number(rt, second)?;
+    say(rt, b" in the second\n")
 }
 
 // A line for each counter that ends otherwise.
-fn say_counters(rt: HostRuntime, on: bool, first: &[u64; 256], second: &[u64; 256]) -> bool {
-    let mut going = on;
+fn say_counters(rt: HostRuntime, first: &[u64; 256], second: &[u64; 256]) -> Result<(), Told> {
     let mut none = true;
-    let mut i: usize = 0;
-    while i < 256 {
+    for i in 0..256 {
         if first[i] != second[i] {
             none = false;
-            let more = say(rt, going, b"counter ");
-            let more = say_number(rt, more, i as u64);
-            let more = say(rt, more, b" ends as ");
-            going = say_both(rt, more, first[i], second[i]);
+            say_counter(rt, i as u64, b" ends as ")?;
+            say_both(rt, first[i], second[i])?;
         }
-        i += 1;
     }
     if none {
-        return say(rt, going, b"every counter ends the same\n");
+        return say(rt, b"every counter ends the same\n");
     }
-    going
+    Ok(())
 }
 
-fn status(on: bool, number: u32) -> u32 {
-    if on { number } else { FAILED }
-}
-
-fn commits(rt: HostRuntime, on: bool, from: u32, to: u32) -> bool {
+fn commits(rt: HostRuntime, from: u32, to: u32) -> Result<(), Told> {
     if to < from {
-        return say(rt, on, b"0 commits");
+        return say(rt, b"0 commits");
     }
     if to - from == 1 {
-        return say(rt, on, b"1 commit");
+        return say(rt, b"1 commit");
     }
-    let on = say_number(rt, on, le::long(to - from));
-    say(rt, on, b" commits")
+    say_number(rt, u64::from(to - from))?;
+    say(rt, b" commits")
 }
 
-fn say_same(rt: HostRuntime, last: u32, byte: u64) -> u32 {
-    let on = say(rt, true, b"the archives are the same: ");
-    let on = commits(rt, on, 0, last);
-    let on = say(rt, on, b", ");
-    let on = say_number(rt, on, byte);
-    status(say(rt, on, b" bytes\n"), SAME)
+fn say_same(rt: HostRuntime, last: u32, byte: u64) -> Result<(), Told> {
+    say(rt, b"the archives are the same: ")?;
+    commits(rt, 0, last)?;
+    say(rt, b", ")?;
+    say_number(rt, byte)?;
+    say(rt, b" bytes\n")
 }
 
-// One archive is an early part of the other.
-fn say_early(rt: HostRuntime, first: bool, last: u32, to: u32) -> bool {
-    let on = if first {
-        say(
-            rt,
-            true,
-            b"the first archive is an early part of the second: it ends behind commit ",
-        )
-    } else {
-        say(
-            rt,
-            true,
-            b"the second archive is an early part of the first: it ends behind commit ",
-        )
-    };
-    let on = say_number(rt, on, le::long(last));
-    let on = say(rt, on, b", and the other has ");
-    let on = commits(rt, on, last, to);
-    say(rt, on, b" more\n")
+// One archive is an early part of the other: `text` says which.
+fn say_early(rt: HostRuntime, text: &[u8], last: u32, to: u32) -> Result<(), Told> {
+    say(rt, text)?;
+    say_number(rt, u64::from(last))?;
+    say(rt, b", and the other has ")?;
+    commits(rt, last, to)?;
+    say(rt, b" more\n")
 }
 
 // They part behind a common commit, at a byte.
-fn say_parts(
-    rt: HostRuntime,
-    last: u32,
-    byte: u64,
-    d: Difference,
-    first: u32,
-    second: u32,
-) -> bool {
-    let on = say(rt, true, b"the archives part at commit ");
-    let on = say_number(rt, on, le::long(last) + 1);
-    let on = say(rt, on, b", byte ");
-    let on = say_number(rt, on, byte);
-    let on = say(rt, on, b": ");
-    let on = say_field(rt, on, d);
-    let on = say_both(rt, on, d.first, d.second);
-    let on = say(rt, on, b"behind commit ");
-    let on = say_number(rt, on, le::long(last));
-    let on = say(rt, on, b" the first has ");
-    let on = commits(rt, on, last, first);
-    let on = say(rt, on, b" more, the second ");
-    let on = commits(rt, on, last, second);
-    say(rt, on, b" more\n")
+fn say_parts(rt: HostRuntime, parting: Parting, first: u32, second: u32) -> Result<(), Told> {
+    let last = parting.last;
+    let d = parting.difference;
+    say(rt, b"the archives part at commit ")?;
+    say_number(rt, u64::from(last) + 1)?;
+    say(rt, b", byte ")?;
+    say_number(rt, parting.byte)?;
+    say(rt, b": ")?;
+    say_field(rt, d.field)?;
+    say_both(rt, d.first, d.second)?;
+    say(rt, b"behind commit ")?;
+    say_number(rt, u64::from(last))?;
+    say(rt, b" the first has ")?;
+    commits(rt, last, first)?;
+    say(rt, b" more, the second ")?;
+    commits(rt, last, second)?;
+    say(rt, b" more\n")
 }
 
-// Both are accepted: `common` is the state of the first behind the common records.
-fn say_order(
-    rt: HostRuntime,
-    common: Side,
-    byte: u64,
-    d: Difference,
-    p: Side,
-    q: Side,
-    first: &[u64; 256],
-    second: &[u64; 256],
-) -> u32 {
-    let last = common.last;
+// What two accepted archives are to each other.
+fn say_order(rt: HostRuntime, parting: Parting, p: Side, q: Side) -> Result<Status, Told> {
+    let last = parting.last;
     if p.last == last {
         if q.last == last {
-            return say_same(rt, last, p.byte);
+            say_same(rt, last, p.byte)?;
+            return Ok(Status::Same);
         }
-        let on = say_early(rt, true, last, q.last);
-        return status(say_counters(rt, on, first, second), OTHER);
+        say_early(
+            rt,
+            b"the first archive is an early part of the second: it ends behind commit ",
+            last,
+            q.last,
+        )?;
+        return Ok(Status::Other);
     }
     if q.last == last {
-        let on = say_early(rt, false, last, p.last);
-        return status(say_counters(rt, on, first, second), OTHER);
+        say_early(
+            rt,
+            b"the second archive is an early part of the first: it ends behind commit ",
+            last,
+            p.last,
+        )?;
+        return Ok(Status::Other);
     }
-    let on = say_parts(rt, last, byte, d, p.last, q.last);
-    status(say_counters(rt, on, first, second), OTHER)
+    say_parts(rt, parting, p.last, q.last)?;
+    Ok(Status::Other)
 }
 
 // The words of `words`, which begin with the playback program's name.
 fn say_fault(rt: HostRuntime, part: &[u8], start: u64, last: u32, values: &[u64; 256]) {
     let mut line = [0u8; words::LINE];
     let e = words::fault_line(&mut line, 0, start, fault::first_fault(part, last, values));
-    let length = least(e, words::LINE);
+    let length = e.min(words::LINE);
     if length < words::PREFIX {
         return;
     }
@@ -579,30 +585,45 @@ fn say_fault(rt: HostRuntime, part: &[u8], start: u64, last: u32, values: &[u64;
     tell(rt, &line[words::PREFIX..length]);
 }
 
-// `the first archive is refused: N after K`, and what is wrong with its next record.
-fn say_refused(rt: HostRuntime, name: &[u8], input: &[u8], s: Side, values: &[u64; 256]) -> u32 {
-    if s.number == UNREAD {
-        return FAILED;
-    }
-    let on = say(rt, true, name);
-    let on = say(rt, on, b" archive: refused ");
-    let on = say_number(rt, on, le::long(s.number));
-    let on = say(rt, on, b" after ");
-    let on = say_number(rt, on, le::long(s.last));
-    let on = say(rt, on, b"\n");
+// `the first archive: refused N after K`, and what is wrong with its next record.
+fn say_refused(
+    rt: HostRuntime,
+    name: &[u8],
+    number: u32,
+    input: &[u8],
+    s: Side,
+    values: &[u64; 256],
+) -> Result<Status, Told> {
+    let said = say_number_after(rt, name, number, s.last);
     say_fault(rt, rest(input, s), s.byte, s.last, values);
-    status(on, REFUSED)
+    said?;
+    Ok(Status::Refused)
 }
 
-fn opened() -> Side {
-    Side {
-        at: 0,
-        len: 0,
-        byte: 0,
-        ended: false,
-        last: 0,
-        number: 0,
-        going: true,
+fn say_number_after(rt: HostRuntime, name: &[u8], number: u32, last: u32) -> Result<(), Told> {
+    say(rt, name)?;
+    say(rt, b" archive: refused ")?;
+    say_number(rt, u64::from(number))?;
+    say(rt, b" after ")?;
+    say_number(rt, u64::from(last))?;
+    say(rt, b"\n")
+}
+
+// Both archives are accepted.
+fn say_all(
+    rt: HostRuntime,
+    parting: Parting,
+    p: Side,
+    q: Side,
+    first: &[u64; 256],
+    second: &[u64; 256],
+) -> Result<Status, Told> {
+    match say_order(rt, parting, p, q)? {
+        Status::Other => {
+            say_counters(rt, first, second)?;
+            Ok(Status::Other)
+        }
+        status => Ok(status),
     }
 }
 
@@ -613,17 +634,17 @@ fn finish_second(
     b: &mut [u8],
     values: &[u64; 256],
     others: &mut [u64; 256],
-    common: Side,
+    parting: Parting,
     first: Side,
     second: Side,
-    byte: u64,
-    d: Difference,
-) -> u32 {
+) -> Result<Status, Told> {
     let q = finish(rt, &files.second, b, others, second);
-    if q.number != 0 {
-        return say_refused(rt, b"the second", b, q, others);
+    match q.state {
+        State::Refused(number) => say_refused(rt, b"the second", number, b, q, others),
+        State::Unread => Ok(Status::Failed),
+        State::Going => say_all(rt, parting, first, q, values, others),
+        State::Done => say_all(rt, parting, first, q, values, others),
     }
-    say_order(rt, common, byte, d, first, q, values, others)
 }
 
 // Both archives behind the common records, the first one first.
@@ -634,41 +655,36 @@ fn finish_both(
     b: &mut [u8],
     values: &mut [u64; 256],
     others: &mut [u64; 256],
-    first: Side,
-    second: Side,
-    byte: u64,
-    d: Difference,
-) -> u32 {
-    let p = finish(rt, &files.first, a, values, first);
-    if p.number != 0 {
-        return say_refused(rt, b"the first", a, p, values);
+    parting: Parting,
+    pair: Pair,
+) -> Result<Status, Told> {
+    let p = finish(rt, &files.first, a, values, pair.first);
+    match p.state {
+        State::Refused(number) => say_refused(rt, b"the first", number, a, p, values),
+        State::Unread => Ok(Status::Failed),
+        State::Going => finish_second(rt, files, b, values, others, parting, p, pair.second),
+        State::Done => finish_second(rt, files, b, values, others, parting, p, pair.second),
     }
-    finish_second(rt, files, b, values, others, first, p, second, byte, d)
 }
 
 // What differs is looked up while both records are in the buffers.
-fn part_ways(
-    rt: HostRuntime,
-    files: &Files,
-    a: &mut [u8],
-    b: &mut [u8],
-    values: &mut [u64; 256],
-    pair: Pair,
-) -> u32 {
+fn part_ways(a: &[u8], b: &[u8], pair: Pair) -> Parting {
     let p = pair.first;
-    let q = pair.second;
     let part = rest(a, p);
-    let other = rest(b, q);
-    let d = first_difference(part, other, p.last);
-    let byte = words::further(p.byte, common_bytes(part, other));
-    let mut others = *values;
-    finish_both(rt, files, a, b, values, &mut others, p, q, byte, d)
+    let other = rest(b, pair.second);
+    Parting {
+        last: p.last,
+        byte: words::further(p.byte, common_bytes(part, other)),
+        difference: first_difference(part, other, p.last),
+    }
 }
 
-fn run(rt: HostRuntime, files: &Files, a: &mut [u8], b: &mut [u8]) -> u32 {
+fn run(rt: HostRuntime, files: &Files, a: &mut [u8], b: &mut [u8]) -> Result<Status, Told> {
     let mut values = [0u64; 256];
-    let pair = together(rt, files, a, b, &mut values, opened(), opened());
-    part_ways(rt, files, a, b, &mut values, pair)
+    let pair = together(rt, files, a, b, &mut values);
+    let parting = part_ways(a, b, pair);
+    let mut others = values;
+    finish_both(rt, files, a, b, &mut values, &mut others, parting, pair)
 }
 
 // The buffers come as arrays: their lengths are then known by their types, and nothing has to be computed of their bytes.
@@ -677,63 +693,55 @@ fn start(
     files: &Files,
     a: &mut [u8; player::INPUT],
     b: &mut [u8; player::INPUT],
-) -> u32 {
+) -> Result<Status, Told> {
     run(rt, files, a, b)
 }
 
-fn compare_files(rt: HostRuntime, files: &Files) -> u32 {
+fn compare_files(rt: HostRuntime, files: &Files) -> Result<Status, Told> {
     let mut a = [0u8; player::INPUT];
     let mut b = [0u8; player::INPUT];
     start(rt, files, &mut a, &mut b)
 }
 
 // Opens the archive that word i names.
-fn open(rt: HostRuntime, i: usize) -> Option<File> {
-    let mut word = streams::buffer();
-    let n = streams::argument(&rt, i, &mut word);
-    match streams::open(rt, &word[..n]) {
-        Ok(file) => Some(file),
+fn open(rt: HostRuntime, i: usize) -> Result<File, Told> {
+    let mut room = streams::buffer();
+    let word = streams::argument(&rt, i, &mut room);
+    match streams::open(rt, word) {
+        Ok(file) => Ok(file),
         Err(error) => {
             tell(rt, b"compare: ");
-            streams::fail(rt, &word[..n], error);
-            None
+            streams::fail(rt, word, error);
+            Err(Told)
         }
     }
 }
 
 // Compares the archives that two words name.
-fn compare_words(rt: HostRuntime, i: usize, j: usize) -> u32 {
-    let Some(first) = open(rt, i) else {
-        return FAILED;
-    };
-    let Some(second) = open(rt, j) else {
-        return FAILED;
-    };
+fn compare_words(rt: HostRuntime, i: usize, j: usize) -> Result<Status, Told> {
+    let first = open(rt, i)?;
+    let second = open(rt, j)?;
     compare_files(rt, &Files { first, second })
 }
 
-fn help(rt: HostRuntime) -> u32 {
-    let on = say(
+fn help(rt: HostRuntime) -> Result<Status, Told> {
+    say(
         rt,
-        true,
         b"usage: compare FIRST SECOND\nSays of two archives whether they are the same, one is an early part of the other, or they part, and where,\n",
-    );
-    status(
-        say(
-            rt,
-            on,
-            b"and which counters end otherwise. Exits with 0 same, 1 not the same, 2 an archive is refused, 3 failed or not understood.\n",
-        ),
-        SAME,
-    )
+    )?;
+    say(
+        rt,
+        b"and which counters end otherwise. Exits with 0 same, 1 not the same, 2 an archive is refused, 3 failed or not understood.\n",
+    )?;
+    Ok(Status::Same)
 }
 
-fn misunderstood(rt: HostRuntime) -> u32 {
+fn misunderstood(rt: HostRuntime) -> Result<Status, Told> {
     tell(
         rt,
         b"compare: two archives are wanted: compare FIRST SECOND; --help says more\n",
     );
-    FAILED
+    Err(Told)
 }
 
 // Whether a word is this one.
@@ -752,13 +760,12 @@ fn tell_status(number: u32) -> ExitCode
 }
 
 fn is_help(rt: HostRuntime, i: usize) -> bool {
-    let mut word = streams::buffer();
-    let n = streams::argument(&rt, i, &mut word);
-    is_word(&word[..n], b"--help")
+    let mut room = streams::buffer();
+    is_word(streams::argument(&rt, i, &mut room), b"--help")
 }
 
 // Does what the words `first` and `second` ask for, which must be the last ones.
-fn answer(rt: HostRuntime, first: usize, second: usize, count: usize) -> u32 {
+fn asked(rt: HostRuntime, first: usize, second: usize, count: usize) -> Result<Status, Told> {
     if is_help(rt, first) {
         return help(rt);
     }
@@ -771,12 +778,19 @@ fn answer(rt: HostRuntime, first: usize, second: usize, count: usize) -> u32 {
     compare_words(rt, first, second)
 }
 
+fn answer(rt: HostRuntime, first: usize, second: usize, count: usize) -> Status {
+    match asked(rt, first, second, count) {
+        Ok(status) => status,
+        Err(_) => Status::Failed,
+    }
+}
+
 fn main(rt: HostRuntime) -> ExitCode {
-    let mut word = streams::buffer();
-    let n = streams::argument(&rt, 1, &mut word);
+    let mut room = streams::buffer();
+    let word = streams::argument(&rt, 1, &mut room);
     let count = streams::argument_count(&rt);
-    if is_word(&word[..n], b"--status") {
-        return tell_status(answer(rt, 2, 3, count));
+    if is_word(word, b"--status") {
+        return tell_status(answer(rt, 2, 3, count) as u32);
     }
     answer(rt, 1, 2, count);
     ExitCode::SUCCESS

@@ -1,15 +1,15 @@
 -- What the reader's tests tell.
-use Rattle.std.specs.Prelude.{ℕ, ◌+◌, ◌-◌, ◌≤◌, ◌<◌, ◌≡◌, refl, List, [], ◌∷◌, Bool, true, false, ◌&&◌, cond, take, drop, get_or, ltb}
+use Rattle.std.specs.Prelude.{ℕ, ◌+◌, ◌-◌, ◌≤◌, ◌<◌, ◌≡◌, refl, List, [], ◌∷◌, Bool, true, false, ◌&&◌, cond, take, drop, ltb}
 use Rattle.std.proofs.Math.Path.{sym}
-use Rattle.std.proofs.Common.{◌∙◌, add-one, arith}
+use Rattle.std.proofs.Common.{◌∙◌, arith}
 use Rattle.std.proofs.Math.ListN.{length}
 use Rattle.std.proofs.lemmas.List.Edits.{sets}
 use Rattle.std.proofs.Math.Dec.{eqb, leb}
 use borrow.Author.Tests.{lt-ltb, le-ltb, ne_eqb, ltb-false, leb-true}
-use Rattle.lists.specs.Tests.{all_to, and_l, and_r}
+use Rattle.lists.specs.Tests.{and_l, and_r}
 use Rattle.lists.specs.Stores.{to_the_end}
 use Rattle.layout.specs.Record.{most_entries}
-use Rattle.record.specs.Check.{rise_at, rises}
+use Rattle.record.specs.Check.{rises}
 use Rattle.archive.specs.Told.{told}
 use Rattle.counts.specs.Counts.{counts_header_length, counts_length}
 use Rattle.counts_file.specs.declared.Counted.{Counted}
@@ -48,11 +48,6 @@ holds s at m h =
     let a = leb at (length s) in
     let b = leb (counts_length m) (length s - at) in
     record { starts = leb-true _ _ (and_l a b h); ends = leb-true _ _ (and_r a b h) }
-
--- one pair of neighbours more
-pub rise_more : (ok : Bool) (s : List ℕ) (a i : ℕ) → ok ≡ all_to (rise_at s a) i → ok && ltb (get_or s (a + i) 0) (get_or s (a + i + 1) 0) ≡ all_to (rise_at s a) (i + 1)
-unfolding all_to rise_at
-rise_more ok s a i e = rw (add-one i, e)
 
 -- the check's answers: w and m are the writes as the code has them
 module _ (t : List ℕ) (w m : ℕ) (ew : w ≡ writes_of t) (em : m ≡ w) (there : counts_header_length ≤ length t) where

@@ -1,9 +1,12 @@
 #![tactic(auto)]
 // The reader of a counts file (docs/COUNTS.md): the counts of an archive's records, one behind the other.
-ghost use Rattle.std.specs.Prelude.{◌≡◌, ◌+◌, ◌≤◌, length, eqb};
-ghost use Rattle.record.specs.Check.{rises};
+ghost use Rattle.std.specs.Prelude.{◌≡◌};
+ghost use Rattle.refusals.specs.Refusals.{code};
 ghost use Rattle.archive.specs.Told.{told};
+ghost use Rattle.counts_file.specs.Answered.{next_of};
 ghost use Rattle.counts_file.specs.File.{check_counts, holds_counts, counts_read, counts_entry, told_counts_read, told_counts_entry};
+
+use refusals::Refusal;
 
 // Where C is told each number of a record's counts, and how many they are.
 const END: usize = 0;
@@ -22,7 +25,8 @@ pub struct Counted {
     pub commit: u32,
 }
 
-// What stands at a position of a counts file.
+// What stands at a position of a counts file: a `Result<Option<Counted>, Refusal>` as the theorem `ReadThere` of counts_meaning names it,
+// with a refusal's number.
 #[derive(Clone, Copy)]
 pub enum Next {
     Counts(Counted),
@@ -30,91 +34,91 @@ pub enum Next {
     Refused(u32),
 }
 
-// An address written, and its value.
+impl From<Result<Option<Counted>, Refusal>> for Next {
+    ghost from_gives = { λ r n. n ≡ next_of r };
+
+    fn from(found: Result<Option<Counted>, Refusal>) -> Next {
+        match found {
+            Ok(Some(c)) => Next::Counts(c),
+            Ok(None) => Next::End,
+            Err(why) => Next::Refused(why.number()),
+        }
+    }
+}
+
+// An address written, and its value: an `Option` as the theorem `ReadThere` of counts_meaning names it.
 #[derive(Clone, Copy)]
 pub enum Written {
     Entry { address: u8, value: u64 },
     Nothing,
 }
 
-// Whether the n addresses from a rise strictly. No test leaves the loop early.
-fn rises(s: &[u8], a: usize, n: usize) -> bool
-    requires { a + n ≤ length s.now }
-    ensures { result ≡ rises s.now a n }
-{
-    let mut ok = true;
-    let mut i = 0;
-    while i + 1 < n {
-        ok &= s[a + i] < s[a + i + 1];
-        i += 1;
-    }
-    ok
-}
-
-// The number of the first counts of these bytes: 12 where they end inside them, then 5 where they write more than 256 objects or
-// their addresses do not rise strictly, else 0.
-fn check(bytes: &[u8]) -> u32
-    ensures { result ≡ check_counts bytes.now }
+// Why the first counts of these bytes are refused: `Short` where they end inside them, then `Record` where they write more than 256
+// objects or their addresses do not rise strictly.
+#[tactic(auto, unfolding(crate::specs::File::check_counts))]
+fn check(bytes: &[u8]) -> Result<(), Refusal>
+    ensures { code result ≡ check_counts bytes.now }
 {
     if bytes.len() < counts::HEADER {
-        return 12;
+        return Err(Refusal::Short);
     }
     let writes = le::get_u16(bytes, counts::WRITES);
-    let m = le::index(writes);
+    let m = writes as usize;
     if bytes.len() < counts::HEADER + record::ENTRY * m {
-        return 12;
+        return Err(Refusal::Short);
     }
-    if (writes <= record::MOST) & rises(bytes, counts::HEADER, m) {
-        return 0;
+    if (writes <= record::MOST) & record::rises(bytes, counts::HEADER, m) {
+        return Ok(());
     }
-    5
+    Err(Refusal::Record)
 }
 
-// Whether a commit number is one more than the last.
-fn follows(last: u32, commit: u32) -> bool
-    ensures { result ≡ eqb commit (last + 1) }
+// The counts at position `at` of a counts file whose last commit number before it is `last`, or none at its end.
+#[tactic(auto, using(crate::specs::Facts::accepted), unfolding(crate::specs::File::first_counts, crate::specs::File::counts_read, crate::specs::File::counted_of))]
+fn counts_at(file: &[u8], at: usize, last: u32) -> Result<Option<Counted>, Refusal>
+    ensures { next_of result ≡ counts_read file.now at last }
 {
-    commit as u64 == last as u64 + 1
+    if file.len() < at {
+        return Err(Refusal::Short);
+    }
+    if at == file.len() {
+        return Ok(None);
+    }
+    let part = &file[at..];
+    check(part)?;
+    let commit = le::get_u32(part, counts::COMMIT);
+    if !archive::follows(last, commit) {
+        return Err(Refusal::Sequence);
+    }
+    let writes = le::get_u16(part, counts::WRITES);
+    Ok(Some(Counted {
+        end: at + (counts::HEADER + record::ENTRY * (writes as usize)),
+        writes,
+        commit,
+    }))
 }
 
 // What stands at position `at` of a counts file whose last commit number before it is `last`.
 pub fn read(file: &[u8], at: usize, last: u32) -> Next
     ensures { result ≡ counts_read file.now at last }
 {
-    if file.len() < at {
-        return Next::Refused(12);
-    }
-    if at == file.len() {
-        return Next::End;
-    }
-    let part = &file[at..];
-    let number = check(part);
-    if number != 0 {
-        return Next::Refused(number);
-    }
-    let commit = le::get_u32(part, counts::COMMIT);
-    if !follows(last, commit) {
-        return Next::Refused(13);
-    }
-    let writes = le::get_u16(part, counts::WRITES);
-    Next::Counts(Counted {
-        end: at + (counts::HEADER + record::ENTRY * le::index(writes)),
-        writes,
-        commit,
-    })
+    Next::from(counts_at(file, at, last))
 }
 
 // Whether the counts of so many writes at `at` end within the file.
+// `holds` and `entry` are not those of `archive`: the header has another length, and theorems name `holds_counts` and `counts_entry`.
+#[tactic(auto, unfolding(crate::specs::File::holds_counts))]
 fn holds(file: &[u8], at: usize, writes: u32) -> bool
     ensures { result ≡ holds_counts file.now at writes }
 {
     if file.len() < at {
         return false;
     }
-    counts::HEADER + record::ENTRY * le::index(writes) <= file.len() - at
+    counts::HEADER + record::ENTRY * (writes as usize) <= file.len() - at
 }
 
 // Write i of the counts of so many writes at `at`.
+#[tactic(auto, using(crate::specs::Facts::holds), unfolding(crate::specs::File::counts_entry))]
 pub fn entry(file: &[u8], at: usize, writes: u32, i: u32) -> Written
     ensures { result ≡ counts_entry file.now at writes i }
 {
@@ -126,11 +130,27 @@ pub fn entry(file: &[u8], at: usize, writes: u32, i: u32) -> Written
     }
     let start = at + counts::HEADER;
     Written::Entry {
-        address: file[start + le::index(i)],
-        value: le::get_u64(
-            file,
-            start + le::index(writes) + record::VALUE * le::index(i),
-        ),
+        address: file[start + i as usize],
+        value: le::get_u64(file, start + writes as usize + record::VALUE * (i as usize)),
+    }
+}
+
+// Where the counts end, their writes and their commit number, put to the first three places of `out`.
+#[tactic(auto, unfolding(crate::specs::File::told_counts_read))]
+fn tell_counts(file: &[u8], at: usize, last: u32, out: &mut [u64]) -> Result<(), Refusal>
+    ensures { told out.new (code result) ≡ told_counts_read file.now at last out.old }
+{
+    if out.len() < COUNTS_FIELDS {
+        return Err(Refusal::Buffer);
+    }
+    match counts_at(file, at, last)? {
+        Some(c) => {
+            out[END] = c.end as u64;
+            out[WRITES] = u64::from(c.writes);
+            out[COMMIT] = u64::from(c.commit);
+            Ok(())
+        }
+        None => Err(Refusal::End),
     }
 }
 
@@ -139,19 +159,23 @@ pub fn entry(file: &[u8], at: usize, writes: u32, i: u32) -> Written
 pub fn wax_counts_read(file: &[u8], at: usize, last: u32, out: &mut [u64]) -> u32
     ensures { told out.new result ≡ told_counts_read file.now at last out.old }
 {
-    if out.len() < COUNTS_FIELDS {
-        return 1;
+    refusals::code(tell_counts(file, at, last, out))
+}
+
+// A write's address and value, put to the first two places of `out`.
+#[tactic(auto, unfolding(crate::specs::File::told_counts_entry))]
+fn tell_entry(file: &[u8], at: usize, writes: u32, i: u32, out: &mut [u64]) -> Result<(), Refusal>
+    ensures { told out.new (code result) ≡ told_counts_entry file.now at writes i out.old }
+{
+    if out.len() < archive::ENTRY_FIELDS {
+        return Err(Refusal::Buffer);
     }
-    match read(file, at, last) {
-        Next::Counts(c) => {
-            out[END] = c.end as u64;
-            out[WRITES] = le::long(c.writes);
-            out[COMMIT] = le::long(c.commit);
-            0
-        }
-        Next::End => 255,
-        Next::Refused(number) => number,
-    }
+    let Written::Entry { address, value } = entry(file, at, writes, i) else {
+        return Err(Refusal::End);
+    };
+    out[archive::ADDRESS] = address as u64;
+    out[archive::VALUE] = value;
+    Ok(())
 }
 
 // `entry` for C. Its address and value go to the first two places of `out`: 1 where it has fewer, 255 where there is no such write.
@@ -159,13 +183,5 @@ pub fn wax_counts_read(file: &[u8], at: usize, last: u32, out: &mut [u64]) -> u3
 pub fn wax_counts_entry(file: &[u8], at: usize, writes: u32, i: u32, out: &mut [u64]) -> u32
     ensures { told out.new result ≡ told_counts_entry file.now at writes i out.old }
 {
-    if out.len() < archive::ENTRY_FIELDS {
-        return 1;
-    }
-    let Written::Entry { address, value } = entry(file, at, writes, i) else {
-        return 255;
-    };
-    out[archive::ADDRESS] = address as u64;
-    out[archive::VALUE] = value;
-    0
+    refusals::code(tell_entry(file, at, writes, i, out))
 }

@@ -1,5 +1,5 @@
 -- docs/PLAYBACK.md, "What is wrong, in words": what is wrong with the first record of some bytes, in checking order.
-use Rattle.std.specs.Prelude.{ℕ, ◌+◌, ◌*◌, ◌-◌, List, Bool, not, cond, length, get_or, eqb, ltb, leb}
+use Rattle.std.specs.Prelude.{ℕ, ◌+◌, ◌-◌, List, Bool, not, cond, length, get_or, eqb, ltb, leb}
 use Rattle.layout.specs.Record.{header_length, most_entries}
 use Rattle.record.specs.Check.{read_count_from, write_count_from, commit_number_from, transaction_number_from, station_number_from, station_kind_from, zero_bytes_from}
 use Rattle.record.specs.Check.{read_count, write_count, commit_number, transaction_number, station_number, station_kind, length_of, rise_at, rises}

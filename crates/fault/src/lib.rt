@@ -3,9 +3,10 @@
 ghost use Rattle.std.specs.Prelude.{◌≡◌, ◌+◌, ◌≤◌, length};
 ghost use Rattle.layout.specs.Record.{header_length};
 ghost use Rattle.record.specs.Check.{length_of};
-ghost use Rattle.fault.specs.Fault.{number_of, place_of, or_else, count_fault, byte_fault, order_fault, address_fault, sequence_fault, read_fault, whole_fault, cut_fault, fault_of};
+ghost use Rattle.fault.specs.Fault.{place_of, or_else, count_fault, byte_fault, order_fault, address_fault, sequence_fault, read_fault, whole_fault, cut_fault, fault_of};
 
-// A fault of a record. Places are counted from the record's first byte.
+// A fault of a record. Places are counted from the record's first byte. `Nothing` is one of them and no `None`: `place` and
+// `words::fault_line` take each of them.
 #[derive(Clone, Copy)]
 pub enum Fault {
     // The record is accepted.
@@ -53,27 +54,6 @@ pub enum Fault {
     },
 }
 
-// The number of document 01 that a fault is refused with, 0 for none.
-fn number(f: Fault) -> u32
-    ensures { result ≡ number_of f }
-{
-    match f {
-        Fault::Nothing => 0,
-        Fault::Cut { .. } => 12,
-        Fault::Header { .. } => 12,
-        Fault::Sizes { .. } => 12,
-        Fault::Reads(_) => 5,
-        Fault::Writes(_) => 5,
-        Fault::Transaction => 5,
-        Fault::Station(_) => 5,
-        Fault::Kind(_) => 5,
-        Fault::Zero { .. } => 5,
-        Fault::Order { .. } => 5,
-        Fault::Sequence { .. } => 13,
-        Fault::Read { .. } => 14,
-    }
-}
-
 // The fault's byte, a field's first.
 pub fn place(f: Fault) -> usize
     ensures { result ≡ place_of f }
@@ -99,10 +79,10 @@ pub fn place(f: Fault) -> usize
 fn or_else(first: Fault, next: Fault) -> Fault
     ensures { result ≡ or_else first next }
 {
-    if number(first) == 0 {
-        return next;
+    match first {
+        Fault::Nothing => next,
+        _ => first,
     }
-    first
 }
 
 // A header's sizes and transaction.
@@ -130,21 +110,21 @@ fn byte_fault(t: &[u8]) -> Fault
     ensures { result ≡ byte_fault t.now }
 {
     if t[record::STATION] > 7 {
-        return Fault::Station(le::wide(t[record::STATION]));
+        return Fault::Station(u32::from(t[record::STATION]));
     }
     if t[record::KIND] > kinds::MOST {
-        return Fault::Kind(le::wide(t[record::KIND]));
+        return Fault::Kind(u32::from(t[record::KIND]));
     }
     if t[record::ZEROS] != 0 {
         return Fault::Zero {
             at: record::ZEROS,
-            is: le::wide(t[record::ZEROS]),
+            is: u32::from(t[record::ZEROS]),
         };
     }
     if t[record::LAST_ZERO] != 0 {
         return Fault::Zero {
             at: record::LAST_ZERO,
-            is: le::wide(t[record::LAST_ZERO]),
+            is: u32::from(t[record::LAST_ZERO]),
         };
     }
     Fault::Nothing
@@ -155,17 +135,15 @@ fn order_fault(t: &[u8], a: usize, n: usize) -> Fault
     requires { a + n ≤ length t.now }
     ensures { result ≡ order_fault t.now a n }
 {
-    let mut i = 0;
-    while i + 1 < n {
+    for i in 0..n.saturating_sub(1) {
         let at = a + i;
         if t[at] >= t[at + 1] {
             return Fault::Order {
                 at: at + 1,
-                before: le::wide(t[at]),
-                is: le::wide(t[at + 1]),
+                before: u32::from(t[at]),
+                is: u32::from(t[at + 1]),
             };
         }
-        i += 1;
     }
     Fault::Nothing
 }
@@ -175,8 +153,8 @@ fn address_fault(t: &[u8]) -> Fault
     requires { (header_length ≤ length t.now) × (length_of t.now ≤ length t.now) }
     ensures { result ≡ address_fault t.now }
 {
-    let n = le::index(le::get_u16(t, record::READS));
-    let m = le::index(le::get_u16(t, record::WRITES));
+    let n = le::get_u16(t, record::READS) as usize;
+    let m = le::get_u16(t, record::WRITES) as usize;
     or_else(
         order_fault(t, record::HEADER, n),
         order_fault(t, record::HEADER + n, m),
@@ -188,7 +166,7 @@ fn sequence_fault(t: &[u8], last: u32) -> Fault
     ensures { result ≡ sequence_fault t.now last }
 {
     let commit = le::get_u32(t, record::COMMIT);
-    if le::long(commit) == le::long(last) + 1 {
+    if u64::from(commit) == u64::from(last) + 1 {
         return Fault::Nothing;
     }
     Fault::Sequence { commit, last }
@@ -199,14 +177,13 @@ fn read_fault(t: &[u8], values: &[u64; 256]) -> Fault
     requires { (header_length ≤ length t.now) × (length_of t.now ≤ length t.now) }
     ensures { result ≡ read_fault t.now values.now }
 {
-    let n = le::index(le::get_u16(t, record::READS));
-    let k = n + le::index(le::get_u16(t, record::WRITES));
-    let mut i = 0;
-    while i < n {
+    let n = le::get_u16(t, record::READS) as usize;
+    let k = n + le::get_u16(t, record::WRITES) as usize;
+    for i in 0..n {
         let at = record::HEADER + k + record::VALUE * i;
-        let address = le::wide(t[record::HEADER + i]);
+        let address = u32::from(t[record::HEADER + i]);
         let is = le::get_u64(t, at);
-        let left = values[le::index(address)];
+        let left = values[address as usize];
         if left != is {
             return Fault::Read {
                 at,
@@ -215,7 +192,6 @@ fn read_fault(t: &[u8], values: &[u64; 256]) -> Fault
                 left,
             };
         }
-        i += 1;
     }
     Fault::Nothing
 }

@@ -28,10 +28,10 @@ fn put_names(out: &mut [u8], at: usize, f: Fields, sep: u8) -> usize
     requires { at + 84 ≤ length out.old }
     ensures { (put out.new result ≡ put_of out.old at (names sep f)) × (result ≤ at + 84) }
 {
-    let at = text::put_field(out, at, le::long(f.commit), sep);
-    let at = text::put_field(out, at, le::long(f.station), sep);
-    let at = text::put_field(out, at, le::long(f.kind), sep);
-    text::put_field(out, at, le::long(f.transaction), sep)
+    let at = text::put_field(out, at, u64::from(f.commit), sep);
+    let at = text::put_field(out, at, u64::from(f.station), sep);
+    let at = text::put_field(out, at, u64::from(f.kind), sep);
+    text::put_field(out, at, u64::from(f.transaction), sep)
 }
 
 // Its second half.
@@ -39,8 +39,8 @@ fn put_sizes(out: &mut [u8], at: usize, f: Fields, byte: u64, size: u64, sep: u8
     requires { at + 84 ≤ length out.old }
     ensures { put out.new result ≡ put_of out.old at (sizes sep f byte size) }
 {
-    let at = text::put_field(out, at, le::long(f.reads), sep);
-    let at = text::put_field(out, at, le::long(f.writes), sep);
+    let at = text::put_field(out, at, u64::from(f.reads), sep);
+    let at = text::put_field(out, at, u64::from(f.writes), sep);
     let at = text::put_field(out, at, byte, sep);
     text::put_field(out, at, size, b'\n')
 }
@@ -67,6 +67,7 @@ fn entry_heading(out: &mut [u8], at: usize, sep: u8) -> usize
 }
 
 // The word in front of an entry.
+#[tactic(auto, unfolding(crate::specs::Full::entry_word))]
 fn put_word(out: &mut [u8], at: usize, read: bool, sep: u8) -> usize
     requires { at + 6 ≤ length out.old }
     ensures { (put out.new result ≡ put_of out.old at (columns sep (entry_word read))) × (result ≤ at + 6) }
@@ -83,7 +84,7 @@ fn entry_line(out: &mut [u8], at: usize, read: bool, address: u8, value: u64, se
     if !text::room(LINE, out.len(), at) {
         return at;
     }
-    let a = le::long(le::wide(address));
+    let a = u64::from(address);
     let at = put_word(out, at, read, sep);
     let at = text::put_field(out, at, a, sep);
     let at = text::put_field(out, at, a / 8, sep);
@@ -110,11 +111,9 @@ fn put_entries(
         return at;
     }
     let mut next = at;
-    let mut i = 0;
-    while i < k {
+    for i in 0..k {
         let value = le::get_u64(values, record::VALUE * i);
         next = entry_line(out, next, i < reads, addresses[i], value, sep);
-        i += 1;
     }
     next
 }
@@ -123,6 +122,7 @@ fn put_entries(
 const MOST_COUNT: u32 = 65535;
 
 // How many entries a record of these fields has.
+#[tactic(auto, unfolding(crate::specs::Full::entry_count))]
 pub fn entry_count(f: Fields) -> u32
     ensures { result ≡ entry_count f }
 {
@@ -147,5 +147,5 @@ pub fn put_record(part: &[u8], f: Fields, byte: u64, out: &mut [u8], at: usize, 
     let entries = entry_count(f);
     let addresses = archive::address_part(part, 0, entries);
     let values = archive::value_part(part, 0, entries);
-    put_entries(addresses, values, le::index(f.reads), out, at, sep)
+    put_entries(addresses, values, f.reads as usize, out, at, sep)
 }

@@ -21,13 +21,11 @@ pub fn writes(part: &[u8], counter: u8) -> bool
     if part.len() < record::claimed_length(part) {
         return false;
     }
-    let n = le::index(le::get_u16(part, record::READS));
-    let m = le::index(le::get_u16(part, record::WRITES));
+    let n = le::get_u16(part, record::READS) as usize;
+    let m = le::get_u16(part, record::WRITES) as usize;
     let mut none = true;
-    let mut c = 0;
-    while c < m {
+    for c in 0..m {
         none &= !is_entry(part, n + c, counter);
-        c += 1;
     }
     !none
 }
@@ -60,8 +58,8 @@ pub fn change_line(
     if !text::room(report::LINE, out.len(), at) {
         return at;
     }
-    let at = text::put_field(out, at, le::long(commit), sep);
-    let at = text::put_field(out, at, le::long(station), sep);
+    let at = text::put_field(out, at, u64::from(commit), sep);
+    let at = text::put_field(out, at, u64::from(station), sep);
     let at = text::put_field(out, at, before, sep);
     text::put_field(out, at, after, b'\n')
 }

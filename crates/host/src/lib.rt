@@ -8,6 +8,7 @@ ghost use Rattle.station_owner.specs.Owner.{called, commit_called, own_begin_b, 
 ghost use Rattle.station.specs.Station.{station_step_b};
 ghost use Rattle.host.specs.Host.{told as host_told, told_length, accepted, NoValue, told_of, told_said, hosted, host_of, eight_of, host_set_of};
 
+use refusals::Refusal;
 use station_answer::{Answer, Said};
 use station_state::OBJECTS;
 
@@ -21,6 +22,19 @@ const MESSAGES: usize = VALUE + 1;
 const COMMIT: usize = MESSAGES + 1;
 
 pub const TOLD: usize = COMMIT + 1;
+
+// The numbers by which a host is told each answer.
+#[derive(Clone, Copy, PartialEq, Eq, Debug)]
+enum Tells {
+    Begun = 1,
+    Value = 2,
+    Waits = 3,
+    Written = 4,
+    Committed = 5,
+    Aborted = 6,
+    Purged = 7,
+    Nothing = 8,
+}
 
 // An answer's number, what goes with it, and the counts of messages and of a commit's bytes: 0, the call was accepted.
 fn put_told(told: &mut [u64], answer: u64, value: u64, messages: usize, commit: usize) -> u32
@@ -41,14 +55,26 @@ fn tell_other(a: Answer, messages: usize, commit: usize, told: &mut [u64]) -> u3
 {
     match a {
         Answer::Refused(number) => number,
-        Answer::Begun(t) => put_told(told, 1, le::long(t), messages, commit),
+        Answer::Begun(t) => put_told(told, Tells::Begun as u64, u64::from(t), messages, commit),
         Answer::Value(_v) => 0,
-        Answer::Waits => put_told(told, 3, 0, messages, commit),
-        Answer::Written => put_told(told, 4, 0, messages, commit),
-        Answer::Committed(n) => put_told(told, 5, le::long(n), messages, commit),
-        Answer::Aborted(cause) => put_told(told, 6, le::long(cause), messages, commit),
-        Answer::Purged => put_told(told, 7, 0, messages, commit),
-        Answer::Nothing => put_told(told, 8, 0, messages, commit),
+        Answer::Waits => put_told(told, Tells::Waits as u64, 0, messages, commit),
+        Answer::Written => put_told(told, Tells::Written as u64, 0, messages, commit),
+        Answer::Committed(n) => put_told(
+            told,
+            Tells::Committed as u64,
+            u64::from(n),
+            messages,
+            commit,
+        ),
+        Answer::Aborted(cause) => put_told(
+            told,
+            Tells::Aborted as u64,
+            u64::from(cause),
+            messages,
+            commit,
+        ),
+        Answer::Purged => put_told(told, Tells::Purged as u64, 0, messages, commit),
+        Answer::Nothing => put_told(told, Tells::Nothing as u64, 0, messages, commit),
     }
 }
 
@@ -61,13 +87,13 @@ pub fn tell(x: Said, told: &mut [u64]) -> u32
     let Answer::Value(v) = answer else {
         return tell_other(answer, x.messages, x.commit, told);
     };
-    put_told(told, 2, v, x.messages, x.commit)
+    put_told(told, Tells::Value as u64, v, x.messages, x.commit)
 }
 
 pub fn wax_station_fresh(station: u32, kind: u32, state: &mut [u8]) -> u32
     ensures { freshened state.new result ≡ fresh_of station kind state.old }
 {
-    station_state::fresh(station, kind, state)
+    refusals::code(station_state::fresh(station, kind, state))
 }
 
 pub fn wax_station_begin(
@@ -79,7 +105,7 @@ pub fn wax_station_begin(
     ensures { hosted state.new messages.new commit.new told.new result ≡ host_of state.old messages.old commit.old told.old (called state.old messages.old commit.old (own_begin_b state.old)) }
 {
     if told.len() < TOLD {
-        return 1;
+        return Refusal::Buffer as u32;
     }
     let x = station_owner::begin(state, messages, commit);
     tell(x, told)
@@ -95,7 +121,7 @@ pub fn wax_station_read(
     ensures { hosted state.new messages.new commit.new told.new result ≡ host_of state.old messages.old commit.old told.old (called state.old messages.old commit.old (own_read_b address state.old)) }
 {
     if told.len() < TOLD {
-        return 1;
+        return Refusal::Buffer as u32;
     }
     let x = station_owner::read(address, state, messages, commit);
     tell(x, told)
@@ -112,7 +138,7 @@ pub fn wax_station_write(
     ensures { hosted state.new messages.new commit.new told.new result ≡ host_of state.old messages.old commit.old told.old (called state.old messages.old commit.old (own_write_b address value state.old)) }
 {
     if told.len() < TOLD {
-        return 1;
+        return Refusal::Buffer as u32;
     }
     let x = station_owner::write(address, value, state, messages, commit);
     tell(x, told)
@@ -124,11 +150,7 @@ fn eight(values: &[u64]) -> [u64; 8]
     ensures { result ≡ eight_of values.now }
 {
     let mut v = [0u64; 8];
-    let mut o = 0;
-    while o < OBJECTS {
-        v[o] = values[o];
-        o += 1;
-    }
+    v.copy_from_slice(&values[..OBJECTS]);
     v
 }
 
@@ -144,10 +166,10 @@ pub fn wax_station_write_set(
     ensures { hosted state.new messages.new commit.new told.new result ≡ host_set_of values.now state.old messages.old commit.old told.old (called state.old messages.old commit.old (own_write_set_b page set (eight_of values.now) state.old)) }
 {
     if values.len() < OBJECTS {
-        return 1;
+        return Refusal::Buffer as u32;
     }
     if told.len() < TOLD {
-        return 1;
+        return Refusal::Buffer as u32;
     }
     let v = eight(values);
     let x = station_owner::write_set(page, set, &v, state, messages, commit);
@@ -163,7 +185,7 @@ pub fn wax_station_commit(
     ensures { hosted state.new messages.new commit.new told.new result ≡ host_of state.old messages.old commit.old told.old (commit_called state.old messages.old commit.old) }
 {
     if told.len() < TOLD {
-        return 1;
+        return Refusal::Buffer as u32;
     }
     let x = station_owner::commit(state, messages, commit);
     tell(x, told)
@@ -178,7 +200,7 @@ pub fn wax_station_abort(
     ensures { hosted state.new messages.new commit.new told.new result ≡ host_of state.old messages.old commit.old told.old (called state.old messages.old commit.old (own_abort_b state.old)) }
 {
     if told.len() < TOLD {
-        return 1;
+        return Refusal::Buffer as u32;
     }
     let x = station_owner::abort(state, messages, commit);
     tell(x, told)
@@ -194,7 +216,7 @@ pub fn wax_station_purge(
     ensures { hosted state.new messages.new commit.new told.new result ≡ host_of state.old messages.old commit.old told.old (called state.old messages.old commit.old (own_purge_b page state.old)) }
 {
     if told.len() < TOLD {
-        return 1;
+        return Refusal::Buffer as u32;
     }
     let x = station_owner::purge(page, state, messages, commit);
     tell(x, told)
@@ -210,7 +232,7 @@ pub fn wax_station_step(
     ensures { hosted state.new messages.new commit.new told.new result ≡ host_of state.old messages.old commit.old told.old (called state.old messages.old commit.old (station_step_b message.now state.old)) }
 {
     if told.len() < TOLD {
-        return 1;
+        return Refusal::Buffer as u32;
     }
     let x = station::step(message, state, messages, commit);
     tell(x, told)
@@ -219,11 +241,11 @@ pub fn wax_station_step(
 pub fn wax_down_check(station: u32, message: &[u8]) -> u32
     ensures { result ≡ down_number station message.now }
 {
-    message::down_check(station, message)
+    refusals::code(message::down_check(station, message))
 }
 
 pub fn wax_up_check(kinds: &[u8], message: &[u8]) -> u32
     ensures { result ≡ up_number kinds.now message.now }
 {
-    message::up_check(kinds, message)
+    refusals::code(message::up_check(kinds, message))
 }

@@ -9,10 +9,12 @@ ghost use Rattle.licence.specs.Frames.{noted_of, closed_of, frames_on, frames_of
 ghost use Rattle.licence.specs.Fee.{billed, licence_of};
 
 use archive::Answer;
+use refusals::Refusal;
 use signed::Change;
 use tariff::Fee;
 
-// The sum of an address's changes over a stretch of commits, or the number that refuses it.
+// The sum of an address's changes over a stretch of commits, or the number that refuses it. No `Result` with a `Refusal`: theorem
+// `summed_is` of `licence_meaning` speaks of it, and replay answers a number.
 #[derive(Clone, Copy)]
 pub enum Frames {
     Sum(i64),
@@ -20,24 +22,24 @@ pub enum Frames {
 }
 
 // Whether the record at the start of `part` writes this address. No test leaves the loop early.
+#[tactic(auto, unfolding(totals::specs::Writers::any_to))]
 fn writes_to(part: &[u8], address: u8) -> bool
     requires { (header_length ≤ length part.now) × (length_of part.now ≤ length part.now) }
     ensures { result ≡ writes part.now address }
 {
-    let n = le::index(le::get_u16(part, record::READS));
-    let m = le::index(le::get_u16(part, record::WRITES));
+    let n = le::get_u16(part, record::READS) as usize;
+    let m = le::get_u16(part, record::WRITES) as usize;
     let mut found = false;
-    let mut c = 0;
-    while c < m {
+    for c in 0..m {
         let i = n + c;
         found |= part[record::HEADER + i] == address;
-        c += 1;
     }
     found
 }
 
 // The sum behind the record at the start of `part`, which left the address's value at `new` where it was `old` before: one change
 // more where its commit is in the stretch and it writes the address.
+#[tactic(auto, unfolding(crate::specs::Frames::noted_of))]
 fn noted(
     sum: Change,
     part: &[u8],
@@ -68,17 +70,17 @@ fn closed(sum: Change, commit: u32, first: u32, last: u32) -> Frames
     ensures { result ≡ closed_of sum commit first last }
 {
     if first == 0 {
-        return Frames::Refused(13);
+        return Frames::Refused(Refusal::Sequence as u32);
     }
     if last < first {
-        return Frames::Refused(13);
+        return Frames::Refused(Refusal::Sequence as u32);
     }
     if commit < last {
-        return Frames::Refused(13);
+        return Frames::Refused(Refusal::Sequence as u32);
     }
     match sum {
         Change::By(s) => Frames::Sum(s),
-        Change::Beyond => Frames::Refused(18),
+        Change::Beyond => Frames::Refused(Refusal::Beyond as u32),
     }
 }
 
@@ -86,7 +88,7 @@ fn closed(sum: Change, commit: u32, first: u32, last: u32) -> Frames
 fn sum_over(archive: &[u8], first: u32, last: u32, address: u8, values: &mut [u64; 256]) -> Frames
     ensures { result ≡ frames_on archive.now first last address values.old }
 {
-    let a = le::index(le::wide(address));
+    let a = address as usize;
     let mut at = 0;
     let mut commit: u32 = 0;
     let mut sum = Change::By(0);
@@ -136,7 +138,7 @@ pub fn wax_licence_fee(
     ensures { billed frames.new fee.new result ≡ licence_of archive.now table.now first last address frames.old fee.old }
 {
     if !tariff::keeps_rules(table) {
-        return 17;
+        return Refusal::Tariff as u32;
     }
     let sum = frames_of(archive, first, last, address);
     match sum {
@@ -144,7 +146,7 @@ pub fn wax_licence_fee(
         Frames::Sum(n) => {
             let owed = tariff::fee_for(table, n);
             match owed {
-                Fee::Beyond => 18,
+                Fee::Beyond => Refusal::Beyond as u32,
                 Fee::Owed(cents) => {
                     *frames = n;
                     *fee = cents;

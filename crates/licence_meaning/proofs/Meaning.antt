@@ -1,5 +1,5 @@
 -- A call's answer is document 02's: for every archive, table, stretch and address.
-use Rattle.std.specs.Prelude.{ℕ, zero, suc, ◌+◌, ◌-◌, ◌≤◌, ◌<◌, ◌≡◌, Bool, ◌&&◌, take, drop, get_or, eqb, ltb, leb, ℤ, pos, nat_abs}
+use Rattle.std.specs.Prelude.{ℕ, zero, suc, ◌+◌, ◌-◌, ◌≤◌, ◌<◌, ◌≡◌, Bool, ◌&&◌, take, drop, get_or, eqb, ltb, leb, ℤ, pos, nat_abs, Some, None}
 use Rattle.std.proofs.Math.Path.{refl, fun_ext}
 use Rattle.std.proofs.Common.{sym, ap, ◌∙◌, add-zero, arith, length-append, length-drop, le-leb, ltb-true, ltb-false, eqb-true}
 use Rattle.std.proofs.Math.Bool.{true, false, cond}
@@ -31,7 +31,6 @@ use Rattle.totals_meaning.proofs.Written.{written_is}
 use Rattle.signed.specs.declared.Change.{Change}
 use Rattle.signed.specs.declared.Change.TheVariants.{By, Beyond}
 use Rattle.signed.specs.Change.{most}
-use Rattle.tariff.specs.declared.Cents.TheVariants as coin
 use Rattle.tariff.specs.declared.Fee.TheVariants as fee
 use Rattle.tariff.specs.Table.{lawful, cents_of, signed_fee, fee_of}
 use Rattle.licence.specs.declared.Frames.TheVariants.{Refused}
@@ -123,7 +122,7 @@ fee_is t n h = rw (charge_is_cost t (nat_abs n) h) (by_test (ltb most (cents (co
     x = cents (cost_of (steps_of t) (nat_abs n))
 
     by_test : (b : Bool) → ltb most (cents (cost_of (steps_of t) (nat_abs n))) ≡ b
-        → signed_fee n (cond b coin.Beyond (coin.Of (cents (cost_of (steps_of t) (nat_abs n))))) ≡ cond (leb (cents (cost_of (steps_of t) (nat_abs n))) most) (fee.Owed (fee_for (steps_of t) n)) fee.Beyond
+        → signed_fee n (cond b None (Some (cents (cost_of (steps_of t) (nat_abs n))))) ≡ cond (leb (cents (cost_of (steps_of t) (nat_abs n))) most) (fee.Owed (fee_for (steps_of t) n)) fee.Beyond
     by_test true e = rw (lt-leb x most (ltb-true _ _ e))
     by_test false e = rw (le-leb x most (ltb-false _ _ e))
 

@@ -1,6 +1,6 @@
 -- Document 01, "Messages", with document 02's wish 6, by which "every message is 144 bytes": the fields at their places, and a message made
 -- of its fields.
-use Rattle.std.specs.Prelude.{ℕ, ◌+◌, ◌*◌, ◌-◌, List, [], ◌∷◌, ◌++◌, get_or, replicate}
+use Rattle.std.specs.Prelude.{ℕ, ◌+◌, ◌*◌, ◌-◌, List, ◌∷◌, ◌++◌, get_or, replicate}
 use Rattle.le.specs.Le.{u32_at, u64_at}
 use Rattle.le.specs.Width.{bytes}
 use Rattle.layout.specs.Record.{value_length}

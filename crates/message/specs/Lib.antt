@@ -7,3 +7,4 @@ pub mod Number
 pub mod Stores
 pub mod Facts
 pub mod Accepted
+pub mod Kinds

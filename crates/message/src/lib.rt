@@ -9,6 +9,11 @@ ghost use Rattle.message.specs.Commit.{versions_at, shortest_commit, count_of, r
 ghost use Rattle.message.specs.Number.{length_ok, up_range, down_range, down_number, kind_ok, kinds_ok, up_number};
 ghost use Rattle.lists.specs.Tests.{all_to};
 ghost use Rattle.message.specs.Stores.{cleared, front};
+ghost use Rattle.message.specs.Kinds.{up_code, down_code, GivesUp, GivesDown};
+ghost use Rattle.refusals.specs.Refusals.{code};
+
+use lists::all_of;
+use refusals::Refusal;
 
 // Document 01, "Messages", with wish 6 of document 02, "every message is 144 bytes": where each field stands. A message starts with its kind; PAGE is also the requester's place and
 // OBJECT the cause's.
@@ -57,6 +62,84 @@ pub const COMMIT_ROOM: usize = VERSIONS
 pub const SERVER_ROOM: usize = 128 * LENGTH;
 
 pub const RECORDS_ROOM: usize = 8 * LONGEST_SENT;
+
+// What a station says to the server, by the kind in a message's first byte.
+#[derive(Clone, Copy, PartialEq, Eq, Debug)]
+pub enum Up {
+    Read = 1,
+    Write = 2,
+    Commit = 3,
+    Abort = 4,
+    Purge = 5,
+    Busy = 6,
+    Done = 7,
+    WrittenSet = 8,
+}
+
+impl TryFrom<u8> for Up {
+    type Error = Refusal;
+
+    ghost try_from_gives = { GivesUp };
+
+    fn try_from(kind: u8) -> Result<Self, Refusal> {
+        match kind {
+            1 => Ok(Up::Read),
+            2 => Ok(Up::Write),
+            3 => Ok(Up::Commit),
+            4 => Ok(Up::Abort),
+            5 => Ok(Up::Purge),
+            6 => Ok(Up::Busy),
+            7 => Ok(Up::Done),
+            8 => Ok(Up::WrittenSet),
+            _ => Err(Refusal::Kind),
+        }
+    }
+}
+
+// What the server says to a station: a page with no lock, with locks on objects or with its whole lock, and what else there is.
+#[derive(Clone, Copy, PartialEq, Eq, Debug)]
+pub enum Down {
+    Page = 16,
+    LockedObjects = 17,
+    LockedPage = 18,
+    Deescalate = 19,
+    Callback = 20,
+    Committed = 21,
+    Aborted = 22,
+    Invalidate = 23,
+}
+
+impl TryFrom<u8> for Down {
+    type Error = Refusal;
+
+    ghost try_from_gives = { GivesDown };
+
+    fn try_from(kind: u8) -> Result<Self, Refusal> {
+        match kind {
+            16 => Ok(Down::Page),
+            17 => Ok(Down::LockedObjects),
+            18 => Ok(Down::LockedPage),
+            19 => Ok(Down::Deescalate),
+            20 => Ok(Down::Callback),
+            21 => Ok(Down::Committed),
+            22 => Ok(Down::Aborted),
+            23 => Ok(Down::Invalidate),
+            _ => Err(Refusal::Kind),
+        }
+    }
+}
+
+// Why a transaction is aborted, as 22 says it.
+#[derive(Clone, Copy, PartialEq, Eq, Debug)]
+pub enum Cause {
+    Deadlock = 1,
+    // An object that it used was changed.
+    Changed = 2,
+    // An object that it writes is locked.
+    Locked = 3,
+    // No commit number is left.
+    NoNumber = 4,
+}
 
 // Runs of fields that a kind may leave unnamed: page and object, the page set with or without the
 // commit number, all sets but the first, and what stands from a field to the end.
@@ -138,14 +221,13 @@ pub fn set(m: &[u8]) -> u8
 }
 
 // Writes 0 to the n bytes from `at`.
+#[tactic(auto, unfolding(crate::specs::Stores::cleared))]
 fn zero(o: &mut [u8], at: usize, n: usize)
     requires { at + n ≤ length o.old }
     ensures { o.new ≡ cleared o.old at n }
 {
-    let mut i = 0;
-    while i < n {
+    for i in 0..n {
         o[at + i] = 0;
-        i += 1;
     }
 }
 
@@ -222,6 +304,7 @@ pub fn put_up(
     zero(o, at + SECOND_SET, FROM_SECOND_SET);
 }
 
+#[tactic(auto, unfolding(crate::specs::Range::zero_at))]
 fn zero_at(m: &[u8], a: usize, i: usize) -> bool
     requires { a + i < length m.now }
     ensures { result ≡ zero_at m.now a i }
@@ -229,21 +312,17 @@ fn zero_at(m: &[u8], a: usize, i: usize) -> bool
     m[a + i] == 0
 }
 
-// Whether the n bytes from a are 0. No test leaves the loop early, so that it compiles to vector code.
+// Whether the n bytes from a are 0.
+#[tactic(auto, unfolding(crate::specs::Range::zeros))]
 fn zeros(m: &[u8], a: usize, n: usize) -> bool
     requires { a + n ≤ length m.now }
     ensures { result ≡ zeros m.now a n }
 {
-    let mut ok = true;
-    let mut i = 0;
-    while i < n {
-        ok &= zero_at(m, a, i);
-        i += 1;
-    }
-    ok
+    all_of(n, |i| zero_at(m, a, i))
 }
 
 // One function for each form: the fields that it names are in range, the others 0.
+#[tactic(auto, unfolding(crate::specs::Range::request_ok))]
 fn request_ok(m: &[u8]) -> bool
     requires { message_length ≤ length m.now }
     ensures { result ≡ request_ok m.now }
@@ -251,6 +330,7 @@ fn request_ok(m: &[u8]) -> bool
     (page(m) <= 31) & (object(m) <= 7) & (transaction(m) != 0) & zeros(m, PAGES, FROM_PAGES)
 }
 
+#[tactic(auto, unfolding(crate::specs::Range::commit_ok))]
 fn commit_ok(m: &[u8]) -> bool
     requires { message_length ≤ length m.now }
     ensures { result ≡ commit_ok m.now }
@@ -258,6 +338,7 @@ fn commit_ok(m: &[u8]) -> bool
     zeros(m, PAGE, PAGE_OBJECT) & (transaction(m) != 0) & zeros(m, VERSION, FROM_VERSION)
 }
 
+#[tactic(auto, unfolding(crate::specs::Range::abort_ok))]
 fn abort_ok(m: &[u8]) -> bool
     requires { message_length ≤ length m.now }
     ensures { result ≡ abort_ok m.now }
@@ -265,6 +346,7 @@ fn abort_ok(m: &[u8]) -> bool
     zeros(m, PAGE, PAGE_OBJECT) & (transaction(m) != 0) & zeros(m, PAGES, FROM_PAGES)
 }
 
+#[tactic(auto, unfolding(crate::specs::Range::purge_ok))]
 fn purge_ok(m: &[u8]) -> bool
     requires { message_length ≤ length m.now }
     ensures { result ≡ purge_ok m.now }
@@ -272,6 +354,7 @@ fn purge_ok(m: &[u8]) -> bool
     (page(m) <= 31) & zeros(m, OBJECT, FROM_OBJECT)
 }
 
+#[tactic(auto, unfolding(crate::specs::Range::busy_ok))]
 fn busy_ok(m: &[u8]) -> bool
     requires { message_length ≤ length m.now }
     ensures { result ≡ busy_ok m.now }
@@ -279,6 +362,7 @@ fn busy_ok(m: &[u8]) -> bool
     (page(m) <= 7) & zeros(m, OBJECT, 1) & (transaction(m) != 0) & zeros(m, PAGES, FROM_PAGES)
 }
 
+#[tactic(auto, unfolding(crate::specs::Range::done_ok_lem))]
 fn done_ok(m: &[u8]) -> bool
     requires { message_length ≤ length m.now }
     ensures { result ≡ done_ok_lem m.now }
@@ -286,6 +370,7 @@ fn done_ok(m: &[u8]) -> bool
     (page(m) <= 7) & zeros(m, OBJECT, 1) & (transaction(m) != 0) & zeros(m, VERSION, FROM_VERSION)
 }
 
+#[tactic(auto, unfolding(crate::specs::Range::written_set_ok))]
 fn written_set_ok(m: &[u8]) -> bool
     requires { message_length ≤ length m.now }
     ensures { result ≡ written_set_ok m.now }
@@ -298,6 +383,7 @@ fn written_set_ok(m: &[u8]) -> bool
 }
 
 // The request to write: the set of what is wanted.
+#[tactic(auto, unfolding(crate::specs::Range::write_request_ok))]
 fn write_request_ok(m: &[u8]) -> bool
     requires { message_length ≤ length m.now }
     ensures { result ≡ write_request_ok m.now }
@@ -305,6 +391,7 @@ fn write_request_ok(m: &[u8]) -> bool
     (set(m) != 0) & written_set_ok(m)
 }
 
+#[tactic(auto, unfolding(crate::specs::Range::page_message_ok))]
 fn page_message_ok(m: &[u8]) -> bool
     requires { message_length ≤ length m.now }
     ensures { result ≡ page_message_ok m.now }
@@ -317,6 +404,7 @@ fn page_message_ok(m: &[u8]) -> bool
 }
 
 // A page with a lock names no object: the station knows what it asked for.
+#[tactic(auto, unfolding(crate::specs::Range::grant_ok))]
 fn grant_ok(m: &[u8]) -> bool
     requires { message_length ≤ length m.now }
     ensures { result ≡ grant_ok m.now }
@@ -324,6 +412,7 @@ fn grant_ok(m: &[u8]) -> bool
     page_message_ok(m) & zeros(m, OBJECT, 1)
 }
 
+#[tactic(auto, unfolding(crate::specs::Range::deescalate_ok))]
 fn deescalate_ok(m: &[u8]) -> bool
     requires { message_length ≤ length m.now }
     ensures { result ≡ deescalate_ok m.now }
@@ -336,13 +425,14 @@ fn callback_ok(at: u32, m: &[u8]) -> bool
     ensures { result ≡ callback_ok at m.now }
 {
     (page(m) <= 7)
-        & (le::wide(page(m)) != at)
+        & (u32::from(page(m)) != at)
         & zeros(m, OBJECT, 1)
         & (transaction(m) != 0)
         & zeros(m, PAGES, PAGES_VERSION)
         & zeros(m, VALUES, FROM_VALUES)
 }
 
+#[tactic(auto, unfolding(crate::specs::Range::committed_ok))]
 fn committed_ok(m: &[u8]) -> bool
     requires { message_length ≤ length m.now }
     ensures { result ≡ committed_ok m.now }
@@ -354,6 +444,7 @@ fn committed_ok(m: &[u8]) -> bool
         & zeros(m, SETS, FROM_SETS)
 }
 
+#[tactic(auto, unfolding(crate::specs::Range::aborted_ok))]
 fn aborted_ok(m: &[u8]) -> bool
     requires { message_length ≤ length m.now }
     ensures { result ≡ aborted_ok m.now }
@@ -376,71 +467,65 @@ fn invalidate_ok(m: &[u8]) -> bool
 }
 
 // The fields of a message to the server: an arm for each kind.
-fn up_fields(m: &[u8]) -> bool
-    requires { message_length ≤ length m.now }
+#[tactic(auto, unfolding(crate::specs::Range::up_fields_ok))]
+fn up_fields(kind: Up, m: &[u8]) -> bool
+    requires { (message_length ≤ length m.now) × (up_code kind ≡ kind_of m.now) }
     ensures { result ≡ up_fields_ok m.now }
 {
-    match kind(m) {
-        1 => request_ok(m),
-        2 => write_request_ok(m),
-        3 => commit_ok(m),
-        4 => abort_ok(m),
-        5 => purge_ok(m),
-        6 => busy_ok(m),
-        7 => done_ok(m),
-        8 => written_set_ok(m),
-        _ => false,
+    match kind {
+        Up::Read => request_ok(m),
+        Up::Write => write_request_ok(m),
+        Up::Commit => commit_ok(m),
+        Up::Abort => abort_ok(m),
+        Up::Purge => purge_ok(m),
+        Up::Busy => busy_ok(m),
+        Up::Done => done_ok(m),
+        Up::WrittenSet => written_set_ok(m),
     }
 }
 
 // The fields of a message to a station: an arm for each kind.
-fn down_fields(at: u32, m: &[u8]) -> bool
-    requires { message_length ≤ length m.now }
+#[tactic(auto, unfolding(crate::specs::Range::down_fields_ok))]
+fn down_fields(kind: Down, at: u32, m: &[u8]) -> bool
+    requires { (message_length ≤ length m.now) × (down_code kind ≡ kind_of m.now) }
     ensures { result ≡ down_fields_ok at m.now }
 {
-    match kind(m) {
-        16 => page_message_ok(m),
-        17 => grant_ok(m),
-        18 => grant_ok(m),
-        19 => deescalate_ok(m),
-        20 => callback_ok(at, m),
-        21 => committed_ok(m),
-        22 => aborted_ok(m),
-        23 => invalidate_ok(m),
-        _ => false,
+    match kind {
+        Down::Page => page_message_ok(m),
+        Down::LockedObjects | Down::LockedPage => grant_ok(m),
+        Down::Deescalate => deescalate_ok(m),
+        Down::Callback => callback_ok(at, m),
+        Down::Committed => committed_ok(m),
+        Down::Aborted => aborted_ok(m),
+        Down::Invalidate => invalidate_ok(m),
     }
 }
 
-fn range_number(ok: bool) -> u32
-    ensures { result ≡ cond ok 0 4 }
+// Number 4 where something is out of range.
+fn in_range(ok: bool) -> Result<(), Refusal>
+    ensures { code result ≡ cond ok 0 4 }
 {
-    if ok { 0 } else { 4 }
+    if ok { Ok(()) } else { Err(Refusal::Range) }
 }
 
-// Numbers 3 and 4 at the server. Each end names both ranges of kinds, and takes one.
-fn up_range(m: &[u8]) -> u32
+// Numbers 3 and 4 at the server.
+#[tactic(auto, unfolding(crate::specs::Number::up_range))]
+fn up_range(m: &[u8]) -> Result<(), Refusal>
     requires { message_length ≤ length m.now }
-    ensures { result ≡ up_range m.now }
+    ensures { code result ≡ up_range m.now }
 {
-    match kind(m) {
-        1..=8 => range_number((station(m) <= 7) & up_fields(m)),
-        // these go to stations
-        16..=23 => 3,
-        _ => 3,
-    }
+    let sent = Up::try_from(kind(m))?;
+    in_range((station(m) <= 7) & up_fields(sent, m))
 }
 
 // Numbers 3 and 4 at station `at`.
-fn down_range(at: u32, m: &[u8]) -> u32
+#[tactic(auto, unfolding(crate::specs::Number::down_range))]
+fn down_range(at: u32, m: &[u8]) -> Result<(), Refusal>
     requires { message_length ≤ length m.now }
-    ensures { result ≡ down_range at m.now }
+    ensures { code result ≡ down_range at m.now }
 {
-    match kind(m) {
-        // these go to the server
-        1..=8 => 3,
-        16..=23 => range_number((at <= 7) & (station(m) <= 7) & down_fields(at, m)),
-        _ => 3,
-    }
+    let sent = Down::try_from(kind(m))?;
+    in_range((at <= 7) & (station(m) <= 7) & down_fields(sent, at, m))
 }
 
 // The kind, 0 for no bytes at all.
@@ -451,6 +536,7 @@ fn kind_of(m: &[u8]) -> u8
 }
 
 // How many entries a commit of this length has.
+#[tactic(auto, unfolding(crate::specs::Commit::count_of))]
 fn count_of(m: &[u8]) -> usize
     requires { shortest_commit ≤ length m.now }
     ensures { (result ≡ count_of m.now) × (shortest_commit + result * (version_width + entry_length) ≤ length m.now) }
@@ -459,6 +545,7 @@ fn count_of(m: &[u8]) -> usize
 }
 
 // Where a commit's record stands.
+#[tactic(auto, unfolding(crate::specs::Commit::record_at))]
 pub fn record_at(m: &[u8]) -> usize
     requires { shortest_commit ≤ length m.now }
     ensures { (result ≡ record_at m.now) × (result + header_length ≤ length m.now) }
@@ -471,16 +558,17 @@ pub fn sent_reads(m: &[u8]) -> usize
     requires { shortest_commit ≤ length m.now }
     ensures { (result ≡ sent_reads m.now) × (result < 65536) }
 {
-    le::index(le::get_u16(m, record_at(m) + record::READS))
+    le::get_u16(m, record_at(m) + record::READS) as usize
 }
 
 pub fn sent_writes(m: &[u8]) -> usize
     requires { shortest_commit ≤ length m.now }
     ensures { (result ≡ sent_writes m.now) × (result < 65536) }
 {
-    le::index(le::get_u16(m, record_at(m) + record::WRITES))
+    le::get_u16(m, record_at(m) + record::WRITES) as usize
 }
 
+#[tactic(auto, unfolding(crate::specs::Commit::commit_length_ok))]
 fn commit_length_ok(m: &[u8]) -> bool
     ensures { result ≡ commit_length_ok m.now }
 {
@@ -493,21 +581,23 @@ fn commit_length_ok(m: &[u8]) -> bool
 }
 
 // Number 2.
+#[tactic(auto, unfolding(crate::specs::Number::length_ok))]
 fn length_ok(m: &[u8]) -> bool
     ensures { result ≡ length_ok m.now }
 {
-    if kind_of(m) == 3 {
+    if kind_of(m) == Up::Commit as u8 {
         return commit_length_ok(m);
     }
     m.len() == LENGTH
 }
 
-// The number of a message that comes to a station: 2, 3 or 4, else 0.
-pub fn down_check(station: u32, m: &[u8]) -> u32
-    ensures { result ≡ down_number station m.now }
+// Whether a message may come to a station: number 2, 3 or 4 otherwise.
+#[tactic(auto, unfolding(crate::specs::Number::down_number))]
+pub fn down_check(station: u32, m: &[u8]) -> Result<(), Refusal>
+    ensures { code result ≡ down_number station m.now }
 {
     if !length_ok(m) {
-        return 2;
+        return Err(Refusal::Length);
     }
     down_range(station, m)
 }
@@ -521,6 +611,7 @@ fn page_bit(p: u32) -> u32
 }
 
 // Whether a commit has no more reads and no more writes than one transaction may have.
+#[tactic(auto, unfolding(crate::specs::Commit::few_ok))]
 fn few_ok(m: &[u8]) -> bool
     requires { shortest_commit ≤ length m.now }
     ensures { result ≡ few_ok m.now }
@@ -529,6 +620,7 @@ fn few_ok(m: &[u8]) -> bool
 }
 
 // A version other than 0 is from a validating station.
+#[tactic(auto, unfolding(crate::specs::Commit::version_ok))]
 fn version_ok(kind: u8, m: &[u8], e: usize) -> bool
     requires { versions_at + e * version_width + version_width ≤ length m.now }
     ensures { result ≡ version_ok kind m.now e }
@@ -541,13 +633,7 @@ fn versions_ok(kind: u8, m: &[u8], n: usize) -> bool
     requires { versions_at + n * version_width ≤ length m.now }
     ensures { result ≡ all_to (version_ok kind m.now) n }
 {
-    let mut ok = true;
-    let mut e = 0;
-    while e < n {
-        ok &= version_ok(kind, m, e);
-        e += 1;
-    }
-    ok
+    all_of(n, |e| version_ok(kind, m, e))
 }
 
 // The pages of n addresses from `at`.
@@ -556,15 +642,14 @@ fn pages_of(m: &[u8], at: usize, n: usize) -> u32
     ensures { result ≡ pages_to m.now at n }
 {
     let mut pages: u32 = 0;
-    let mut i = 0;
-    while i < n {
-        pages |= page_bit(le::wide(m[at + i]) / 8);
-        i += 1;
+    for i in 0..n {
+        pages |= page_bit(u32::from(m[at + i]) / 8);
     }
     pages
 }
 
 // Whether a commit's record agrees with the message and with the station's kind at the server.
+#[tactic(auto, unfolding(crate::specs::Commit::record_agrees))]
 fn record_agrees(kind: u8, m: &[u8]) -> bool
     requires { (shortest_commit ≤ length m.now) × (versions_at + entries_of m.now * version_width ≤ length m.now) × (addresses_at m.now + entries_of m.now ≤ length m.now) }
     ensures { result ≡ record_agrees kind m.now }
@@ -580,23 +665,25 @@ fn record_agrees(kind: u8, m: &[u8]) -> bool
 }
 
 // Number 5 of a commit.
-fn commit_number(kind: u8, m: &[u8]) -> u32
+#[tactic(auto, unfolding(crate::specs::Commit::commit_number))]
+fn commit_check(kind: u8, m: &[u8]) -> Result<(), Refusal>
     requires { (shortest_commit ≤ length m.now) × (versions_at + entries_of m.now * version_width ≤ length m.now) × (addresses_at m.now + entries_of m.now ≤ length m.now) }
-    ensures { result ≡ commit_number kind m.now }
+    ensures { code result ≡ commit_number kind m.now }
 {
     if !few_ok(m) {
-        return 5;
+        return Err(Refusal::Record);
     }
     let at = record_at(m);
     if record::wax_record_check(&m[at..]) != 0 {
-        return 5;
+        return Err(Refusal::Record);
     }
     if record_agrees(kind, m) {
-        return 0;
+        return Ok(());
     }
-    5
+    Err(Refusal::Record)
 }
 
+#[tactic(auto, unfolding(crate::specs::Number::kind_ok))]
 fn kind_ok(kinds: &[u8], i: usize) -> bool
     requires { i < length kinds.now }
     ensures { result ≡ kind_ok kinds.now i }
@@ -605,38 +692,31 @@ fn kind_ok(kinds: &[u8], i: usize) -> bool
 }
 
 // Whether these are the kinds of eight stations.
+#[tactic(auto, unfolding(crate::specs::Number::kinds_ok))]
 fn kinds_ok(kinds: &[u8]) -> bool
     ensures { result ≡ kinds_ok kinds.now }
 {
     if kinds.len() != 8 {
         return false;
     }
-    let mut ok = true;
-    let mut i = 0;
-    while i < 8 {
-        ok &= kind_ok(kinds, i);
-        i += 1;
-    }
-    ok
+    all_of(8, |i| kind_ok(kinds, i))
 }
 
-// The number of a message that comes to the server, where the eight stations have these kinds: 2, 3, 4 or 5, else 0; 1 for
+// Whether a message may come to the server, where the eight stations have these kinds: number 2, 3, 4 or 5 otherwise, and 1 for
 // kinds that are none.
-pub fn up_check(kinds: &[u8], m: &[u8]) -> u32
-    ensures { result ≡ up_number kinds.now m.now }
+#[tactic(auto, unfolding(crate::specs::Number::up_number))]
+pub fn up_check(kinds: &[u8], m: &[u8]) -> Result<(), Refusal>
+    ensures { code result ≡ up_number kinds.now m.now }
 {
     if !kinds_ok(kinds) {
-        return 1;
+        return Err(Refusal::Buffer);
     }
     if !length_ok(m) {
-        return 2;
+        return Err(Refusal::Length);
     }
-    let number = up_range(m);
-    if number != 0 {
-        return number;
+    up_range(m)?;
+    if kind(m) != Up::Commit as u8 {
+        return Ok(());
     }
-    if kind(m) != 3 {
-        return 0;
-    }
-    commit_number(kinds[le::index(le::wide(station(m)))], m)
+    commit_check(kinds[station(m) as usize], m)
 }

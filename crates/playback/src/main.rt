@@ -4,79 +4,60 @@
 // Memory is constant. The input buffer holds the longest record that two size fields can claim, 16 + 9 * (65,535 + 65,535)
 // bytes, so that a record is called short only where the archive itself ends inside it. What is done between reads and writes is
 // crate player's; here are the reads and the writes, and what is said to standard error.
-ghost use Rattle.std.specs.Prelude.{◌≤◌, ◌≡◌, ◌==◌, ◌%◌, if◌then◌else◌, length};
+ghost use Rattle.std.specs.Prelude.{◌≤◌, ◌≡◌, ◌==◌, if◌then◌else◌, length};
 ghost use Rattle.std.specs.Process.{exit_status};
+ghost use Rattle.streams.specs.Ending.{number_of};
 
 use player::{Job, Stop};
-use replay::Playback;
+use refusals::Refusal;
+use std::ops::ControlFlow;
 use std::process::ExitCode;
-use streams::{More, Source, read_more};
+use streams::{Source, Status, Told, first, read_more, written};
 
 // Room for the table and the closing line.
 const TABLE_ROOM: usize = 16512;
 
-// The exit statuses.
-const ACCEPTED: u32 = 0;
-
-const REFUSED: u32 = 1;
-
-const UNCLEAR: u32 = 2;
-
-const FAILED: u32 = 3;
-
-// How far the program has come: the bytes of the input buffer that are not played yet, where in the archive they start, the bytes of
-// the output buffer that are not written yet, and whether there is more to do; if not, the exit status.
-#[derive(Drop)]
+// How far the program has come: the bytes of the input buffer that are not played yet, where in the archive they start, the last commit
+// number, and the bytes of the output buffer that are not written yet.
+#[derive(Clone, Copy)]
 struct State {
     start: u64,
     at: usize,
     len: usize,
     last: u32,
     out: usize,
-    going: bool,
-    status: u32,
 }
 
-fn least(a: usize, b: usize) -> usize
-    ensures { (result ≤ a) × (result ≤ b) }
-{
-    if a < b { a } else { b }
+// The counters: what each is, and how often it was written.
+#[derive(Clone, Copy)]
+struct Counters {
+    values: [u64; 256],
+    counts: [u64; 256],
 }
 
-// Writes the lines so far. The first write that fails is the last: the program says so and ends.
-fn flush(rt: HostRuntime, output: &[u8], out: usize) -> bool {
-    let taken = least(out, output.len());
-    write_out(rt, &output[..taken])
+// Each function below that writes fails where that could not be: the first write that fails is the last.
+
+fn write_out(rt: HostRuntime, text: &[u8]) -> Result<(), Told> {
+    written(rt, b"playback: standard output", rt.write_all(text))
 }
 
-fn write_out(rt: HostRuntime, text: &[u8]) -> bool {
-    match rt.write_all(text) {
-        Ok(()) => true,
-        Err(error) => {
-            streams::fail(rt, b"playback: standard output", error);
-            false
-        }
-    }
-}
-
-// Writes the first bytes of a message to standard error. Where that fails there is nobody to tell.
-fn complain(rt: HostRuntime, message: &[u8], length: usize) {
-    let taken = least(length, message.len());
-    streams::tell(rt, &message[..taken]);
+// Writes the lines so far.
+fn flush(rt: HostRuntime, output: &[u8], out: usize) -> Result<(), Told> {
+    write_out(rt, first(output, out))
 }
 
 // Says that the archive ends before a commit.
 fn say_missing(rt: HostRuntime, commit: u32, last: u32) {
     let mut line = [0u8; totals::MESSAGE];
     let e = totals::missing_line(&mut line, 0, commit, last);
-    complain(rt, &line, e);
+    streams::tell(rt, first(&line, e));
 }
 
 // Says what is wrong with the record at the start of these bytes, which start at byte `start` of the archive.
 fn say_fault(rt: HostRuntime, part: &[u8], start: u64, last: u32, values: &[u64; 256]) {
     let mut line = [0u8; words::LINE];
     let e = words::fault_line(&mut line, 0, start, fault::first_fault(part, last, values));
-    complain(rt, &line, e);
+    streams::tell(rt, first(&line, e));
 }
 
 // Says the closing line where standard output has rows alone.
@@ -84,7 +65,7 @@ fn say_closing(rt: HostRuntime, reached: bool, number: u32, last: u32) {
     let mut line = [0u8; totals::MESSAGE];
     let e = text::put_text(&mut line, 0, b"playback: ");
     let e = player::closing_line(&mut line, e, reached, number, last);
-    complain(rt, &line, e);
+    streams::tell(rt, first(&line, e));
 }
 
 // Writes the closing line behind what is there; for a spreadsheet it goes to standard error.
@@ -93,22 +74,19 @@ fn write_closing(
     output: &mut [u8],
     out: usize,
     job: Job,
+    stop: Stop,
     reached: bool,
-    number: u32,
-    last: u32,
-) -> bool {
+) -> Result<(), Told> {
     if job.sep == b' ' {
-        let e = player::closing_line(output, out, reached, number, last);
+        let e = player::closing_line(output, out, reached, stop.number, stop.last);
         return flush(rt, output, e);
     }
-    if !flush(rt, output, out) {
-        return false;
-    }
-    say_closing(rt, reached, number, last);
-    true
+    flush(rt, output, out)?;
+    say_closing(rt, reached, stop.number, stop.last);
+    Ok(())
 }
 
-// The text's end, from `out` on: the table where it is due, then the closing line. Answers whether all was written.
+// The text's end, from `out` on: the table where it is due, then the closing line.
 fn finish_from(
     rt: HostRuntime,
     output: &mut [u8],
@@ -116,14 +94,13 @@ fn finish_from(
     job: Job,
     stop: Stop,
     reached: bool,
-    values: &[u64; 256],
-    counts: &[u64; 256],
-) -> bool {
-    if player::table_due(job, reached) {
-        let e = player::put_table(output, out, values, counts, job.sep);
-        return write_closing(rt, output, e, job, reached, stop.number, stop.last);
+    counters: &Counters,
+) -> Result<(), Told> {
+    if !player::table_due(job, reached) {
+        return write_closing(rt, output, out, job, stop, reached);
     }
-    write_closing(rt, output, out, job, reached, stop.number, stop.last)
+    let e = player::put_table(output, out, &counters.values, &counters.counts, job.sep);
+    write_closing(rt, output, e, job, stop, reached)
 }
 
 // The same behind what is there, which is written first where the table would have no room.
@@ -133,44 +110,14 @@ fn finish(
     job: Job,
     stop: Stop,
     reached: bool,
-    values: &[u64; 256],
-    counts: &[u64; 256],
-) -> bool {
+    counters: &Counters,
+) -> Result<(), Told> {
     let out = stop.out;
     if text::room(TABLE_ROOM, output.len(), out) {
-        return finish_from(rt, output, out, job, stop, reached, values, counts);
+        return finish_from(rt, output, out, job, stop, reached, counters);
     }
-    if !flush(rt, output, out) {
-        return false;
-    }
-    finish_from(rt, output, 0, job, stop, reached, values, counts)
-}
-
-fn done(status: u32) -> State {
-    State {
-        start: 0,
-        at: 0,
-        len: 0,
-        last: 0,
-        out: 0,
-        going: false,
-        status,
-    }
-}
-
-// The end where the job's last commit is reached.
-fn end_reached(
-    rt: HostRuntime,
-    output: &mut [u8],
-    job: Job,
-    stop: Stop,
-    values: &[u64; 256],
-    counts: &[u64; 256],
-) -> State {
-    if !finish(rt, output, job, stop, true, values, counts) {
-        return done(FAILED);
-    }
-    done(ACCEPTED)
+    flush(rt, output, out)?;
+    finish_from(rt, output, 0, job, stop, reached, counters)
 }
 
 // The end at a record that is refused, which stands at the start of `part`.
@@ -181,14 +128,11 @@ fn end_refused(
     output: &mut [u8],
     job: Job,
     stop: Stop,
-    values: &[u64; 256],
-    counts: &[u64; 256],
-) -> State {
-    if !finish(rt, output, job, stop, false, values, counts) {
-        return done(FAILED);
-    }
-    say_fault(rt, part, start, stop.last, values);
-    done(REFUSED)
+    counters: &Counters,
+) -> Result<Status, Told> {
+    finish(rt, output, job, stop, false, counters)?;
+    say_fault(rt, part, start, stop.last, &counters.values);
+    Ok(Status::Refused)
 }
 
 // The end of the archive behind a whole record. A table as of a commit, or a record, that does not come was asked for in vain.
@@ -197,20 +141,35 @@ fn end_whole(
     output: &mut [u8],
     job: Job,
     stop: Stop,
-    values: &[u64; 256],
-    counts: &[u64; 256],
-) -> State {
-    if !finish(rt, output, job, stop, false, values, counts) {
-        return done(FAILED);
-    }
+    counters: &Counters,
+) -> Result<Status, Told> {
+    finish(rt, output, job, stop, false, counters)?;
     if !player::is_missing(job) {
-        return done(ACCEPTED);
+        return Ok(Status::Accepted);
     }
     say_missing(rt, player::narrow(job.until), stop.last);
-    done(UNCLEAR)
+    Ok(Status::Unclear)
 }
 
-// More is wanted: keeps what is not played and reads behind it.
+// The end of the archive with these bytes left: none, or a record that is cut short.
+fn end(
+    rt: HostRuntime,
+    left: &[u8],
+    start: u64,
+    output: &mut [u8],
+    job: Job,
+    stop: Stop,
+    counters: &Counters,
+) -> Result<Status, Told> {
+    if left.len() == 0 {
+        let whole = player::stop_at(0, stop.last, stop.out, 0);
+        return end_whole(rt, output, job, whole, counters);
+    }
+    let short = player::stop_at(0, stop.last, stop.out, Refusal::Short.number());
+    end_refused(rt, left, start, output, job, short, counters)
+}
+
+// More is wanted: keeps what is not played, which starts at byte `start` of the archive, and reads behind it.
 fn read_on(
     rt: HostRuntime,
     source: &mut Source,
@@ -219,52 +178,29 @@ fn read_on(
     len: usize,
     start: u64,
     job: Job,
-    values: &[u64; 256],
-    counts: &[u64; 256],
+    counters: &Counters,
     output: &mut [u8],
     stop: Stop,
-) -> State
+) -> Result<ControlFlow<Status, State>, Told>
     requires { (at ≤ len) × (len ≤ length input.old) }
 {
     let left = player::move_down(input, at, len);
     match read_more(source, input, left) {
-        More::Bytes(n) => State {
+        Ok(Some(n)) => Ok(ControlFlow::Continue(State {
             start,
             at: 0,
             len: n,
             last: stop.last,
             out: stop.out,
-            going: true,
-            status: 0,
-        },
-        More::End => {
-            if left == 0 {
-                return end_whole(
-                    rt,
-                    output,
-                    job,
-                    player::stop_at(0, stop.last, stop.out, 0),
-                    values,
-                    counts,
-                );
-            }
-            let short = player::stop_at(0, stop.last, stop.out, 12);
-            let from: usize = 0;
-            end_refused(
-                rt,
-                &input[from..left],
-                start,
-                output,
-                job,
-                short,
-                values,
-                counts,
-            )
+        })),
+        Ok(None) => {
+            let status = end(rt, first(input, left), start, output, job, stop, counters)?;
+            Ok(ControlFlow::Break(status))
         }
-        More::Failed(error) => {
+        Err(error) => {
             streams::fail(rt, b"playback: the archive cannot be read", error);
-            flush(rt, output, stop.out);
-            done(FAILED)
+            flush(rt, output, stop.out)?;
+            Err(Told)
         }
     }
 }
@@ -275,249 +211,192 @@ fn turn(
     source: &mut Source,
     input: &mut [u8],
     job: Job,
-    values: &mut [u64; 256],
-    counts: &mut [u64; 256],
+    counters: &mut Counters,
     output: &mut [u8],
-    last: u32,
     s: State,
-) -> State {
-    let len = least(s.len, input.len());
-    let from = least(s.at, len);
+) -> Result<ControlFlow<Status, State>, Told> {
+    let len = s.len.min(input.len());
+    let from = s.at.min(len);
     let stop = player::play(
         &input[from..len],
         s.start,
-        last,
+        s.last,
         job,
-        values,
-        counts,
+        &mut counters.values,
+        &mut counters.counts,
         output,
         s.out,
     );
-    let at = from + least(stop.at, len - from);
+    let at = from + stop.at.min(len - from);
     let start = words::further(s.start, stop.at);
     if stop.number == player::NO_ROOM {
-        return State {
+        flush(rt, output, stop.out)?;
+        return Ok(ControlFlow::Continue(State {
             start,
             at,
             len,
             last: stop.last,
             out: 0,
-            going: flush(rt, output, stop.out),
-            status: FAILED,
-        };
+        }));
     }
-    if le::long(stop.last) == job.until {
-        return end_reached(rt, output, job, stop, values, counts);
+    if u64::from(stop.last) == job.until {
+        finish(rt, output, job, stop, true, counters)?;
+        return Ok(ControlFlow::Break(Status::Accepted));
     }
     if player::wants_more(stop.number) {
         return read_on(
-            rt, source, input, at, len, start, job, values, counts, output, stop,
+            rt, source, input, at, len, start, job, counters, output, stop,
         );
     }
-    end_refused(
-        rt,
-        &input[at..len],
-        start,
-        output,
-        job,
-        stop,
-        values,
-        counts,
-    )
+    let status = end_refused(rt, &input[at..len], start, output, job, stop, counters)?;
+    Ok(ControlFlow::Break(status))
 }
 
-// A proved loop has to end, and nothing says that the archive does: it counts down from a number that no run uses up.
+// A proved loop has to end, and nothing says that the archive does: its turns are more than any run takes.
 fn run(
     rt: HostRuntime,
     source: &mut Source,
     input: &mut [u8],
     job: Job,
-    counts: &mut [u64; 256],
+    counters: &mut Counters,
     output: &mut [u8],
-) -> u32 {
-    let mut kept = Playback {
-        values: [0u64; 256],
-        last: 0,
-    };
+) -> Result<Status, Told> {
     let mut s = State {
         start: 0,
         at: 0,
         len: 0,
         last: 0,
         out: player::put_heading(output, 0, job),
-        going: true,
-        status: 0,
     };
-    let mut turns = u64::MAX;
-    while turns > 0 {
-        if !s.going {
-            return s.status;
+    for _ in 0..u64::MAX {
+        match turn(rt, source, input, job, counters, output, s)? {
+            ControlFlow::Continue(next) => s = next,
+            ControlFlow::Break(status) => return Ok(status),
         }
-        let last = kept.last;
-        s = turn(
-            rt,
-            source,
-            input,
-            job,
-            &mut kept.values,
-            counts,
-            output,
-            last,
-            s,
-        );
-        kept.last = s.last;
-        turns -= 1;
     }
-    FAILED
+    Ok(Status::Failed)
 }
 
 // The buffer comes as an array: its length is then known by its type, and nothing has to be computed of its bytes.
-fn start(rt: HostRuntime, source: &mut Source, input: &mut [u8; player::INPUT], job: Job) -> u32 {
-    let mut counts = [0u64; 256];
+fn start(
+    rt: HostRuntime,
+    source: &mut Source,
+    input: &mut [u8; player::INPUT],
+    job: Job,
+) -> Result<Status, Told> {
+    let mut counters = Counters {
+        values: [0u64; 256],
+        counts: [0u64; 256],
+    };
     let mut output = streams::large_buffer();
-    run(rt, source, input, job, &mut counts, &mut output)
+    run(rt, source, input, job, &mut counters, &mut output)
 }
 
-fn do_job(rt: HostRuntime, source: &mut Source, job: Job) -> u32 {
+fn do_job(rt: HostRuntime, source: &mut Source, job: Job) -> Result<Status, Told> {
     let mut input = [0u8; player::INPUT];
     start(rt, source, &mut input, job)
 }
 
-// Prints a part of the help unless an earlier one could not be printed, and answers whether the next may be.
-fn say(rt: HostRuntime, going: bool, text: &[u8]) -> bool {
-    if !going {
-        return false;
-    }
-    write_out(rt, text)
-}
-
-fn said(going: bool) -> u32 {
-    if going { ACCEPTED } else { FAILED }
-}
-
-fn help_listings(rt: HostRuntime, on: bool) -> bool {
-    let on = say(rt, on, b"usage: playback [LISTING] [--csv] [ARCHIVE]\n");
-    let on = say(
+fn help_listings(rt: HostRuntime) -> Result<(), Told> {
+    write_out(rt, b"usage: playback [LISTING] [--csv] [ARCHIVE]\n")?;
+    write_out(
         rt,
-        on,
         b"Plays back an archive, or - or nothing for standard input, and prints a listing:\n",
-    );
-    let on = say(
+    )?;
+    write_out(
         rt,
-        on,
         b"  (none)       a line a commit; --from N and --to M print those from N to M\n",
-    );
-    let on = say(
+    )?;
+    write_out(
         rt,
-        on,
         b"  --totals     each counter's value at the end, and how often it was written\n",
-    );
-    let on = say(
+    )?;
+    write_out(
         rt,
-        on,
         b"  --at N       the same as it stood after commit N, from 0 to 4294967295\n",
-    );
-    let on = say(
+    )?;
+    write_out(
         rt,
-        on,
         b"  --counter A  each commit that wrote counter A, 0 to 255; also with --from N and --to M\n",
-    );
-    say(
+    )?;
+    write_out(
         rt,
-        on,
         b"  --record N   commit N in full: its numbers, and every read and write\n",
     )
 }
 
-fn help(rt: HostRuntime) -> u32 {
-    let on = help_listings(rt, true);
-    let on = say(
+fn help(rt: HostRuntime) -> Result<Status, Told> {
+    help_listings(rt)?;
+    write_out(
         rt,
-        on,
         b"  --csv        with commas, and the closing line on standard error\n",
-    );
-    let on = say(rt, on, b"  --help, --version\n");
-    let on = say(
+    )?;
+    write_out(rt, b"  --help, --version\n")?;
+    write_out(
         rt,
-        on,
         b"The closing line is `end N`, `at N` or `refused N after K`; what is wrong goes to standard error.\n",
-    );
-    let on = say(
+    )?;
+    write_out(
         rt,
-        on,
         b"waxwingrack-play exits with 0 accepted, 1 refused, 2 not understood or no such commit, 3 failed.\n",
-    );
-    said(on)
+    )?;
+    Ok(Status::Accepted)
 }
 
-fn version(rt: HostRuntime) -> u32 {
-    said(say(rt, true, b"playback 1.13.3\n"))
+fn version(rt: HostRuntime) -> Result<Status, Told> {
+    write_out(rt, b"playback 1.13.3\n")?;
+    Ok(Status::Accepted)
 }
 
 // Names the word that is not understood.
-fn misunderstood(rt: HostRuntime, i: usize) -> u32 {
-    let mut word = streams::buffer();
-    let n = streams::argument(&rt, i, &mut word);
+fn misunderstood(rt: HostRuntime, i: usize) -> Status {
+    let mut room = streams::buffer();
+    let word = streams::argument(&rt, i, &mut room);
     let mut line = [0u8; arguments::LINE];
-    let e = arguments::unclear_line(&mut line, 0, &word[..n]);
-    complain(rt, &line, e);
-    UNCLEAR
+    let e = arguments::unclear_line(&mut line, 0, word);
+    streams::tell(rt, first(&line, e));
+    Status::Unclear
 }
 
 // Takes word i.
 fn take_word(rt: HostRuntime, a: &mut [u64; arguments::NUMBERS], i: usize) {
-    let mut word = streams::buffer();
-    let n = streams::argument(&rt, i, &mut word);
-    arguments::take(a, i as u64, &word[..n]);
+    let mut room = streams::buffer();
+    arguments::take(a, i as u64, streams::argument(&rt, i, &mut room));
 }
 
 // Takes the words behind the program's name, in order.
 fn take_words(rt: HostRuntime, a: &mut [u64; arguments::NUMBERS], count: usize) {
-    let mut i: usize = 1;
-    while i < count {
+    for i in 1..count {
         take_word(rt, a, i);
-        i += 1;
     }
-    arguments::settle(a, last_word(count));
-}
-
-// The number of the last word.
-fn last_word(count: usize) -> u64 {
-    if count == 0 { 0 } else { (count - 1) as u64 }
+    arguments::settle(a, count.saturating_sub(1) as u64);
 }
 
 // Opens the archive that word i names; 0 and the word - are standard input.
-fn open(rt: HostRuntime, i: usize) -> Option<Source> {
+fn open(rt: HostRuntime, i: usize) -> Result<Source, Told> {
     if i == 0 {
-        return Some(Source::Standard(rt.stdin()));
+        return Ok(Source::Standard(rt.stdin()));
     }
-    let mut word = streams::buffer();
-    let n = streams::argument(&rt, i, &mut word);
-    if arguments::is_dash(&word[..n]) {
-        return Some(Source::Standard(rt.stdin()));
+    let mut room = streams::buffer();
+    let word = streams::argument(&rt, i, &mut room);
+    if arguments::is_dash(word) {
+        return Ok(Source::Standard(rt.stdin()));
     }
-    match streams::open(rt, &word[..n]) {
-        Ok(file) => Some(Source::Named(file)),
+    match streams::open(rt, word) {
+        Ok(file) => Ok(Source::Named(file)),
         Err(error) => {
-            complain(rt, b"playback: ", words::PREFIX);
-            streams::fail(rt, &word[..n], error);
-            None
+            streams::tell(rt, b"playback: ");
+            streams::fail(rt, word, error);
+            Err(Told)
         }
     }
 }
 
-fn play_file(rt: HostRuntime, opened: Option<Source>, job: Job) -> u32 {
-    match opened {
-        None => FAILED,
-        Some(mut source) => do_job(rt, &mut source, job),
-    }
-}
-
-// Does what is asked for, and answers the exit status.
-fn answer(rt: HostRuntime, a: &[u64; arguments::NUMBERS]) -> u32 {
+// Does what is asked for.
+fn answer(rt: HostRuntime, a: &[u64; arguments::NUMBERS]) -> Result<Status, Told> {
     let wrong = a[arguments::WRONG];
     if wrong != 0 {
-        return misunderstood(rt, wrong as usize);
+        return Ok(misunderstood(rt, wrong as usize));
     }
     let listing = a[arguments::LISTING];
     if listing == arguments::HELP {
@@ -528,28 +407,25 @@ fn answer(rt: HostRuntime, a: &[u64; arguments::NUMBERS]) -> u32 {
     }
     let number = player::narrow(a[arguments::NUMBER]);
     let from = player::narrow(a[arguments::FROM]);
-    let job = player::job_of(
-        listing,
-        number,
-        from,
-        a[arguments::UNTIL],
-        a[arguments::CSV],
-    );
-    play_file(rt, open(rt, a[arguments::FILE] as usize), job)
+    let until = a[arguments::UNTIL];
+    let job = player::job_of(listing, number, from, until, a[arguments::CSV]);
+    let mut source = open(rt, a[arguments::FILE] as usize)?;
+    do_job(rt, &mut source, job)
 }
 
 // The exit status for the front end, which asks for it; by itself the program ends with 0.
-fn tell(asked: u64, status: u32) -> ExitCode
-    ensures { exit_status result ≡ (if asked == 0 then 0 else status % 4) }
+fn tell(asked: u64, status: Status) -> ExitCode
+    ensures { exit_status result ≡ (if asked == 0 then 0 else number_of status) }
 {
     if asked == 0 {
         return ExitCode::SUCCESS;
     }
-    ExitCode::from((status % 4) as u8)
+    status.code()
 }
 
 fn main(rt: HostRuntime) -> ExitCode {
     let mut a = arguments::nothing_asked();
     take_words(rt, &mut a, streams::argument_count(&rt));
-    tell(a[arguments::STATUS], answer(rt, &a))
+    let status = answer(rt, &a).unwrap_or(Status::Failed);
+    tell(a[arguments::STATUS], status)
 }

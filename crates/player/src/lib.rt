@@ -19,7 +19,8 @@ pub const DIGITS: usize = 20;
 // No commit has this number.
 pub const NEVER: u64 = 4294967296;
 
-// The listings: a line a commit, the table of counters, the changes of a counter, a record in full.
+// The listings: a line a commit, the table of counters, the changes of a counter, a record in full. They are numbers and no enum: a job
+// is an argument of the functions below, and `run_of`, `heading_put` and `is_missing` say what each does for every number.
 pub const COMMITS: u64 = 0;
 
 pub const TABLE: u64 = 1;
@@ -41,7 +42,8 @@ pub struct Job {
     pub sep: u8,
 }
 
-// Where a play of some bytes stopped, and the number that stopped it: 0 at their end or at the job's last commit.
+// Where a play of some bytes stopped, and the number that stopped it: 0 at their end or at the job's last commit. It is a number and no
+// `Result`: `stop_at`, `wants_more` and `closing_line` take every one, and `ran` names it.
 #[derive(Clone, Copy)]
 pub struct Stop {
     pub at: usize,
@@ -62,6 +64,7 @@ pub fn stop_at(at: usize, last: u32, out: usize, number: u32) -> Stop
 }
 
 // The line of a commit that wrote the job's counter, which was `before` and is `after`.
+#[tactic(auto, unfolding(crate::specs::Play::change_put))]
 fn note_change(
     part: &[u8],
     f: Fields,
@@ -80,6 +83,7 @@ fn note_change(
 }
 
 // What a replayed record adds to the text.
+#[tactic(auto, unfolding(crate::specs::Play::text_put))]
 fn note_text(
     part: &[u8],
     base: u64,
@@ -107,6 +111,7 @@ fn note_text(
 
 // Takes note of a record that was replayed, in the table's counts or in the text. `part` is the input from its start on, `base` the
 // archive's byte where the input starts.
+#[tactic(auto, unfolding(crate::specs::Play::note_of))]
 fn note(
     part: &[u8],
     base: u64,
@@ -142,12 +147,12 @@ pub fn play(
 ) -> Stop
     ensures { ran values.new counts.new (put output.new result.out) result.at result.last result.number ≡ run_of job base input.now last values.old counts.old (put output.old out) }
 {
-    let counter = le::index(le::wide(job.counter));
+    let counter = job.counter as usize;
     let mut at = 0;
     let mut commit = last;
     let mut next = out;
     loop {
-        if le::long(commit) == job.until {
+        if u64::from(commit) == job.until {
             return stop_at(at, commit, next, 0);
         }
         let before = values[counter];
@@ -169,6 +174,7 @@ pub fn play(
 }
 
 // The byte between columns.
+#[tactic(auto, unfolding(crate::specs::Close::separator))]
 fn between(csv: u64) -> u8
     ensures { result ≡ separator csv }
 {
@@ -179,6 +185,7 @@ fn between(csv: u64) -> u8
 }
 
 // A counter's number; what is none is 0.
+#[tactic(auto, unfolding(crate::specs::Close::counter_of))]
 fn counter_of(number: u32) -> u8
     ensures { result ≡ counter_of number }
 {
@@ -189,6 +196,7 @@ fn counter_of(number: u32) -> u8
 }
 
 // The job that the arguments ask for.
+#[tactic(auto, unfolding(crate::specs::Close::job_of))]
 pub fn job_of(listing: u64, number: u32, from: u32, until: u64, csv: u64) -> Job
     ensures { result ≡ job_of listing number from until csv }
 {
@@ -198,7 +206,7 @@ pub fn job_of(listing: u64, number: u32, from: u32, until: u64, csv: u64) -> Job
             listing: TABLE,
             counter: 0,
             from: 0,
-            until: le::long(number),
+            until: u64::from(number),
             sep,
         };
     }
@@ -207,7 +215,7 @@ pub fn job_of(listing: u64, number: u32, from: u32, until: u64, csv: u64) -> Job
             listing: FULL,
             counter: 0,
             from: number,
-            until: le::long(number),
+            until: u64::from(number),
             sep,
         };
     }
@@ -221,6 +229,7 @@ pub fn job_of(listing: u64, number: u32, from: u32, until: u64, csv: u64) -> Job
 }
 
 // A number of the arguments, which 32 bits hold.
+#[tactic(auto, unfolding(crate::specs::Close::narrowed))]
 pub fn narrow(n: u64) -> u32
     ensures { result ≡ narrowed n }
 {
@@ -231,6 +240,7 @@ pub fn narrow(n: u64) -> u32
 }
 
 // Puts the heading, and answers where the next line goes.
+#[tactic(auto, unfolding(crate::specs::Close::heading_put))]
 pub fn put_heading(output: &mut [u8], out: usize, job: Job) -> usize
     ensures { put output.new result ≡ heading_put job (put output.old out) }
 {
@@ -244,6 +254,7 @@ pub fn put_heading(output: &mut [u8], out: usize, job: Job) -> usize
 }
 
 // Puts the table: its heading and a line for each counter.
+#[tactic(auto, unfolding(crate::specs::Close::counters_to))]
 pub fn put_table(
     output: &mut [u8],
     out: usize,
@@ -254,15 +265,14 @@ pub fn put_table(
     ensures { put output.new result ≡ table_put sep values.now counts.now (put output.old out) }
 {
     let mut next = totals::heading_line(output, out, sep);
-    let mut a: usize = 0;
-    while a < 256 {
+    for a in 0..256 {
         next = totals::counter_line(output, next, a as u8, values[a], counts[a], sep);
-        a += 1;
     }
     next
 }
 
 // Whether the table is printed, with the job's last commit reached or not.
+#[tactic(auto, unfolding(crate::specs::Close::table_due))]
 pub fn table_due(job: Job, reached: bool) -> bool
     ensures { result ≡ table_due job reached }
 {
@@ -270,6 +280,7 @@ pub fn table_due(job: Job, reached: bool) -> bool
 }
 
 // Whether a play that stopped so goes on behind another read: it is at the end of what is there, or inside a record.
+#[tactic(auto, unfolding(crate::specs::Close::wants_more))]
 pub fn wants_more(number: u32) -> bool
     ensures { result ≡ wants_more number }
 {
@@ -277,6 +288,7 @@ pub fn wants_more(number: u32) -> bool
 }
 
 // Whether an archive that ends before the job's last commit does not have what was asked for: the table as of a commit, or a record.
+#[tactic(auto, unfolding(crate::specs::Close::is_missing))]
 pub fn is_missing(job: Job) -> bool
     ensures { result ≡ is_missing job }
 {
@@ -284,6 +296,7 @@ pub fn is_missing(job: Job) -> bool
 }
 
 // Puts the closing line.
+#[tactic(auto, unfolding(crate::specs::Close::closing_line))]
 pub fn closing_line(output: &mut [u8], out: usize, reached: bool, number: u32, last: u32) -> usize
     ensures { put output.new result ≡ line_at output.old out (closing_line reached number last) }
 {
@@ -302,11 +315,6 @@ pub fn move_down(input: &mut [u8], at: usize, len: usize) -> usize
     requires { (at ≤ len) × (len ≤ length input.old) }
     ensures { (input.new ≡ moved_down input.old at len) × (result ≡ len - at) }
 {
-    let left = len - at;
-    let mut i = 0;
-    while i < left {
-        input[i] = input[at + i];
-        i += 1;
-    }
-    left
+    input.copy_within(at..len, 0);
+    len - at
 }

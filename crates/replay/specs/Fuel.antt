@@ -1,14 +1,13 @@
 -- The turns of `archivePlayed` always suffice: a record ends behind its start, so a turn more than the bytes that are left is enough.
-use Rattle.std.specs.Prelude.{ℕ, zero, suc, ◌+◌, ◌-◌, ◌≤◌, ◌<◌, ◌≡◌, List, Bool, cond, length, take, drop}
+use Rattle.std.specs.Prelude.{ℕ, zero, suc, ◌+◌, ◌-◌, ◌≤◌, ◌<◌, ◌≡◌, List, Bool, cond, length, drop}
 use Rattle.std.proofs.Math.Path.{refl, sym}
 use Rattle.std.proofs.Common.{ap, ◌∙◌, arith}
 use Rattle.std.proofs.Math.Bool.{true, false}
 use borrow.Author.Tests.{le-ltb, eq-eqb, ne_eqb, eqb-true}
 use Rattle.std.proofs.Math.ListN.{length-drop}
 use Rattle.std.proofs.Math.Dec.{eqb}
-use Rattle.lists.specs.Stores.{to_the_end}
 use Rattle.layout.specs.Record.{header_length}
-use Rattle.record.specs.Check.{commit_number, length_of, claimed_length, check_of}
+use Rattle.record.specs.Check.{commit_number, length_of, check_of}
 use Rattle.record.specs.Facts.{accepted}
 use Rattle.archive.specs.declared.Fields.{Fields}
 use Rattle.archive.specs.declared.Answer.{Answer}
@@ -155,33 +154,3 @@ pub turn_end : (s : List ℕ) (at last : ℕ) (v : List ℕ) → at ≡ length s
 unfolding replay_of read_of
 turn_end s at last v e =
     turn s at last v v End (omega arith) (rw (le-ltb (length s) at (omega arith), eq-eqb at (length s) e))
-
--- what playing the part from `at` on tells of the play of the archive: a refusal ends it
-pub refused_part : (s : List ℕ) (at last : ℕ) (v w : List ℕ) (l k : ℕ) → at < length s → (k ≡ 0 → ⊥)
-    → played w l k ≡ record_played (take (length s - at) (drop at s)) last v → play_from (suc (length s) - at) s at last v ≡ played w l k
-refused_part s at last v w l k inside n e =
-    let ends : resume s at (played w l k) ≡ played w l k = rw (ne_eqb k 0 n) in
-    turn_alone s at last v inside ∙ sym (ap (resume s at) (rw to_the_end at e)) ∙ ends
-
--- an accepted record leaves the play from its end on
-pub record Resumed (s : List ℕ) (at last : ℕ) (v w : List ℕ) (l n : ℕ) : Type 0 where
-  pub moves : header_length ≤ n
-  pub within : at + n ≤ length s
-  pub rest : play_from (suc (length s) - at) s at last v ≡ play_from (suc (length s) - (at + n)) s (at + n) l w
-
-pub accepted_part : (s : List ℕ) (at last : ℕ) (v w : List ℕ) (l k n : ℕ) → at < length s → k ≡ 0
-    → played w l k ≡ record_played (take (length s - at) (drop at s)) last v → n ≡ claimed_length (take (length s - at) (drop at s))
-    → Resumed s at last v w l n
-unfolding claimed_length
-accepted_part s at last v w l k n inside z e en =
-    let e' : played w l 0 ≡ record_played (drop at s) last v = rw (to_the_end, z) at e in
-    let a = accepted (drop at s) (accepts s at last v inside (sym (ap (λ (p : Played). p.number) e'))) in
-    let there = a.header_there in
-    let all = a.all_there in
-    let d = length-drop at s in
-    let is : n ≡ length_of (drop at s) = rw (to_the_end, le-ltb (length (drop at s)) header_length there) at en in
-    record {
-      moves = omega arith;
-      within = omega arith;
-      rest = rw is (turn_alone s at last v inside ∙ sym (ap (resume s at) e'));
-    }

@@ -14,7 +14,7 @@ fn put_field(out: &mut [u8], at: usize, n: u32, follows: u8) -> usize
     requires { at + 11 ≤ length out.old }
     ensures { (put out.new result ≡ put_of out.old at (field n follows)) × (result ≤ at + 11) }
 {
-    text::put_field(out, at, le::long(n), follows)
+    text::put_field(out, at, u64::from(n), follows)
 }
 
 // Each function below puts a line at `at` and answers the position behind it. Where fewer than 64 bytes are free from `at` on it

@@ -1,19 +1,22 @@
 #![tactic(auto)]
 // The server's step, on a lent state and lent output.
 ghost use Rattle.std.specs.Prelude.{◌≡◌, length, true};
+ghost use Rattle.refusals.specs.Refusals.{code};
 ghost use Rattle.server_actions.specs.Pass.{server_step_b};
 ghost use Rattle.server_actions.specs.Posting.{posted, post, counts};
 ghost use Rattle.server_actions.specs.Step.{ready, check_step_b, server_called};
 ghost use Rattle.server.specs.Outcome.{outcome};
 ghost use Rattle.server_state.specs.Layout.{server_length};
 
+use refusals::Refusal;
 use server_actions::Counts;
 use server_state::{KIND, STATIONS};
 
 // Behind the kinds of the eight stations.
 const KINDS_END: usize = KIND + STATIONS;
 
-// What the step answers: the number that turns a call back, or how many messages and how many bytes of records it left.
+// What the step answers: the number that turns a call back, as the host and the theorems have it, or how many messages and how many bytes of records it
+// left.
 #[derive(Clone, Copy)]
 pub enum Served {
     Refused(u32),
@@ -27,19 +30,16 @@ fn ready(s: &[u8], o: &[u8], q: &[u8]) -> bool
     server_state::valid(s) & (message::SERVER_ROOM <= o.len()) & (message::RECORDS_ROOM <= q.len())
 }
 
-// The number of a message at this state: 2 to 5, then 6.
-fn check_step(m: &[u8], s: &[u8]) -> u32
+// Whether a message may come at this state: numbers 2 to 5, then 6.
+fn check_step(m: &[u8], s: &[u8]) -> Result<(), Refusal>
     requires { length s.now ≡ server_length }
-    ensures { result ≡ check_step_b m.now s.now }
+    ensures { code result ≡ check_step_b m.now s.now }
 {
-    let n = message::up_check(&s[KIND..KINDS_END], m);
-    if n != 0 {
-        return n;
-    }
+    message::up_check(&s[KIND..KINDS_END], m)?;
     if server_tests::unexpected(s, m) {
-        return 6;
+        return Err(Refusal::Unexpected);
     }
-    0
+    Ok(())
 }
 
 // The message's own effect, then the pass until nothing changes.
@@ -60,11 +60,10 @@ pub fn step(m: &[u8], s: &mut [u8], o: &mut [u8], q: &mut [u8]) -> Served
     ensures { outcome s.new o.new q.new result ≡ server_called m.now s.old o.old q.old }
 {
     if !ready(s, o, q) {
-        return Served::Refused(1);
+        return Served::Refused(Refusal::Buffer.number());
     }
-    let n = check_step(m, s);
-    if n != 0 {
-        return Served::Refused(n);
+    if let Err(why) = check_step(m, s) {
+        return Served::Refused(why.number());
     }
     let c = serve(s, o, q, m);
     Served::Sent(c.messages, c.records)

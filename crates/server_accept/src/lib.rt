@@ -9,13 +9,14 @@ ghost use Rattle.server_actions.specs.Actions.{commit_now_b, address_of, on_read
 ghost use Rattle.server_actions.specs.Posting.{from as posting_from, posted, post, Room};
 ghost use Rattle.server_accept.specs.Facts.{LastKept, Packed, Acceptable};
 
+use message::{Cause, Down, Up};
 use server_actions::Counts;
 
 fn station(m: &[u8]) -> usize
     requires { message_length ≤ length m.now }
     ensures { result ≡ station_of m.now }
 {
-    le::index(le::wide(message::station(m)))
+    message::station(m) as usize
 }
 
 // Byte 2: a page or a requester.
@@ -23,14 +24,14 @@ fn named(m: &[u8]) -> usize
     requires { message_length ≤ length m.now }
     ensures { result ≡ page_of m.now }
 {
-    le::index(le::wide(message::page(m)))
+    message::page(m) as usize
 }
 
 fn address(m: &[u8]) -> usize
     requires { (message_length ≤ length m.now) × (address_of m.now < 256) }
     ensures { result ≡ address_of m.now }
 {
-    named(m) * station_state::OBJECTS + le::index(le::wide(message::object(m)))
+    named(m) * station_state::OBJECTS + message::object(m) as usize
 }
 
 // With its first message a transaction is unfinished and has an age.
@@ -54,10 +55,11 @@ fn on_read(s: &mut [u8], o: &mut [u8], q: &mut [u8], c: Counts, m: &[u8]) -> Cou
         server_changes::join_read(s, i, a);
         return c;
     }
-    server_actions::send_page(s, o, q, c, 16, i, a, 0)
+    server_actions::send_page(s, o, q, c, Down::Page as u8, i, a, 0)
 }
 
 // A write waits for all that it names.
+#[tactic(auto, unfolding(server_actions::specs::Actions::on_write_b, server_actions::specs::Actions::noticed_b))]
 fn on_write(s: &mut [u8], m: &[u8])
     requires { (length s.old ≡ server_length) × (message_length ≤ length m.now) × (station_of m.now < 8) × (page_of m.now < 32) × (ages_of s.old < counter_limit) × (arrivals_of s.old < counter_limit) }
     ensures { s.new ≡ (on_write_b m.now (posting_from s.old)).state }
@@ -71,8 +73,8 @@ fn commit_now(s: &mut [u8], o: &mut [u8], q: &mut [u8], c: Counts, m: &[u8], i: 
     requires { (length s.old ≡ server_length) × Packed m.now × (i < 8) × LastKept i m.now s.old × Room o.old q.old c (commit_now_b i m.now (posting_from s.old)) }
     ensures { posted s.new o.new q.new result ≡ post o.old q.old c (commit_now_b i m.now (posting_from s.old)) }
 {
-    if server_state::last(s) == 4294967295 {
-        return server_actions::abort(s, o, q, c, i, 4);
+    if server_state::last(s) == u32::MAX {
+        return server_actions::abort(s, o, q, c, i, Cause::NoNumber as u8);
     }
     server_changes::leave(s, i);
     server_changes::unpack_commit(s, m, i);
@@ -94,6 +96,7 @@ fn on_commit(s: &mut [u8], o: &mut [u8], q: &mut [u8], c: Counts, m: &[u8]) -> C
     c
 }
 
+#[tactic(auto, unfolding(server_actions::specs::Actions::on_abort_b, server_actions::specs::Actions::noticed_b))]
 fn on_abort(s: &mut [u8], m: &[u8])
     requires { (length s.old ≡ server_length) × (message_length ≤ length m.now) × (station_of m.now < 8) × (ages_of s.old < counter_limit) }
     ensures { s.new ≡ (on_abort_b m.now (posting_from s.old)).state }
@@ -102,6 +105,7 @@ fn on_abort(s: &mut [u8], m: &[u8])
     server_changes::finish(s, station(m), 0);
 }
 
+#[tactic(auto, unfolding(server_actions::specs::Actions::on_purge_b))]
 fn on_purge(s: &mut [u8], m: &[u8])
     requires { (length s.old ≡ server_length) × (message_length ≤ length m.now) × (station_of m.now < 8) × (page_of m.now < 32) }
     ensures { s.new ≡ (on_purge_b m.now (posting_from s.old)).state }
@@ -156,16 +160,16 @@ pub fn accept(s: &mut [u8], o: &mut [u8], q: &mut [u8], c: Counts, m: &[u8]) -> 
     requires { (length s.old ≡ server_length) × Acceptable s.old m.now × Room o.old q.old c (accept_b m.now (posting_from s.old)) }
     ensures { posted s.new o.new q.new result ≡ post o.old q.old c (accept_b m.now (posting_from s.old)) }
 {
-    match message::kind(m) {
-        1 => return on_read(s, o, q, c, m),
-        2 => on_write(s, m),
-        3 => return on_commit(s, o, q, c, m),
-        4 => on_abort(s, m),
-        5 => on_purge(s, m),
-        6 => on_busy(s, m),
-        7 => on_done(s, m),
-        8 => on_written_set(s, m),
-        _ => {}
+    match Up::try_from(message::kind(m)) {
+        Ok(Up::Read) => return on_read(s, o, q, c, m),
+        Ok(Up::Write) => on_write(s, m),
+        Ok(Up::Commit) => return on_commit(s, o, q, c, m),
+        Ok(Up::Abort) => on_abort(s, m),
+        Ok(Up::Purge) => on_purge(s, m),
+        Ok(Up::Busy) => on_busy(s, m),
+        Ok(Up::Done) => on_done(s, m),
+        Ok(Up::WrittenSet) => on_written_set(s, m),
+        Err(_) => {}
     }
     c
 }

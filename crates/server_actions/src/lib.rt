@@ -1,6 +1,7 @@
 #![tactic(auto)]
 // The server's actions. What is sent goes behind the messages in o, what is archived behind the records in q, and the answer says how
-// much stands there then. There is room for all of it: the step's bounds (crate line) are those of every valid state.
+// much stands there then. There is room for all of it: the step's bounds (crate line) are those of every valid state. o, q and c stay three arguments: the
+// functions that other crates call take them so, and one struct of them would be put together and taken apart at each such call.
 ghost use Rattle.std.specs.Prelude.{◌≡◌, ◌+◌, ◌*◌, ◌≤◌, ◌<◌, length, take, drop};
 ghost use Rattle.std.proofs.lemmas.List.Edits.{sets};
 ghost use Rattle.message.specs.Layout.{message_length};
@@ -10,7 +11,7 @@ ghost use Rattle.server_actions.specs.Posting.{from as posting_from, counts, pos
 ghost use Rattle.server_actions.specs.Parts.{installed_b};
 ghost use Rattle.server_actions.specs.Informs.{inform_one_b};
 
-use message::LENGTH as MESSAGE;
+use message::{Down, LENGTH as MESSAGE};
 use server_state::{
     PAGE_ROW, PAGE_VERSION_ROW, READ_SET, READ_VALUE, VALUE, VALUE_ROW, VERSION, WRITTEN_SET,
     WRITTEN_VALUE,
@@ -49,11 +50,9 @@ fn copy_in(o: &mut [u8], at: usize, s: &[u8], from: usize, words: usize)
     requires { (at + words * 8 ≤ length o.old) × (from + words * 8 ≤ length s.now) }
     ensures { o.new ≡ sets o.old at (take (words * 8) (drop from s.now)) }
 {
-    let mut k = 0;
-    while k < words {
+    for k in 0..words {
         let v = le::get_u64(s, from + k * WORD);
         le::put_u64(o, at + k * WORD, v);
-        k += 1;
     }
 }
 
@@ -82,7 +81,7 @@ pub fn put_callback(o: &mut [u8], at: usize, s: &[u8], j: usize, i: usize)
     ensures { o.new ≡ sets o.old at (callback_b j i s.now) }
 {
     let t = server_state::latest(s, i);
-    message::put_message(o, at, 20, j as u8, i as u8, 0, t, 0, 0);
+    message::put_message(o, at, Down::Callback as u8, j as u8, i as u8, 0, t, 0, 0);
     copy_in(
         o,
         at + message::SETS,
@@ -119,7 +118,8 @@ pub fn abort(s: &mut [u8], o: &mut [u8], q: &mut [u8], c: Counts, i: usize, caus
     server_changes::leave(s, i);
     server_changes::finish(s, i, server_changes::keeps_age(cause));
     let t = server_state::latest(s, i);
-    message::put_message(o, c.messages * MESSAGE, 22, i as u8, 0, cause, t, 0, 0);
+    let at = c.messages * MESSAGE;
+    message::put_message(o, at, Down::Aborted as u8, i as u8, 0, cause, t, 0, 0);
     one_more(c)
 }
 
@@ -129,7 +129,17 @@ fn inform(s: &mut [u8], o: &mut [u8], q: &mut [u8], c: Counts, w: u8, y: &[u8], 
     ensures { posted s.new o.new q.new result ≡ post o.old q.old c (inform_one_b w y.now (posting_from s.old) j) }
 {
     if station_state::has_bit8(w, j) {
-        message::put_message(o, c.messages * MESSAGE, 23, j as u8, 0, 0, 0, 0, 0);
+        message::put_message(
+            o,
+            c.messages * MESSAGE,
+            Down::Invalidate as u8,
+            j as u8,
+            0,
+            0,
+            0,
+            0,
+            0,
+        );
         copy_in(o, c.messages * MESSAGE + message::SETS, y, 0, SET_WORDS);
         return one_more(c);
     }
@@ -151,11 +161,9 @@ fn inform_all(
 {
     let w = server_sets::informed_set(s, i, d);
     let mut b = c;
-    let mut j = 0;
-    while j < 8 {
+    for j in 0..8 {
         let e = inform(s, o, q, b, w, y, j);
         b = e;
-        j += 1;
     }
     b
 }
@@ -167,7 +175,7 @@ fn archive(s: &[u8], q: &mut [u8], c: Counts, i: usize) -> Counts
 {
     let n = server_state::last(s);
     let t = server_state::work(s, i);
-    let kind = le::wide(server_state::kind(s, i));
+    let kind = u32::from(server_state::kind(s, i));
     let k = set_record::put_record(
         s,
         q,
@@ -198,7 +206,17 @@ fn put_installed(s: &mut [u8], o: &mut [u8], q: &mut [u8], c: Counts, i: usize) 
     server_changes::leave(s, i);
     server_changes::finish(s, i, 0);
     let n = server_state::last(s);
-    message::put_message(o, e.messages * MESSAGE, 21, i as u8, 0, 0, t, 0, n);
+    message::put_message(
+        o,
+        e.messages * MESSAGE,
+        Down::Committed as u8,
+        i as u8,
+        0,
+        0,
+        t,
+        0,
+        n,
+    );
     one_more(e)
 }
 

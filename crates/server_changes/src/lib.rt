@@ -10,6 +10,8 @@ ghost use Rattle.server_changes.specs.Changes.{new_age_b, age_b, notice_b, keeps
 ghost use Rattle.server_changes.specs.Values.{value_at_b};
 ghost use Rattle.station_state.specs.Runs.{run};
 
+use kinds::Want;
+use message::Cause;
 use server_state::{
     AGE, AGE_KEPT, AGE_WIDTH, ARRIVAL, ASKED, Ages, BUSY, CALLED, GROUP_LOCKS, LAST, LATEST,
     LISTED, LOCK, NEXT_AGE, NEXT_ARRIVAL, PEND, READ_SET, READ_VALUE, READ_VERSION, REQUEST,
@@ -65,6 +67,7 @@ pub fn notice(s: &mut [u8], i: usize, t: u32)
 }
 
 // Page p's whole lock is h's (0 for none), given to its transaction t, and no 19 is out for it.
+#[tactic(auto, unfolding(crate::specs::Changes::hold_b))]
 fn hold(s: &mut [u8], p: usize, h: u8, t: u32)
     requires { (length s.old ≡ server_length) × (p < 32) }
     ensures { s.new ≡ hold_b p h t s.old }
@@ -75,6 +78,7 @@ fn hold(s: &mut [u8], p: usize, h: u8, t: u32)
 }
 
 // The 19 of a page goes with its whole lock.
+#[tactic(auto, unfolding(crate::specs::Changes::free_page_b))]
 fn free_page(s: &mut [u8], i: usize, p: usize)
     requires { (length s.old ≡ server_length) × (i < 8) × (p < 32) }
     ensures { s.new ≡ free_page_b i s.old p }
@@ -86,6 +90,7 @@ fn free_page(s: &mut [u8], i: usize, p: usize)
 }
 
 // Eight pages; where none is locked whole none is looked at.
+#[tactic(auto, unfolding(station_state::specs::Runs::run))]
 fn free_group(s: &mut [u8], i: usize, g: usize)
     requires { (length s.old ≡ server_length) × (i < 8) × (g < 4) }
     ensures { s.new ≡ run (free_page_b i) s.old (g * 8) 8 }
@@ -93,21 +98,18 @@ fn free_group(s: &mut [u8], i: usize, g: usize)
     if le::get_u64(s, WHOLE + g * GROUP) == 0 {
         return;
     }
-    let mut p = 0;
-    while p < 8 {
+    for p in 0..8 {
         free_page(s, i, g * GROUP + p);
-        p += 1;
     }
 }
 
+#[tactic(auto, unfolding(station_state::specs::Runs::run))]
 fn free_all_pages(s: &mut [u8], i: usize)
     requires { (length s.old ≡ server_length) × (i < 8) }
     ensures { s.new ≡ free_pages_to i s.old 32 }
 {
-    let mut g = 0;
-    while g < 4 {
+    for g in 0..4 {
         free_group(s, i, g);
-        g += 1;
     }
 }
 
@@ -122,6 +124,7 @@ fn free_pages(s: &mut [u8], i: usize)
     free_all_pages(s, i);
 }
 
+#[tactic(auto, unfolding(crate::specs::Changes::free_one_b))]
 fn free_one(s: &mut [u8], i: usize, a: usize)
     requires { (length s.old ≡ server_length) × (i < 8) × (a < 256) }
     ensures { s.new ≡ free_one_b i s.old a }
@@ -133,6 +136,7 @@ fn free_one(s: &mut [u8], i: usize, a: usize)
 }
 
 // The locks of i on the objects of page p. A page without locks is passed over.
+#[tactic(auto, unfolding(station_state::specs::Runs::run))]
 fn free_on(s: &mut [u8], i: usize, p: usize)
     requires { (length s.old ≡ server_length) × (i < 8) × (p < 32) }
     ensures { s.new ≡ run (free_one_b i) s.old (p * 8) 8 }
@@ -140,14 +144,13 @@ fn free_on(s: &mut [u8], i: usize, p: usize)
     if server_state::locks_on(s, p) == 0 {
         return;
     }
-    let mut o = 0;
-    while o < 8 {
+    for o in 0..8 {
         free_one(s, i, p * OBJECTS + o);
-        o += 1;
     }
 }
 
 // .. and of eight pages.
+#[tactic(auto, unfolding(station_state::specs::Runs::run))]
 fn free_in(s: &mut [u8], i: usize, g: usize)
     requires { (length s.old ≡ server_length) × (i < 8) × (g < 4) }
     ensures { s.new ≡ run (free_one_b i) s.old (g * 64) 64 }
@@ -155,29 +158,26 @@ fn free_in(s: &mut [u8], i: usize, g: usize)
     if station_state::over(s, LOCK + g * GROUP_LOCKS, GROUP_LOCKS) == 0 {
         return;
     }
-    let mut p = 0;
-    while p < 8 {
+    for p in 0..8 {
         free_on(s, i, g * GROUP + p);
-        p += 1;
     }
 }
 
+#[tactic(auto, unfolding(station_state::specs::Runs::run))]
 fn free(s: &mut [u8], i: usize)
     requires { (length s.old ≡ server_length) × (i < 8) }
     ensures { s.new ≡ free_to i s.old 256 }
 {
-    let mut g = 0;
-    while g < 4 {
+    for g in 0..4 {
         free_in(s, i, g);
-        g += 1;
     }
 }
 
-// 1 where a station that gets 22 with this cause keeps its age.
+// 1 where a station that gets 22 with this cause keeps its age. The cause is the byte that 22 carries, and the answer the byte that the state keeps.
 pub fn keeps_age(cause: u8) -> u8
     ensures { result ≡ keeps_age_b cause }
 {
-    if cause == 1 {
+    if cause == Cause::Deadlock as u8 {
         return 1;
     }
     0
@@ -199,7 +199,7 @@ pub fn leave(s: &mut [u8], i: usize)
     requires { (length s.old ≡ server_length) × (i < 8) }
     ensures { s.new ≡ leave_b i s.old }
 {
-    le::put_u8(s, WANT + i, 0);
+    le::put_u8(s, WANT + i, Want::Nothing as u8);
     le::put_u64(s, ARRIVAL + i * AGE_WIDTH, 0);
     le::put_u8(s, REQUEST + i, 0);
     station_state::clear(s, READ_SET + i * SET_ROW);
@@ -209,7 +209,7 @@ pub fn leave(s: &mut [u8], i: usize)
     le::put_u8(s, BUSY + i, 0);
 }
 
-// Station i joins the waiting list, wanting k (1 a read, 2 a write, 3 a commit) at address a.
+// Station i joins the waiting list, wanting k at address a.
 fn join(s: &mut [u8], i: usize, k: u8, a: u8)
     requires { (length s.old ≡ server_length) × (i < 8) × (arrivals_of s.old < counter_limit) }
     ensures { s.new ≡ join_b i k a s.old }
@@ -226,7 +226,7 @@ pub fn join_read(s: &mut [u8], i: usize, a: usize)
     requires { (length s.old ≡ server_length) × (i < 8) × (a < 256) × (arrivals_of s.old < counter_limit) }
     ensures { s.new ≡ join_read_b i a s.old }
 {
-    join(s, i, 1, a as u8);
+    join(s, i, Want::Read as u8, a as u8);
     station_state::add_to(s, READ_SET + i * SET_ROW, a);
 }
 
@@ -235,7 +235,7 @@ pub fn join_write(s: &mut [u8], i: usize, p: usize, x: u8)
     requires { (length s.old ≡ server_length) × (i < 8) × (p < 32) × (arrivals_of s.old < counter_limit) }
     ensures { s.new ≡ join_write_b i p x s.old }
 {
-    join(s, i, 2, (p * OBJECTS) as u8);
+    join(s, i, Want::Write as u8, (p * OBJECTS) as u8);
     le::put_u8(s, WRITTEN_SET + i * SET_ROW + p, x);
 }
 
@@ -246,7 +246,7 @@ fn unpack_one(s: &mut [u8], m: &[u8], at: usize, from: usize, seen: usize, e: us
 {
     let p = message::record_at(m) + record::HEADER;
     let k = message::sent_reads(m) + message::sent_writes(m);
-    let a = le::index(le::wide(m[p + e]));
+    let a = m[p + e] as usize;
     let v = le::get_u64(m, p + k + e * record::VALUE);
     let n = le::get_u32(m, message::VERSIONS + e * message::VERSION_WIDTH);
     station_state::add_to(s, at, a);
@@ -259,10 +259,8 @@ fn unpack(s: &mut [u8], m: &[u8], at: usize, from: usize, seen: usize, first: us
     requires { (length s.old ≡ server_length) × (shortest_commit ≤ length m.now) × (addresses_at m.now + entry_length * entries_of m.now ≤ length m.now) × (versions_at + entries_of m.now * version_width ≤ length m.now) × (at + set_row ≤ server_length) × (from + value_row ≤ server_length) × (seen + version_row ≤ server_length) × (first + n ≤ entries_of m.now) }
     ensures { s.new ≡ unpack_to m.now s.old at from seen first n }
 {
-    let mut k = 0;
-    while k < n {
+    for k in 0..n {
         unpack_one(s, m, at, from, seen, first + k);
-        k += 1;
     }
 }
 
@@ -298,11 +296,12 @@ pub fn join_commit(s: &mut [u8], m: &[u8], i: usize)
     requires { (length s.old ≡ server_length) × (shortest_commit ≤ length m.now) × (addresses_at m.now + entry_length * entries_of m.now ≤ length m.now) × (versions_at + entries_of m.now * version_width ≤ length m.now) × (i < 8) × (arrivals_of s.old < counter_limit) }
     ensures { s.new ≡ join_commit_b i m.now s.old }
 {
-    join(s, i, 3, 0);
+    join(s, i, Want::Commit as u8, 0);
     unpack_commit(s, m, i);
 }
 
 // Station i is listed as holding page p.
+#[tactic(auto, unfolding(crate::specs::Changes::list_b))]
 pub fn list(s: &mut [u8], i: usize, p: usize)
     requires { (length s.old ≡ server_length) × (i < 8) × (p < 32) }
     ensures { s.new ≡ list_b i p s.old }
@@ -311,6 +310,7 @@ pub fn list(s: &mut [u8], i: usize, p: usize)
 }
 
 // Station i is listed for none of the pages of d.
+#[tactic(auto, unfolding(crate::specs::Changes::unlist_b))]
 pub fn unlist(s: &mut [u8], i: usize, d: u32)
     requires { (length s.old ≡ server_length) × (i < 8) }
     ensures { s.new ≡ unlist_b i d s.old }
@@ -320,6 +320,7 @@ pub fn unlist(s: &mut [u8], i: usize, d: u32)
 }
 
 // Station i answers r's 20 with 6.
+#[tactic(auto, unfolding(crate::specs::Changes::mark_busy_b))]
 pub fn mark_busy(s: &mut [u8], i: usize, r: usize)
     requires { (length s.old ≡ server_length) × (i < 8) × (r < 8) }
     ensures { s.new ≡ mark_busy_b i r s.old }
@@ -329,6 +330,7 @@ pub fn mark_busy(s: &mut [u8], i: usize, r: usize)
 }
 
 // Station i answers r's 20 with 7: it owes none, and a 6 before it is void.
+#[tactic(auto, unfolding(crate::specs::Changes::answered_b))]
 pub fn answered(s: &mut [u8], i: usize, r: usize)
     requires { (length s.old ≡ server_length) × (i < 8) × (r < 8) }
     ensures { s.new ≡ answered_b i r s.old }
@@ -340,6 +342,7 @@ pub fn answered(s: &mut [u8], i: usize, r: usize)
     le::put_u8(s, PEND + r, pend);
 }
 
+#[tactic(auto, unfolding(crate::specs::Changes::lock_one_b))]
 fn lock_one(s: &mut [u8], i: usize, p: usize, x: u8, o: usize)
     requires { (length s.old ≡ server_length) × (i < 8) × (p < 32) × (o < 8) }
     ensures { s.new ≡ lock_one_b i p x s.old o }
@@ -351,18 +354,18 @@ fn lock_one(s: &mut [u8], i: usize, p: usize, x: u8, o: usize)
 }
 
 // Station i locks the objects of x on page p.
+#[tactic(auto, unfolding(crate::specs::Changes::lock_to))]
 pub fn lock_set(s: &mut [u8], i: usize, p: usize, x: u8)
     requires { (length s.old ≡ server_length) × (i < 8) × (p < 32) }
     ensures { s.new ≡ lock_to i p x s.old 8 }
 {
-    let mut o = 0;
-    while o < 8 {
+    for o in 0..8 {
         lock_one(s, i, p, x, o);
-        o += 1;
     }
 }
 
 // The whole lock of i on page p becomes locks on the objects of x.
+#[tactic(auto, unfolding(crate::specs::Changes::loosen_b))]
 fn loosen(s: &mut [u8], i: usize, p: usize, x: u8)
     requires { (length s.old ≡ server_length) × (i < 8) × (p < 32) }
     ensures { s.new ≡ loosen_b i p x s.old }
@@ -383,6 +386,7 @@ fn meet(s: &mut [u8], i: usize, t: u32)
 }
 
 // Of the objects x that an 8 of transaction t names, those that are locked: all or none.
+#[tactic(auto, unfolding(crate::specs::Changes::heeded_b))]
 fn heeded(s: &[u8], i: usize, t: u32, x: u8) -> u8
     requires { (length s.now ≡ server_length) × (i < 8) }
     ensures { result ≡ heeded_b i t x s.now }
@@ -404,6 +408,7 @@ pub fn heed(s: &mut [u8], i: usize, p: usize, t: u32, x: u8)
 }
 
 // The 19 of page p is sent.
+#[tactic(auto, unfolding(crate::specs::Changes::asked_b))]
 pub fn asked(s: &mut [u8], p: usize)
     requires { (length s.old ≡ server_length) × (p < 32) }
     ensures { s.new ≡ asked_b p s.old }
@@ -412,6 +417,7 @@ pub fn asked(s: &mut [u8], p: usize)
 }
 
 // The 20s of i's entry are sent, to the stations of x.
+#[tactic(auto, unfolding(crate::specs::Changes::called_b))]
 pub fn called(s: &mut [u8], i: usize, x: u8)
     requires { (length s.old ≡ server_length) × (i < 8) }
     ensures { s.new ≡ called_b i x s.old }
@@ -421,6 +427,7 @@ pub fn called(s: &mut [u8], i: usize, x: u8)
 }
 
 // No 19 was sent for the new lock: 19 goes once for each 18.
+#[tactic(auto, unfolding(crate::specs::Changes::lock_page_b))]
 pub fn lock_page(s: &mut [u8], i: usize, p: usize)
     requires { (length s.old ≡ server_length) × (i < 8) × (p < 32) }
     ensures { s.new ≡ lock_page_b i p s.old }
@@ -430,6 +437,7 @@ pub fn lock_page(s: &mut [u8], i: usize, p: usize)
 }
 
 // What i's entry has for address a is written there, with version n.
+#[tactic(auto, unfolding(crate::specs::Values::value_at_b))]
 fn value_one(s: &mut [u8], i: usize, n: u32, a: usize)
     requires { (length s.old ≡ server_length) × (i < 8) × (a < 256) }
     ensures { s.new ≡ value_at_b i n s.old a }
@@ -444,21 +452,18 @@ fn values_in(s: &mut [u8], i: usize, n: u32, g: usize)
     requires { (length s.old ≡ server_length) × (i < 8) × (g < 4) }
     ensures { s.new ≡ run (value_one_b i n) s.old (g * 64) 64 }
 {
-    let mut x = le::get_u64(s, WRITTEN_SET + i * SET_ROW + g * GROUP);
-    while x != 0 {
-        value_one(s, i, n, g * 64 + station_state::lowest64(x));
-        x &= x - 1;
+    for k in station_state::members(le::get_u64(s, WRITTEN_SET + i * SET_ROW + g * GROUP)) {
+        value_one(s, i, n, g * 64 + k);
     }
 }
 
+#[tactic(auto, unfolding(station_state::specs::Runs::run))]
 fn values(s: &mut [u8], i: usize, n: u32)
     requires { (length s.old ≡ server_length) × (i < 8) }
     ensures { s.new ≡ values_to i n s.old 256 }
 {
-    let mut g = 0;
-    while g < 4 {
+    for g in 0..4 {
         values_in(s, i, n, g);
-        g += 1;
     }
 }
 

@@ -5,6 +5,7 @@ ghost use Rattle.server_state.specs.Valid.{freshened, fresh_of};
 ghost use Rattle.server_actions.specs.Step.{server_called};
 ghost use Rattle.server_host.specs.Host.{told, served_length, told_of, counted, hosted, host_of};
 
+use refusals::Refusal;
 use server::Served;
 
 // Where a step tells each of its numbers, and how many they are.
@@ -37,7 +38,7 @@ fn tell(x: Served, served: &mut [u64]) -> u32
 pub fn wax_server_fresh(kinds: &[u8], state: &mut [u8]) -> u32
     ensures { freshened state.new result ≡ fresh_of kinds.now state.old }
 {
-    server_state::fresh(kinds, state)
+    refusals::code(server_state::fresh(kinds, state))
 }
 
 pub fn wax_server_step(
@@ -50,7 +51,7 @@ pub fn wax_server_step(
     ensures { hosted state.new messages.new records.new served.new result ≡ host_of state.old messages.old records.old served.old (server_called message.now state.old messages.old records.old) }
 {
     if served.len() < SERVED {
-        return 1;
+        return Refusal::Buffer.number();
     }
     let x = server::step(message, state, messages, records);
     tell(x, served)

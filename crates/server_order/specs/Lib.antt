@@ -4,3 +4,4 @@ pub mod Known
 pub mod Words
 pub mod Closure
 pub mod Cycles
+pub mod Victims

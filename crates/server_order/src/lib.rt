@@ -1,6 +1,6 @@
 #![tactic(auto)]
 // Cycles of waits-for edges, and the victim.
-ghost use Rattle.std.specs.Prelude.{◌≡◌, cond, ◌≤◌, ◌<◌, length};
+ghost use Rattle.std.specs.Prelude.{◌≡◌, cond, ◌≤◌, ◌<◌, length, IfSome};
 ghost use Rattle.server_state.specs.Layout.{server_length};
 ghost use Rattle.server_tests.specs.Tests.{edge_set};
 ghost use Rattle.server_order.specs.Known.{Known};
@@ -8,7 +8,9 @@ ghost use Rattle.server_order.specs.Order.{edges_to, younger_b, youngest_to, vic
 ghost use Rattle.server_order.specs.Words.{edge_in, through_b};
 ghost use Rattle.server_order.specs.Closure.{close_to};
 ghost use Rattle.server_order.specs.Cycles.{closure_b};
+ghost use Rattle.server_order.specs.Victims.{station_in};
 
+use kinds::Want;
 use server_state::STATIONS;
 
 // In place of an edge set that was not asked for.
@@ -30,20 +32,20 @@ fn edge_of(s: &[u8], d: &[u8], i: usize) -> u8
 }
 
 // The edges that leave each station.
+#[tactic(auto, unfolding(crate::specs::Order::edges_to))]
 fn edges(s: &[u8], d: &[u8]) -> [u8; STATIONS]
     requires { (length s.now ≡ server_length) × Known s.now d.now }
     ensures { result ≡ edges_to s.now 8 }
 {
     let mut e = [0u8; STATIONS];
-    let mut i = 0;
-    while i < 8 {
+    for i in 0..8 {
         e[i] = edge_of(s, d, i);
-        i += 1;
     }
     e
 }
 
 // Who leads to k leads to where k leads.
+#[tactic(auto, unfolding(crate::specs::Words::through_b))]
 fn through(x: u64, k: usize) -> u64
     requires { k < 8 }
     ensures { result ≡ through_b x k }
@@ -52,14 +54,13 @@ fn through(x: u64, k: usize) -> u64
 }
 
 // Where eight edge sets in a word lead, over any stations.
+#[tactic(auto, unfolding(crate::specs::Closure::close_to))]
 fn closed(x: u64) -> u64
     ensures { result ≡ close_to x 8 }
 {
     let mut y = x;
-    let mut k = 0;
-    while k < 8 {
+    for k in 0..8 {
         y = through(y, k);
-        k += 1;
     }
     y
 }
@@ -77,7 +78,7 @@ fn younger(s: &[u8], w: u64, r: usize, n: usize) -> bool
     requires { (length s.now ≡ server_length) × (w ≡ closure_b s.now) × (r ≤ 8) × (n < 8) }
     ensures { result ≡ younger_b s.now (edges_to s.now 8) r n }
 {
-    (server_state::want(s, n) != 0)
+    (server_state::want(s, n) != Want::Nothing as u8)
         & on_cycle(w, n)
         & ((r == 8) | (server_state::age(s, r) < server_state::age(s, n)))
 }
@@ -92,28 +93,29 @@ fn younger_of(s: &[u8], w: u64, r: usize, n: usize) -> usize
     r
 }
 
+// 8 for nobody, whose age may be asked for: so no station on the way costs a test more.
 fn youngest(s: &[u8], w: u64) -> usize
     requires { (length s.now ≡ server_length) × (w ≡ closure_b s.now) }
     ensures { (result ≡ youngest_to s.now (edges_to s.now 8) 8) × (result ≤ 8) }
 {
     let mut r: usize = 8;
-    let mut n = 0;
-    while n < 8 {
+    for n in 0..8 {
         r = younger_of(s, w, r, n);
-        n += 1;
     }
     r
 }
 
-// The youngest waiter on a cycle of edges, 8 for none. d has the edges that are known.
-pub fn victim(s: &[u8], d: &[u8]) -> usize
+// The youngest waiter on a cycle of edges. d has the edges that are known.
+pub fn victim(s: &[u8], d: &[u8]) -> Option<usize>
     requires { (length s.now ≡ server_length) × Known s.now d.now }
-    ensures { (result ≡ victim_b s.now) × (result ≤ 8) }
+    ensures station { station_in result ≡ victim_b s.now }
+    ensures below { IfSome result (λ v. v < 8) }
 {
     let e = edges(s, d);
     let w = closed(le::get_u64(&e, 0));
     if w & DIAGONAL == 0 {
-        return 8;
+        return None;
     }
-    youngest(s, w)
+    let v = youngest(s, w);
+    if v < STATIONS { Some(v) } else { None }
 }

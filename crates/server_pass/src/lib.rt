@@ -10,6 +10,7 @@ ghost use Rattle.server_pass.specs.Edges.{noted_b, Noted};
 ghost use Rattle.server_pass.specs.Rounds.{passed_b, broken_b, round_b};
 ghost use Rattle.server_state.specs.Layout.{server_length};
 
+use message::Cause;
 use server_actions::Counts;
 use server_state::{STATIONS, WANT};
 
@@ -43,11 +44,9 @@ fn pass_places(
     ensures { (posted s.new o.new q.new result ≡ post o.old q.old c (pass_to l.now (from s.old) 8)) × Noted s.old (pass_to l.now (from s.old) 8) e.new }
 {
     let mut b = c;
-    let mut n: usize = 0;
-    while n < 8 {
+    for n in 0..8 {
         let d = turn(s, o, q, b, e, l[n]);
         b = d;
-        n += 1;
     }
     b
 }
@@ -66,11 +65,10 @@ fn break_cycle(s: &mut [u8], o: &mut [u8], q: &mut [u8], c: Counts, e: &[u8]) ->
     requires { (length s.old ≡ server_length) × Known s.old e.now × Room o.old q.old c (broken_b (from s.old)) }
     ensures { posted s.new o.new q.new result ≡ post o.old q.old c (broken_b (from s.old)) }
 {
-    let v = server_order::victim(s, e);
-    if v == 8 {
-        return c;
+    match server_order::victim(s, e) {
+        Some(v) => server_actions::abort(s, o, q, c, v, Cause::Deadlock as u8),
+        None => c,
     }
-    server_actions::abort(s, o, q, c, v, 1)
 }
 
 // A pass; where it rests it changed nothing, and the cycle is looked for in the edges that it met.
@@ -97,7 +95,7 @@ fn round(s: &mut [u8], o: &mut [u8], q: &mut [u8], c: Counts) -> Counts
     round_of_waiters(s, o, q, c)
 }
 
-// Rounds until one sends nothing. That they end is proved, not counted.
+// Rounds until one sends nothing. That they end is proved, not counted: a `for` would have to count them.
 pub fn settle(s: &mut [u8], o: &mut [u8], q: &mut [u8], c: Counts) -> Counts
     requires { (length s.old ≡ server_length) × Sane s.old × Room o.old q.old c (settle_b 64 (from s.old)) }
     ensures { posted s.new o.new q.new result ≡ post o.old q.old c (settle_b 64 (from s.old)) }

@@ -7,9 +7,11 @@ ghost use Rattle.server_tests.specs.Tests.{concerned_set, hindered_b, written_pa
 ghost use Rattle.server_tests.specs.Blockers.{blockers_b};
 ghost use Rattle.server_sets.specs.Sets.{listed_b, listed_set, locking_set, any_lock_b, lock_set, writer_set, informed_set};
 
-use server_state::LISTED;
+use kinds::Want;
+use server_state::{LISTED, STATIONS};
 use station_state::PAGE_SET_WIDTH;
 
+#[tactic(auto, unfolding(crate::specs::Sets::listed_b))]
 fn listed(s: &[u8], d: u32, j: usize) -> bool
     requires { (length s.now ≡ server_length) × (j < 8) }
     ensures { result ≡ listed_b s.now d j }
@@ -22,13 +24,7 @@ fn listed_set(s: &[u8], d: u32) -> u8
     requires { length s.now ≡ server_length }
     ensures { result ≡ listed_set s.now d }
 {
-    let mut x: u8 = 0;
-    let mut j = 0;
-    while j < 8 {
-        x |= server_tests::bit_if(listed(s, d, j), j);
-        j += 1;
-    }
-    x
+    server_tests::set_of(STATIONS, |j| listed(s, d, j))
 }
 
 // The locking stations.
@@ -36,16 +32,11 @@ fn locking_set(s: &[u8]) -> u8
     requires { length s.now ≡ server_length }
     ensures { result ≡ locking_set s.now }
 {
-    let mut x: u8 = 0;
-    let mut j = 0;
-    while j < 8 {
-        x |= server_tests::bit_if(server_state::locking(s, j), j);
-        j += 1;
-    }
-    x
+    server_tests::set_of(STATIONS, |j| server_state::locking(s, j))
 }
 
 // Whether somebody has a lock on page p, whole or on an object.
+#[tactic(auto, unfolding(crate::specs::Sets::any_lock_b))]
 fn any_lock(s: &[u8], p: usize) -> bool
     requires { (length s.now ≡ server_length) × (p < 32) }
     ensures { result ≡ any_lock_b s.now p }
@@ -61,15 +52,10 @@ fn lock_set(s: &[u8], p: usize) -> u8
     if !any_lock(s, p) {
         return 0;
     }
-    let mut x: u8 = 0;
-    let mut j = 0;
-    while j < 8 {
-        x |= server_tests::bit_if(server_tests::lock_on(s, j, p), j);
-        j += 1;
-    }
-    x
+    server_tests::set_of(STATIONS, |j| server_tests::lock_on(s, j, p))
 }
 
+#[tactic(auto, unfolding(server_tests::specs::Tests::written_page_b))]
 fn written_page(s: &[u8], i: usize, p: usize) -> bool
     requires { (length s.now ≡ server_length) × (i < 8) × (p < 32) }
     ensures { result ≡ written_page_b s.now i p }
@@ -82,13 +68,7 @@ fn writer_set(s: &[u8], p: usize) -> u8
     requires { (length s.now ≡ server_length) × (p < 32) }
     ensures { result ≡ writer_set s.now p }
 {
-    let mut x: u8 = 0;
-    let mut j = 0;
-    while j < 8 {
-        x |= server_tests::bit_if(written_page(s, j, p), j);
-        j += 1;
-    }
-    x
+    server_tests::set_of(STATIONS, |j| written_page(s, j, p))
 }
 
 fn page_if(yes: bool, p: usize) -> u32
@@ -102,15 +82,14 @@ fn page_if(yes: bool, p: usize) -> u32
 }
 
 // The pages that i's entry writes.
+#[tactic(auto, unfolding(cells::specs::Loops::mask_to, server_tests::specs::Tests::written_pages_b))]
 pub fn written_pages(s: &[u8], i: usize) -> u32
     requires { (length s.now ≡ server_length) × (i < 8) }
     ensures { result ≡ written_pages_b s.now i }
 {
     let mut d: u32 = 0;
-    let mut p = 0;
-    while p < 32 {
+    for p in 0..32 {
         d |= page_if(written_page(s, i, p), p);
-        p += 1;
     }
     d
 }
@@ -149,7 +128,7 @@ pub fn edges_by(s: &[u8], i: usize, b: u8) -> u8
     requires { (length s.now ≡ server_length) × (i < 8) × (b ≡ blockers_b s.now i) }
     ensures { result ≡ edge_set s.now i }
 {
-    if server_state::want(s, i) == 0 {
+    if server_state::want(s, i) == Want::Nothing as u8 {
         return 0;
     }
     server_state::busy(s, i) | b
@@ -160,7 +139,7 @@ pub fn edge_set(s: &[u8], i: usize) -> u8
     requires { (length s.now ≡ server_length) × (i < 8) }
     ensures { result ≡ edge_set s.now i }
 {
-    if server_state::want(s, i) == 0 {
+    if server_state::want(s, i) == Want::Nothing as u8 {
         return 0;
     }
     edges_by(s, i, server_tests::blockers(s, i))

@@ -1,13 +1,17 @@
 #![tactic(auto)]
 // The bytes of the server's state: number 1, a fresh state, the age counter.
-ghost use Rattle.std.specs.Prelude.{◌≡◌, ◌+◌, ◌*◌, ◌≤◌, ◌<◌, length, replicate};
+ghost use Rattle.std.specs.Prelude.{◌≡◌, ◌+◌, ◌*◌, ◌≤◌, ◌<◌, length};
 ghost use Rattle.lists.specs.Tests.{all_to};
+ghost use Rattle.refusals.specs.Refusals.{code};
 ghost use Rattle.le.specs.Le.{u64_at};
 ghost use Rattle.server_state.specs.Layout.{server_length, lock_from, age_of, ages_of, arrivals_of, work_number, latest_of, arrival_of, last_of, asked_of, whole_for_of, lock_of, whole_of, read_set, written_set, kind_of, want_of, request_of, pend_of, busy_of, unfinished_of, locking_b, keeps_b, other_b};
 ghost use Rattle.server_state.specs.Valid.{most_at, most, ranges_ok, counters_ok, word_of, only_in, page_only_at, page_only, blank_ok_lem, few_ok, commit_ok, write_ok, request_ok, waiter_ok, entry_ok, owes_at, calls_ok, aged_ok, station_ok, holder_ok_lem, holder_at, beside_at, given_ok, whole_ok, page_ok, asked_at, apart_ok, valid, kinds_ok, kinds_to, freshened, fresh_of, ageless};
 ghost use Rattle.server_state.specs.Eights.{group_free, group_ok, lock_free, ages_at, arrivals_at, ages_apart, arrivals_apart};
 ghost use Rattle.server_state.specs.Ages.{aged_of};
 
+use kinds::{Kind, Want};
+use lists::all_of;
+use refusals::Refusal;
 use station_state::{GROUP, NUMBER_WIDTH, OBJECTS, PAGE_SET_WIDTH, SET_ROW, VALUE_WIDTH};
 
 // The width of an age or an arrival; what a station has too is as wide as there.
@@ -220,7 +224,7 @@ pub fn kind(s: &[u8], i: usize) -> u8
     s[KIND + i]
 }
 
-// What station i waits for: 0 nothing, 1 a read, 2 a write, 3 a commit.
+// What station i waits for: the number of a `kinds::Want`, where the state is valid.
 pub fn want(s: &[u8], i: usize) -> u8
     requires { (length s.now ≡ server_length) × (i < 8) }
     ensures { result ≡ want_of s.now i }
@@ -275,6 +279,7 @@ pub fn keeps(s: &[u8], i: usize) -> bool
 }
 
 // Whether the holder h is a station other than i.
+#[tactic(auto, unfolding(crate::specs::Layout::other_b))]
 pub fn other(h: u8, i: usize) -> bool
     requires { i < 8 }
     ensures { result ≡ other_b h i }
@@ -282,6 +287,7 @@ pub fn other(h: u8, i: usize) -> bool
     (h != 0) & (h as usize != i + 1)
 }
 
+#[tactic(auto, unfolding(crate::specs::Valid::most_at))]
 fn most_at(s: &[u8], at: usize, n: u8, k: usize) -> bool
     requires { at + k < length s.now }
     ensures { result ≡ most_at s.now at n k }
@@ -294,26 +300,21 @@ fn most(s: &[u8], at: usize, n: u8, m: usize) -> bool
     requires { at + m ≤ length s.now }
     ensures { result ≡ most s.now at n m }
 {
-    let mut ok = true;
-    let mut k = 0;
-    while k < m {
-        ok &= most_at(s, at, n, k);
-        k += 1;
-    }
-    ok
+    all_of(m, |k| most_at(s, at, n, k))
 }
 
 fn ranges_ok(s: &[u8]) -> bool
     requires { length s.now ≡ server_length }
     ensures { result ≡ ranges_ok s.now }
 {
-    most(s, KIND, kinds::MOST, 8)
-        & most(s, WANT, 3, 8)
-        & most(s, CALLED, 1, 8)
-        & most(s, UNFINISHED, 1, 8)
-        & most(s, AGE_KEPT, 1, 8)
+    most(s, KIND, kinds::MOST, STATIONS)
+        & most(s, WANT, Want::Commit as u8, STATIONS)
+        & most(s, CALLED, 1, STATIONS)
+        & most(s, UNFINISHED, 1, STATIONS)
+        & most(s, AGE_KEPT, 1, STATIONS)
 }
 
+#[tactic(auto, unfolding(crate::specs::Valid::counters_ok))]
 fn counters_ok(s: &[u8]) -> bool
     requires { length s.now ≡ server_length }
     ensures { result ≡ counters_ok s.now }
@@ -322,6 +323,7 @@ fn counters_ok(s: &[u8]) -> bool
 }
 
 // The word k of the object sets that have the address a alone.
+#[tactic(auto, unfolding(crate::specs::Valid::word_of))]
 fn word(a: u8, k: u8) -> u64
     ensures { result ≡ word_of a k }
 {
@@ -332,6 +334,7 @@ fn word(a: u8, k: u8) -> u64
 }
 
 // Whether the object sets from `at` have the address a alone.
+#[tactic(auto, unfolding(crate::specs::Valid::only_in))]
 fn only_in(s: &[u8], at: usize, a: u8) -> bool
     requires { at + 32 ≤ length s.now }
     ensures { result ≡ only_in s.now at a }
@@ -348,6 +351,7 @@ fn only_in(s: &[u8], at: usize, a: u8) -> bool
     le::get_u64(s, at + 24) == word(a, 3)
 }
 
+#[tactic(auto, unfolding(crate::specs::Valid::page_only_at))]
 fn page_only_at(s: &[u8], at: usize, p: usize, q: usize) -> bool
     requires { (at + 32 ≤ length s.now) × (p < 32) × (q < 32) }
     ensures { result ≡ page_only_at s.now at p q }
@@ -363,16 +367,11 @@ fn page_only(s: &[u8], at: usize, p: usize) -> bool
     requires { (at + 32 ≤ length s.now) × (p < 32) }
     ensures { result ≡ page_only s.now at p }
 {
-    let mut ok = true;
-    let mut q = 0;
-    while q < 32 {
-        ok &= page_only_at(s, at, p, q);
-        q += 1;
-    }
-    ok
+    all_of(32, |q| page_only_at(s, at, p, q))
 }
 
 // Whether the entry of station i is empty.
+#[tactic(auto, unfolding(crate::specs::Valid::blank_ok_lem))]
 fn blank_ok(s: &[u8], i: usize) -> bool
     requires { (length s.now ≡ server_length) × (i < 8) }
     ensures { result ≡ blank_ok_lem s.now i }
@@ -384,6 +383,7 @@ fn blank_ok(s: &[u8], i: usize) -> bool
 }
 
 // Whether the commit that station i waits with has no more reads and writes than one transaction may have.
+#[tactic(auto, unfolding(crate::specs::Valid::few_ok))]
 fn few_ok(s: &[u8], i: usize) -> bool
     requires { (length s.now ≡ server_length) × (i < 8) }
     ensures { result ≡ few_ok s.now i }
@@ -397,7 +397,10 @@ fn commit_ok(s: &[u8], i: usize) -> bool
     requires { (length s.now ≡ server_length) × (i < 8) }
     ensures { result ≡ commit_ok s.now i }
 {
-    (kind(s, i) == 1) & (request(s, i) == 0) & (work(s, i) == latest(s, i)) & few_ok(s, i)
+    (kind(s, i) == Kind::Validating as u8)
+        & (request(s, i) == 0)
+        & (work(s, i) == latest(s, i))
+        & few_ok(s, i)
 }
 
 // Whether it may wait with a write: of objects of one page, whose first address is the request.
@@ -405,7 +408,7 @@ fn write_ok(s: &[u8], i: usize) -> bool
     requires { (length s.now ≡ server_length) × (i < 8) }
     ensures { result ≡ write_ok s.now i }
 {
-    let a = le::index(le::wide(request(s, i)));
+    let a = request(s, i) as usize;
     (a % OBJECTS == 0)
         & page_only(s, WRITTEN_SET + i * SET_ROW, a / OBJECTS)
         & station_state::none_in(s, READ_SET + i * SET_ROW)
@@ -419,7 +422,7 @@ fn request_ok(s: &[u8], i: usize) -> bool
     if !locking(s, i) {
         return false;
     }
-    if want(s, i) == 1 {
+    if want(s, i) == Want::Read as u8 {
         let a = request(s, i);
         return only_in(s, READ_SET + i * SET_ROW, a)
             & station_state::none_in(s, WRITTEN_SET + i * SET_ROW);
@@ -437,7 +440,7 @@ fn waiter_ok(s: &[u8], i: usize) -> bool
     if arrival(s, i) >= next_arrival(s) {
         return false;
     }
-    if want(s, i) == 3 {
+    if want(s, i) == Want::Commit as u8 {
         return commit_ok(s, i);
     }
     request_ok(s, i)
@@ -447,7 +450,7 @@ fn entry_ok(s: &[u8], i: usize) -> bool
     requires { (length s.now ≡ server_length) × (i < 8) }
     ensures { result ≡ entry_ok s.now i }
 {
-    if want(s, i) == 0 {
+    if want(s, i) == Want::Nothing as u8 {
         return blank_ok(s, i);
     }
     waiter_ok(s, i)
@@ -472,16 +475,11 @@ fn entries_ok(s: &[u8]) -> bool
     if le::get_u64(s, WANT) == 0 {
         return blanks_ok(s);
     }
-    let mut ok = true;
-    let mut i = 0;
-    while i < 8 {
-        ok &= entry_ok(s, i);
-        i += 1;
-    }
-    ok
+    all_of(STATIONS, |i| entry_ok(s, i))
 }
 
 // Whether station j, if it owes station i a 7, is another, locking one.
+#[tactic(auto, unfolding(crate::specs::Valid::owes_at))]
 fn owes_at(s: &[u8], i: usize, j: usize) -> bool
     requires { (length s.now ≡ server_length) × (i < 8) × (j < 8) }
     ensures { result ≡ owes_at s.now i j }
@@ -495,10 +493,8 @@ fn owes_ok(s: &[u8], i: usize) -> bool
     ensures { result ≡ all_to (owes_at s.now i) 8 }
 {
     let mut ok = true;
-    let mut x = pend(s, i);
-    while x != 0 {
-        ok &= owes_at(s, i, station_state::lowest8(x));
-        x &= x - 1;
+    for j in station_state::members(pend(s, i) as u64) {
+        ok &= owes_at(s, i, j);
     }
     ok
 }
@@ -510,7 +506,7 @@ fn calls_ok(s: &[u8], i: usize) -> bool
     if s[CALLED + i] == 0 {
         return (pend(s, i) == 0) & (busy(s, i) == 0);
     }
-    (want(s, i) >= 2) & (busy(s, i) | pend(s, i) == pend(s, i)) & owes_ok(s, i)
+    (want(s, i) >= Want::Write as u8) & (busy(s, i) | pend(s, i) == pend(s, i)) & owes_ok(s, i)
 }
 
 // Where no 20 is out and none is owed, the bytes of all eight are tested at once.
@@ -521,15 +517,10 @@ fn all_calls_ok(s: &[u8]) -> bool
     if station_state::over(s, CALLED, ALL_CALLS) == 0 {
         return true;
     }
-    let mut ok = true;
-    let mut i = 0;
-    while i < 8 {
-        ok &= calls_ok(s, i);
-        i += 1;
-    }
-    ok
+    all_of(STATIONS, |i| calls_ok(s, i))
 }
 
+#[tactic(auto, unfolding(crate::specs::Valid::aged_ok))]
 fn aged_ok(s: &[u8], i: usize) -> bool
     requires { (length s.now ≡ server_length) × (i < 8) }
     ensures { result ≡ aged_ok s.now i }
@@ -541,13 +532,7 @@ fn ages_ok(s: &[u8]) -> bool
     requires { length s.now ≡ server_length }
     ensures { result ≡ all_to (aged_ok s.now) 8 }
 {
-    let mut ok = true;
-    let mut i = 0;
-    while i < 8 {
-        ok &= aged_ok(s, i);
-        i += 1;
-    }
-    ok
+    all_of(STATIONS, |i| aged_ok(s, i))
 }
 
 fn stations_ok(s: &[u8]) -> bool
@@ -558,6 +543,7 @@ fn stations_ok(s: &[u8]) -> bool
 }
 
 // Whether the lock on object o of page p is nobody's, or that of the page's holder.
+#[tactic(auto, unfolding(crate::specs::Valid::beside_at))]
 fn beside_at(s: &[u8], p: usize, o: usize) -> bool
     requires { (length s.now ≡ server_length) × (p < 32) × (o < 8) }
     ensures { result ≡ beside_at s.now p o }
@@ -574,16 +560,11 @@ fn besides_ok(s: &[u8], p: usize) -> bool
     if locks == 0 {
         return true;
     }
-    let mut ok = true;
-    let mut o = 0;
-    while o < 8 {
-        ok &= beside_at(s, p, o);
-        o += 1;
-    }
-    ok
+    all_of(OBJECTS, |o| beside_at(s, p, o))
 }
 
 // Whether h is a locking station whose transaction is unfinished, or none.
+#[tactic(auto, unfolding(crate::specs::Valid::holder_ok_lem))]
 fn holder_ok(s: &[u8], h: u8) -> bool
     requires { length s.now ≡ server_length }
     ensures { result ≡ holder_ok_lem s.now h }
@@ -598,6 +579,7 @@ fn holder_ok(s: &[u8], h: u8) -> bool
     locking(s, i) & (unfinished(s, i) != 0)
 }
 
+#[tactic(auto, unfolding(crate::specs::Valid::holder_at))]
 fn holder_at(s: &[u8], p: usize, o: usize) -> bool
     requires { (length s.now ≡ server_length) × (p < 32) × (o < 8) }
     ensures { result ≡ holder_at s.now p o }
@@ -613,16 +595,11 @@ fn holders_ok(s: &[u8], p: usize) -> bool
     if locks_on(s, p) == 0 {
         return true;
     }
-    let mut ok = true;
-    let mut o = 0;
-    while o < 8 {
-        ok &= holder_at(s, p, o);
-        o += 1;
-    }
-    ok
+    all_of(OBJECTS, |o| holder_at(s, p, o))
 }
 
 // Whether t is a transaction that a whole lock of station i can have been given to.
+#[tactic(auto, unfolding(crate::specs::Valid::given_ok))]
 fn given_ok(s: &[u8], i: usize, t: u32) -> bool
     requires { (length s.now ≡ server_length) × (i < 8) }
     ensures { result ≡ given_ok s.now i t }
@@ -661,6 +638,7 @@ fn page_ok(s: &[u8], p: usize) -> bool
 }
 
 // Whether nothing is locked on eight pages.
+#[tactic(auto, unfolding(crate::specs::Eights::group_free))]
 fn group_free(s: &[u8], g: usize) -> bool
     requires { (length s.now ≡ server_length) × (g < 4) }
     ensures { result ≡ group_free s.now g }
@@ -679,16 +657,11 @@ fn group_ok(s: &[u8], g: usize) -> bool
     if group_free(s, g) {
         return true;
     }
-    let mut ok = true;
-    let mut p = 0;
-    while p < 8 {
-        ok &= page_ok(s, g * GROUP + p);
-        p += 1;
-    }
-    ok
+    all_of(GROUP, |p| page_ok(s, g * GROUP + p))
 }
 
 // Whether nothing is locked. Whole locks are looked at first: where there are any, no more is read in vain.
+#[tactic(auto, unfolding(crate::specs::Eights::lock_free))]
 fn lock_free(s: &[u8]) -> bool
     requires { length s.now ≡ server_length }
     ensures { result ≡ lock_free s.now }
@@ -707,16 +680,11 @@ fn pages_ok(s: &[u8]) -> bool
     if lock_free(s) {
         return true;
     }
-    let mut ok = true;
-    let mut g = 0;
-    while g < 4 {
-        ok &= group_ok(s, g);
-        g += 1;
-    }
-    ok
+    all_of(4, |g| group_ok(s, g))
 }
 
 // Whether page p, if a 19 was sent for it, is locked whole.
+#[tactic(auto, unfolding(crate::specs::Valid::asked_at))]
 fn asked_at(s: &[u8], p: usize) -> bool
     requires { (length s.now ≡ server_length) × (p < 32) }
     ensures { result ≡ asked_at s.now p }
@@ -731,16 +699,11 @@ fn asked_ok(s: &[u8]) -> bool
     if asked(s) == 0 {
         return true;
     }
-    let mut ok = true;
-    let mut p = 0;
-    while p < 32 {
-        ok &= asked_at(s, p);
-        p += 1;
-    }
-    ok
+    all_of(32, |p| asked_at(s, p))
 }
 
 // Whether the age of station i does not count: its transaction is finished, and it keeps no age.
+#[tactic(auto, unfolding(crate::specs::Valid::ageless))]
 fn ageless_at(s: &[u8], i: usize) -> bool
     requires { (length s.now ≡ server_length) × (i < 8) }
     ensures { result ≡ ageless s.now i }
@@ -749,6 +712,7 @@ fn ageless_at(s: &[u8], i: usize) -> bool
 }
 
 // Whether stations i and j differ in age, where both ages count.
+#[tactic(auto, unfolding(crate::specs::Eights::ages_at))]
 fn ages_at(s: &[u8], i: usize, j: usize) -> bool
     requires { (length s.now ≡ server_length) × (i < 8) × (j < 8) }
     ensures { result ≡ ages_at s.now i j }
@@ -764,13 +728,7 @@ fn ages_apart(s: &[u8], i: usize) -> bool
     if ageless_at(s, i) {
         return true;
     }
-    let mut ok = true;
-    let mut j = 0;
-    while j < i {
-        ok &= ages_at(s, i, j);
-        j += 1;
-    }
-    ok
+    all_of(i, |j| ages_at(s, i, j))
 }
 
 // Whether the requests of i and j differ in arrival, where both wait.
@@ -778,7 +736,9 @@ fn arrivals_at(s: &[u8], i: usize, j: usize) -> bool
     requires { (length s.now ≡ server_length) × (i < 8) × (j < 8) }
     ensures { result ≡ arrivals_at s.now i j }
 {
-    (want(s, i) == 0) | (want(s, j) == 0) | (arrival(s, i) != arrival(s, j))
+    (want(s, i) == Want::Nothing as u8)
+        | (want(s, j) == Want::Nothing as u8)
+        | (arrival(s, i) != arrival(s, j))
 }
 
 // A station that does not wait is passed over.
@@ -786,16 +746,10 @@ fn arrivals_apart(s: &[u8], i: usize) -> bool
     requires { (length s.now ≡ server_length) × (i < 8) }
     ensures { result ≡ all_to (arrivals_at s.now i) i }
 {
-    if want(s, i) == 0 {
+    if want(s, i) == Want::Nothing as u8 {
         return true;
     }
-    let mut ok = true;
-    let mut j = 0;
-    while j < i {
-        ok &= arrivals_at(s, i, j);
-        j += 1;
-    }
-    ok
+    all_of(i, |j| arrivals_at(s, i, j))
 }
 
 // Whether no two ages that count are equal. Where at most one counts, none is looked at.
@@ -810,13 +764,7 @@ fn all_ages(s: &[u8]) -> bool
     if x & (x - 1) == 0 {
         return true;
     }
-    let mut ok = true;
-    let mut i = 0;
-    while i < 8 {
-        ok &= ages_apart(s, i);
-        i += 1;
-    }
-    ok
+    all_of(STATIONS, |i| ages_apart(s, i))
 }
 
 // Whether no two arrivals of waiters are equal. Where nobody waits, none is looked at.
@@ -828,13 +776,7 @@ fn all_arrivals(s: &[u8]) -> bool
     if wants == 0 {
         return true;
     }
-    let mut ok = true;
-    let mut i = 0;
-    while i < 8 {
-        ok &= arrivals_apart(s, i);
-        i += 1;
-    }
-    ok
+    all_of(STATIONS, |i| arrivals_apart(s, i))
 }
 
 fn all_apart(s: &[u8]) -> bool
@@ -863,52 +805,38 @@ pub fn valid(s: &[u8]) -> bool
     asked_ok(s) & all_apart(s)
 }
 
-fn zero(s: &mut [u8])
-    ensures { s.new ≡ replicate (length s.old) 0 }
-{
-    let mut i = 0;
-    while i < s.len() {
-        s[i] = 0;
-        i += 1;
-    }
-}
-
 fn kinds_ok(kinds: &[u8]) -> bool
     ensures { result ≡ kinds_ok kinds.now }
 {
     if kinds.len() != STATIONS {
         return false;
     }
-    most(kinds, 0, kinds::MOST, 8)
+    most(kinds, 0, kinds::MOST, STATIONS)
 }
 
 fn put_kinds(kinds: &[u8], s: &mut [u8])
     requires { (length kinds.now ≡ 8) × (length s.old ≡ server_length) }
     ensures { s.new ≡ kinds_to kinds.now s.old 8 }
 {
-    let mut i = 0;
-    while i < 8 {
-        s[KIND + i] = kinds[i];
-        i += 1;
-    }
+    s[KIND..WANT].copy_from_slice(kinds);
 }
 
-// Makes the server's first state: 1 where the length is wrong, then 4 where the kinds are not eight of 0 to 2, else 0.
-// A refusal changes nothing.
-pub fn fresh(kinds: &[u8], s: &mut [u8]) -> u32
-    ensures { freshened s.new result ≡ fresh_of kinds.now s.old }
+// Makes the server's first state: `Buffer` where the length is wrong, then `Range` where the kinds are not eight kinds of stations. A refusal
+// changes nothing.
+pub fn fresh(kinds: &[u8], s: &mut [u8]) -> Result<(), Refusal>
+    ensures { freshened s.new (code result) ≡ fresh_of kinds.now s.old }
 {
     if s.len() != LENGTH {
-        return 1;
+        return Err(Refusal::Buffer);
     }
     if !kinds_ok(kinds) {
-        return 4;
+        return Err(Refusal::Range);
     }
-    zero(s);
+    s.fill(0);
     le::put_u64(s, NEXT_AGE, 1);
     le::put_u64(s, NEXT_ARRIVAL, 1);
     put_kinds(kinds, s);
-    0
+    Ok(())
 }
 
 // The age counter: the age that the next transaction gets.
@@ -925,6 +853,7 @@ pub struct Aged {
 }
 
 impl Ages {
+    #[tactic(auto, unfolding(crate::specs::Ages::aged_of))]
     pub fn take(mut self) -> Aged
         requires { self.next < 18446744073709551615 }
         ensures { result ≡ aged_of self }

@@ -7,3 +7,4 @@ pub mod Alone
 pub mod Words
 pub mod Members
 pub mod Groups
+pub mod Causes

@@ -1,11 +1,13 @@
 #![tactic(auto)]
 // What the server asks of its state: number 6, the gates of the pass, who blocks a waiter.
-ghost use Rattle.std.specs.Prelude.{◌≡◌, true, false, cond, ◌≢◌, ◌+◌, ◌*◌, ◌/◌, ◌^◌, ◌≤◌, ◌<◌, length, get_or};
+ghost use Rattle.std.specs.Prelude.{◌≡◌, ℕ, Bool, true, false, cond, ◌≢◌, ◌+◌, ◌*◌, ◌/◌, ◌^◌, ◌≤◌, ◌<◌, length, get_or};
 ghost use Rattle.std.specs.Int.Count.{count_trailing_zeros};
 ghost use Rattle.message.specs.Layout.{message_length, kind_of, station_of, page_of};
 ghost use Rattle.message.specs.Commit.{shortest_commit, addresses_at, sent_reads, entries_of};
 ghost use Rattle.server_state.specs.Layout.{server_length, version_row, whole_of, wanted_on};
+ghost use Rattle.cells.specs.Loops.{any_to, mask_to};
 ghost use Rattle.server_tests.specs.Kinds.{ForServer};
+ghost use Rattle.server_tests.specs.Causes.{cause_in};
 ghost use Rattle.server_tests.specs.Tests.{lock_at_b, lock_on_b, bad_number_b, unlocked_at, unlocked_b, drops_locked_b, drops_own_b, above_open_b, unexpected_b, open_call_b, open_ask_b, other_version, stale_at_b, stale_on_b, stale_b, locked_at_b, locked_on_b, locked_b, fault_b, earlier_b, shut_b, shut_out_b, due_b, unavailable_at, unavailable_b};
 ghost use Rattle.server_tests.specs.Shorter.{written_by};
 ghost use Rattle.server_tests.specs.Alone.{Alone, ahead_at, ahead_on};
@@ -13,7 +15,11 @@ ghost use Rattle.server_tests.specs.Blockers.{join_to, meet_on, meet_set, ahead_
 ghost use Rattle.server_tests.specs.Groups.{idle_in, stale_in, locked_in, holders_in};
 ghost use Rattle.server_tests.specs.Words.{wanted_in, OnlyIn};
 
-use server_state::{READ_SET, READ_VERSION, VERSION, VERSION_ROW, WRITTEN_SET, WRITTEN_VERSION};
+use kinds::Want;
+use message::{Cause, Up};
+use server_state::{
+    READ_SET, READ_VERSION, STATIONS, VERSION, VERSION_ROW, WRITTEN_SET, WRITTEN_VERSION,
+};
 use station_state::{GROUP, NUMBER_WIDTH, OBJECTS, SET_ROW};
 
 // A byte as a number that finds a place.
@@ -35,6 +41,43 @@ pub fn bit_if(yes: bool, k: usize) -> u8
     0
 }
 
+// Whether f holds of one of 0, 1, .. n - 1. No test leaves the loop early, so that it compiles to vector code.
+fn any_of<F: Fn(usize) -> bool>(n: usize, f: F) -> bool
+    requires { (k : ℕ) → k < n → F.pre f k }
+    ensures { (g : ℕ → Bool) → ((k : ℕ) (r : Bool) → k < n → F.post f k r → r ≡ g k) → result ≡ any_to g n }
+{
+    let mut r = false;
+    for k in 0..n {
+        r |= f(k);
+    }
+    r
+}
+
+// The sets that f has for 0, 1, .. n - 1, laid over each other.
+fn join_of<F: Fn(usize) -> u8>(n: usize, f: F) -> u8
+    requires { (k : ℕ) → k < n → F.pre f k }
+    ensures { (g : ℕ → ℕ) → ((k : ℕ) (r : ℕ) → k < n → F.post f k r → r ≡ g k) → result ≡ join_to g n }
+{
+    let mut d: u8 = 0;
+    for k in 0..n {
+        d |= f(k);
+    }
+    d
+}
+
+// Those of 0, 1, .. n - 1 that f holds of, a bit for each.
+pub fn set_of<F: Fn(usize) -> bool>(n: usize, f: F) -> u8
+    requires below { n ≤ 8 }
+    requires asked { (k : ℕ) → k < n → F.pre f k }
+    ensures { (g : ℕ → Bool) → ((k : ℕ) (r : Bool) → k < n → F.post f k r → r ≡ g k) → result ≡ mask_to g n }
+{
+    let mut d: u8 = 0;
+    for k in 0..n {
+        d |= bit_if(f(k), k);
+    }
+    d
+}
+
 // The objects of page p that station i's waiting entry reads or writes.
 fn wanted(s: &[u8], i: usize, p: usize) -> u8
     requires { (length s.now ≡ server_length) × (i < 8) × (p < 32) }
@@ -44,6 +87,7 @@ fn wanted(s: &[u8], i: usize, p: usize) -> u8
 }
 
 // Whether it wants nothing on the eight pages of group g. A test of each word: joined by `|` the two compile badly.
+#[tactic(auto, unfolding(crate::specs::Groups::idle_in))]
 fn idle_in(s: &[u8], i: usize, g: usize) -> bool
     requires { (length s.now ≡ server_length) × (i < 8) × (g < 4) }
     ensures { result ≡ idle_in s.now i g }
@@ -54,6 +98,7 @@ fn idle_in(s: &[u8], i: usize, g: usize) -> bool
     le::get_u64(s, WRITTEN_SET + i * SET_ROW + g * GROUP) == 0
 }
 
+#[tactic(auto, unfolding(crate::specs::Tests::lock_at_b))]
 fn lock_at(s: &[u8], i: usize, p: usize, o: usize) -> bool
     requires { (length s.now ≡ server_length) × (i < 8) × (p < 32) × (o < 8) }
     ensures { result ≡ lock_at_b s.now i p o }
@@ -70,12 +115,7 @@ pub fn lock_on(s: &[u8], i: usize, p: usize) -> bool
     if server_state::locks_on(s, p) == 0 {
         return whole;
     }
-    let mut r = false;
-    let mut o = 0;
-    while o < 8 {
-        r |= lock_at(s, i, p, o);
-        o += 1;
-    }
+    let r = any_of(OBJECTS, |o| lock_at(s, i, p, o));
     whole | r
 }
 
@@ -89,10 +129,11 @@ fn bad_number(s: &[u8], i: usize, t: u32) -> bool
     (t < n)
         | ((t == n) & over)
         | ((n < t) & !over & server_state::locking(s, i))
-        | (server_state::want(s, i) != 0)
+        | (server_state::want(s, i) != Want::Nothing as u8)
 }
 
 // Whether write k of the record is to an object that i has not locked.
+#[tactic(auto, unfolding(crate::specs::Tests::unlocked_at))]
 fn unlocked_at(s: &[u8], i: usize, m: &[u8], k: usize) -> bool
     requires { (length s.now ≡ server_length) × (i < 8) × (shortest_commit ≤ length m.now) × (addresses_at m.now + sent_reads m.now + k < length m.now) }
     ensures { result ≡ unlocked_at s.now i m.now k }
@@ -109,13 +150,7 @@ fn unlocked(s: &[u8], i: usize, m: &[u8]) -> bool
     requires { (length s.now ≡ server_length) × (i < 8) × (shortest_commit ≤ length m.now) × (addresses_at m.now + entries_of m.now ≤ length m.now) }
     ensures { result ≡ unlocked_b s.now i m.now }
 {
-    let n = message::sent_writes(m);
-    let mut r = false;
-    let mut k: usize = 0;
-    while k < n {
-        r |= unlocked_at(s, i, m, k);
-        k += 1;
-    }
+    let r = any_of(message::sent_writes(m), |k| unlocked_at(s, i, m, k));
     server_state::locking(s, i) & r
 }
 
@@ -135,15 +170,14 @@ fn drops_own(s: &[u8], i: usize, d: u32) -> bool
     ensures { result ≡ drops_own_b s.now i d }
 {
     let mut r = false;
-    let mut x = d;
-    while x != 0 {
-        r |= drops_locked(s, i, d, station_state::lowest32(x));
-        x &= x - 1;
+    for p in station_state::members(d as u64) {
+        r |= drops_locked(s, i, d, p);
     }
     r
 }
 
 // Whether transaction t stands above one of i that is unfinished.
+#[tactic(auto, unfolding(crate::specs::Tests::above_open_b))]
 fn above_open(s: &[u8], i: usize, t: u32) -> bool
     requires { (length s.now ≡ server_length) × (i < 8) }
     ensures { result ≡ above_open_b s.now i t }
@@ -159,16 +193,16 @@ pub fn unexpected(s: &[u8], m: &[u8]) -> bool
     let i = message::station(m) as usize;
     let t = message::transaction(m);
     let validates = !server_state::locking(s, i);
-    match message::kind(m) {
-        1 => bad_number(s, i, t),
-        2 => bad_number(s, i, t) | validates,
-        3 => bad_number(s, i, t) | unlocked(s, i, m),
-        4 => bad_number(s, i, t) | validates,
-        5 => lock_on(s, i, message::page(m) as usize),
-        6 => validates,
-        7 => validates | drops_own(s, i, message::pages(m)),
-        8 => validates | (server_state::keeps(s, i) & above_open(s, i, t)),
-        _ => true,
+    match Up::try_from(message::kind(m)) {
+        Ok(Up::Read) => bad_number(s, i, t),
+        Ok(Up::Write) => bad_number(s, i, t) | validates,
+        Ok(Up::Commit) => bad_number(s, i, t) | unlocked(s, i, m),
+        Ok(Up::Abort) => bad_number(s, i, t) | validates,
+        Ok(Up::Purge) => lock_on(s, i, message::page(m) as usize),
+        Ok(Up::Busy) => validates,
+        Ok(Up::Done) => validates | drops_own(s, i, message::pages(m)),
+        Ok(Up::WrittenSet) => validates | (server_state::keeps(s, i) & above_open(s, i, t)),
+        Err(_) => true,
     }
 }
 
@@ -177,12 +211,13 @@ pub fn open_call(s: &[u8], i: usize, r: usize, t: u32) -> bool
     requires { (length s.now ≡ server_length) × (i < 8) × (r < 8) }
     ensures { result ≡ open_call_b s.now i r t }
 {
-    (server_state::want(s, r) != 0)
+    (server_state::want(s, r) != Want::Nothing as u8)
         & (t == server_state::latest(s, r))
         & station_state::has_bit8(server_state::pend(s, r), i)
 }
 
 // Whether i owes an 8 for page p and transaction t.
+#[tactic(auto, unfolding(crate::specs::Tests::open_ask_b))]
 pub fn open_ask(s: &[u8], i: usize, p: usize, t: u32) -> bool
     requires { (length s.now ≡ server_length) × (i < 8) × (p < 32) }
     ensures { result ≡ open_ask_b s.now i p t }
@@ -194,6 +229,7 @@ pub fn open_ask(s: &[u8], i: usize, p: usize, t: u32) -> bool
 }
 
 // Whether the version that came for object o of page p, among those from `from`, is another than the object's.
+#[tactic(auto, unfolding(crate::specs::Tests::other_version))]
 fn other_version(s: &[u8], from: usize, p: usize, o: usize) -> bool
     requires { (length s.now ≡ server_length) × (from + version_row ≤ server_length) × (p < 32) × (o < 8) }
     ensures { result ≡ other_version s.now from (p * 8 + o) }
@@ -202,6 +238,7 @@ fn other_version(s: &[u8], from: usize, p: usize, o: usize) -> bool
         != le::get_u32(s, VERSION + (p * OBJECTS + o) * NUMBER_WIDTH)
 }
 
+#[tactic(auto, unfolding(crate::specs::Tests::stale_at_b))]
 fn stale_at(s: &[u8], i: usize, p: usize, o: usize) -> bool
     requires { (length s.now ≡ server_length) × (i < 8) × (p < 32) × (o < 8) }
     ensures { result ≡ stale_at_b s.now i p o }
@@ -220,13 +257,7 @@ fn stale_on(s: &[u8], i: usize, p: usize) -> bool
     if wanted(s, i, p) == 0 {
         return false;
     }
-    let mut r = false;
-    let mut o = 0;
-    while o < 8 {
-        r |= stale_at(s, i, p, o);
-        o += 1;
-    }
-    r
+    any_of(OBJECTS, |o| stale_at(s, i, p, o))
 }
 
 // Most groups of eight pages are not used, and cost a test.
@@ -237,13 +268,7 @@ fn stale_in(s: &[u8], i: usize, g: usize) -> bool
     if idle_in(s, i, g) {
         return false;
     }
-    let mut r = false;
-    let mut p = 0;
-    while p < 8 {
-        r |= stale_on(s, i, g * GROUP + p);
-        p += 1;
-    }
-    r
+    any_of(GROUP, |p| stale_on(s, i, g * GROUP + p))
 }
 
 // Whether i's commit used an object at another version.
@@ -251,15 +276,10 @@ fn stale(s: &[u8], i: usize) -> bool
     requires { (length s.now ≡ server_length) × (i < 8) }
     ensures { result ≡ stale_b s.now i }
 {
-    let mut r = false;
-    let mut g = 0;
-    while g < 4 {
-        r |= stale_in(s, i, g);
-        g += 1;
-    }
-    r
+    any_of(4, |g| stale_in(s, i, g))
 }
 
+#[tactic(auto, unfolding(crate::specs::Tests::locked_at_b))]
 fn locked_at(s: &[u8], i: usize, p: usize, o: usize) -> bool
     requires { (length s.now ≡ server_length) × (i < 8) × (p < 32) × (o < 8) }
     ensures { result ≡ locked_at_b s.now i p o }
@@ -273,11 +293,9 @@ fn locked_on(s: &[u8], i: usize, p: usize) -> bool
     requires { (length s.now ≡ server_length) × (i < 8) × (p < 32) }
     ensures { result ≡ locked_on_b s.now i p }
 {
-    let mut x = server_state::written_set(s, i, p);
     let mut r = false;
-    while x != 0 {
-        r |= locked_at(s, i, p, station_state::lowest8(x));
-        x &= x - 1;
+    for o in station_state::members(server_state::written_set(s, i, p) as u64) {
+        r |= locked_at(s, i, p, o);
     }
     r
 }
@@ -290,13 +308,7 @@ fn locked_in(s: &[u8], i: usize, g: usize) -> bool
     if le::get_u64(s, WRITTEN_SET + i * SET_ROW + g * GROUP) == 0 {
         return false;
     }
-    let mut r = false;
-    let mut p = 0;
-    while p < 8 {
-        r |= locked_on(s, i, g * GROUP + p);
-        p += 1;
-    }
-    r
+    any_of(GROUP, |p| locked_on(s, i, g * GROUP + p))
 }
 
 // Whether i's commit writes an object that another has locked: a page locked whole is asked for by 19.
@@ -304,13 +316,7 @@ fn locked(s: &[u8], i: usize) -> bool
     requires { (length s.now ≡ server_length) × (i < 8) }
     ensures { result ≡ locked_b s.now i }
 {
-    let mut r = false;
-    let mut g = 0;
-    while g < 4 {
-        r |= locked_in(s, i, g);
-        g += 1;
-    }
-    r
+    any_of(4, |g| locked_in(s, i, g))
 }
 
 // The two, asked of page p alone where it has all that i wants.
@@ -334,21 +340,21 @@ fn locked_by(s: &[u8], i: usize, p: usize) -> bool
     locked(s, i)
 }
 
-// The cause that ends i's validating commit, 0 for none; p is the page that has all that it wants, 32 for none.
-pub fn fault(s: &[u8], i: usize, p: usize) -> u8
+// The cause that ends i's validating commit; p is the page that has all that it wants, 32 for none.
+pub fn fault(s: &[u8], i: usize, p: usize) -> Option<Cause>
     requires { (length s.now ≡ server_length) × (i < 8) × Alone s.now i p }
-    ensures { result ≡ fault_b s.now i }
+    ensures { cause_in result ≡ fault_b s.now i }
 {
-    if server_state::last(s) == 4294967295 {
-        return 4;
+    if server_state::last(s) == u32::MAX {
+        return Some(Cause::NoNumber);
     }
     if stale_by(s, i, p) {
-        return 2;
+        return Some(Cause::Changed);
     }
     if locked_by(s, i, p) {
-        return 3;
+        return Some(Cause::Locked);
     }
-    0
+    None
 }
 
 // Whether j waits and arrived before i.
@@ -356,10 +362,12 @@ fn earlier(s: &[u8], j: usize, i: usize) -> bool
     requires { (length s.now ≡ server_length) × (j < 8) × (i < 8) }
     ensures { result ≡ earlier_b s.now j i }
 {
-    (server_state::want(s, j) != 0) & (server_state::arrival(s, j) < server_state::arrival(s, i))
+    (server_state::want(s, j) != Want::Nothing as u8)
+        & (server_state::arrival(s, j) < server_state::arrival(s, i))
 }
 
 // The objects of page p that i and j want and one of the two writes.
+#[tactic(auto, unfolding(crate::specs::Blockers::meet_on))]
 fn meet_on(s: &[u8], i: usize, j: usize, p: usize) -> u8
     requires { (length s.now ≡ server_length) × (i < 8) × (j < 8) × (p < 32) }
     ensures { result ≡ meet_on s.now i j p }
@@ -374,16 +382,11 @@ fn meet(s: &[u8], i: usize, j: usize) -> u8
     requires { (length s.now ≡ server_length) × (i < 8) × (j < 8) }
     ensures { result ≡ meet_set s.now i j }
 {
-    let mut r: u8 = 0;
-    let mut p = 0;
-    while p < 32 {
-        r |= meet_on(s, i, j, p);
-        p += 1;
-    }
-    r
+    join_of(32, |p| meet_on(s, i, j, p))
 }
 
 // Whether j stands before i as an earlier waiter.
+#[tactic(auto, unfolding(crate::specs::Blockers::ahead_b))]
 fn ahead(s: &[u8], i: usize, j: usize) -> bool
     requires { (length s.now ≡ server_length) × (i < 8) × (j < 8) }
     ensures { result ≡ ahead_b s.now i j }
@@ -398,16 +401,11 @@ fn ahead_set(s: &[u8], i: usize) -> u8
     requires { (length s.now ≡ server_length) × (i < 8) }
     ensures { result ≡ ahead_set s.now i }
 {
-    let mut d: u8 = 0;
-    let mut j = 0;
-    while j < 8 {
-        d |= bit_if(ahead(s, i, j), j);
-        j += 1;
-    }
-    d
+    set_of(STATIONS, |j| ahead(s, i, j))
 }
 
 // The bit of another station's lock on object o of page p, if i wants the object.
+#[tactic(auto, unfolding(crate::specs::Blockers::holder_at))]
 fn holder_at(s: &[u8], i: usize, p: usize, o: usize) -> u8
     requires { (length s.now ≡ server_length) × (i < 8) × (p < 32) × (o < 8) }
     ensures { result ≡ holder_at s.now i p o }
@@ -425,11 +423,9 @@ fn holders_on(s: &[u8], i: usize, p: usize) -> u8
     if server_state::locks_on(s, p) == 0 {
         return 0;
     }
-    let mut x = wanted(s, i, p);
     let mut d: u8 = 0;
-    while x != 0 {
-        d |= holder_at(s, i, p, station_state::lowest8(x));
-        x &= x - 1;
+    for o in station_state::members(wanted(s, i, p) as u64) {
+        d |= holder_at(s, i, p, o);
     }
     d
 }
@@ -442,26 +438,14 @@ fn holders_in(s: &[u8], i: usize, g: usize) -> u8
     if idle_in(s, i, g) {
         return 0;
     }
-    let mut d: u8 = 0;
-    let mut p = 0;
-    while p < 8 {
-        d |= holders_on(s, i, g * GROUP + p);
-        p += 1;
-    }
-    d
+    join_of(GROUP, |p| holders_on(s, i, g * GROUP + p))
 }
 
 fn holder_set(s: &[u8], i: usize) -> u8
     requires { (length s.now ≡ server_length) × (i < 8) }
     ensures { result ≡ holder_set s.now i }
 {
-    let mut d: u8 = 0;
-    let mut g = 0;
-    while g < 4 {
-        d |= holders_in(s, i, g);
-        g += 1;
-    }
-    d
+    join_of(4, |g| holders_in(s, i, g))
 }
 
 // The stations that block i: by a lock, or as earlier waiters.
@@ -473,6 +457,7 @@ pub fn blockers(s: &[u8], i: usize) -> u8
 }
 
 // What i wants of the eight pages of group g, as a word.
+#[tactic(auto, unfolding(crate::specs::Words::wanted_in))]
 fn wanted_in(s: &[u8], i: usize, g: usize) -> u64
     requires { (length s.now ≡ server_length) × (i < 8) × (g < 4) }
     ensures { result ≡ wanted_in s.now i g }
@@ -486,13 +471,11 @@ fn some_page(s: &[u8], i: usize) -> usize
     requires { (length s.now ≡ server_length) × (i < 8) }
     ensures { result < 32 }
 {
-    let mut g = 0;
-    while g < 4 {
+    for g in 0..4 {
         let w = wanted_in(s, i, g);
         if w != 0 {
             return g * GROUP + station_state::lowest64(w) / OBJECTS;
         }
-        g += 1;
     }
     0
 }
@@ -504,7 +487,7 @@ fn only_on(s: &[u8], i: usize, g: usize, p: usize) -> bool
 {
     let w = wanted_in(s, i, g);
     if g == p / GROUP {
-        return w == le::long(le::wide(wanted(s, i, p))) << (p % GROUP * OBJECTS);
+        return w == u64::from(wanted(s, i, p)) << (p % GROUP * OBJECTS);
     }
     w == 0
 }
@@ -517,7 +500,7 @@ fn elsewhere(s: &[u8], i: usize, p: usize) -> bool
     !(only_on(s, i, 0, p) & only_on(s, i, 1, p) & only_on(s, i, 2, p) & only_on(s, i, 3, p))
 }
 
-// The page that has all that i wants, 32 where there is none.
+// The page that has all that i wants, 32 where there is none: it goes on as it is to functions that others call with a number.
 pub fn page_alone(s: &[u8], i: usize) -> usize
     requires { (length s.now ≡ server_length) × (i < 8) }
     ensures { (result ≤ 32) × Alone s.now i result }
@@ -534,7 +517,7 @@ fn ahead_at(s: &[u8], i: usize, p: usize, j: usize) -> bool
     requires { (length s.now ≡ server_length) × (i < 8) × (p < 32) × (j < 8) }
     ensures { result ≡ ahead_at s.now i p j }
 {
-    if server_state::want(s, j) == 0 {
+    if server_state::want(s, j) == Want::Nothing as u8 {
         return false;
     }
     if server_state::arrival(s, j) >= server_state::arrival(s, i) {
@@ -547,13 +530,7 @@ fn ahead_on(s: &[u8], i: usize, p: usize) -> u8
     requires { (length s.now ≡ server_length) × (i < 8) × (p < 32) }
     ensures { result ≡ ahead_on s.now i p }
 {
-    let mut d: u8 = 0;
-    let mut j = 0;
-    while j < 8 {
-        d |= bit_if(ahead_at(s, i, p, j), j);
-        j += 1;
-    }
-    d
+    set_of(STATIONS, |j| ahead_at(s, i, p, j))
 }
 
 // The stations that block i; p is the page that has all that it wants, 32 for none.
@@ -568,6 +545,7 @@ pub fn blockers_by(s: &[u8], i: usize, p: usize) -> u8
 }
 
 // Whether i wants something of page p and another has it whole.
+#[tactic(auto, unfolding(crate::specs::Tests::shut_b))]
 pub fn shut(s: &[u8], i: usize, p: usize) -> bool
     requires { (length s.now ≡ server_length) × (i < 8) × (p < 32) }
     ensures { result ≡ shut_b s.now i p }
@@ -576,6 +554,7 @@ pub fn shut(s: &[u8], i: usize, p: usize) -> bool
 }
 
 // Whether page p's 19 is due to another than i; kept, only if it keeps.
+#[tactic(auto, unfolding(crate::specs::Tests::due_b))]
 pub fn due(s: &[u8], i: usize, p: usize, kept: bool) -> bool
     requires { (length s.now ≡ server_length) × (i < 8) × (p < 32) × (whole_of s.now p ≤ 8) }
     ensures { result ≡ due_b kept s.now i p }
@@ -592,13 +571,7 @@ pub fn shut_out(s: &[u8], i: usize) -> bool
     requires { (length s.now ≡ server_length) × (i < 8) }
     ensures { result ≡ shut_out_b s.now i }
 {
-    let mut r = false;
-    let mut p = 0;
-    while p < 32 {
-        r |= shut(s, i, p);
-        p += 1;
-    }
-    r
+    any_of(32, |p| shut(s, i, p))
 }
 
 // .. asked of the page that has all that i wants, 32 for none.
@@ -612,6 +585,7 @@ pub fn shut_out_by(s: &[u8], i: usize, p: usize) -> bool
     shut_out(s, i)
 }
 
+#[tactic(auto, unfolding(crate::specs::Shorter::written_by))]
 fn written_by(s: &[u8], i: usize, p: usize, j: usize) -> u8
     requires { (length s.now ≡ server_length) × (i < 8) × (p < 32) × (j < 8) }
     ensures { result ≡ written_by s.now i p j }
@@ -627,13 +601,7 @@ fn others_write(s: &[u8], i: usize, p: usize) -> u8
     requires { (length s.now ≡ server_length) × (i < 8) × (p < 32) }
     ensures { result ≡ join_to (written_by s.now i p) 8 }
 {
-    let mut w: u8 = 0;
-    let mut j = 0;
-    while j < 8 {
-        w |= written_by(s, i, p, j);
-        j += 1;
-    }
-    w
+    join_of(STATIONS, |j| written_by(s, i, p, j))
 }
 
 // w is what others wait to write there.
@@ -654,11 +622,5 @@ pub fn unavailable(s: &[u8], i: usize, a: usize) -> u8
     if server_state::locks_on(s, a / 8) == 0 {
         return w & !wanted(s, i, a / 8);
     }
-    let mut d: u8 = 0;
-    let mut o = 0;
-    while o < 8 {
-        d |= bit_if(unavailable_at(s, i, a, w, o), o);
-        o += 1;
-    }
-    d
+    set_of(OBJECTS, |o| unavailable_at(s, i, a, w, o))
 }

@@ -1,7 +1,8 @@
 #![tactic(auto)]
 // One waiter's turn in the pass: the gates, 19s, the page that is read, 20s, locks, the installation. Messages and records go where
-// server_actions puts them.
+// server_actions puts them: o, q and c go on to its functions as they are.
 ghost use Rattle.std.specs.Prelude.{◌≡◌, ◌≢◌, ◌+◌, ◌-◌, ◌*◌, ◌≤◌, ◌<◌, length};
+ghost use Rattle.message.specs.Kinds.{cause_code};
 ghost use Rattle.server_state.specs.Layout.{server_length, whole_of, want_of, request_of, last_of};
 ghost use Rattle.server_tests.specs.Tests.{fault_b, shut_out_b};
 ghost use Rattle.server_tests.specs.Alone.{Alone};
@@ -11,7 +12,8 @@ ghost use Rattle.server_actions.specs.Pass.{ask_b, ask_to, serve_read_b, call_on
 ghost use Rattle.server_visit.specs.Asked.{Held};
 ghost use Rattle.server_visit.specs.Visits.{visit_commit_b};
 
-use message::LENGTH as MESSAGE;
+use kinds::Want;
+use message::{Cause, Down, LENGTH as MESSAGE};
 use server_actions::Counts;
 use server_state::CALLED;
 use station_state::OBJECTS;
@@ -48,7 +50,8 @@ fn ask(
     if server_tests::due(s, i, p, kept) {
         let h = whole_holder(s, p);
         let t = server_state::whole_for(s, p);
-        message::put_message(o, c.messages * MESSAGE, 19, h as u8, p as u8, 0, t, 0, 0);
+        let at = c.messages * MESSAGE;
+        message::put_message(o, at, Down::Deescalate as u8, h as u8, p as u8, 0, t, 0, 0);
         server_changes::asked(s, p);
         return server_actions::one_more(c);
     }
@@ -61,11 +64,9 @@ fn ask_all(s: &mut [u8], o: &mut [u8], q: &mut [u8], c: Counts, i: usize, kept: 
     ensures { posted s.new o.new q.new result ≡ post o.old q.old c (ask_to kept i (from s.old) 32) }
 {
     let mut b = c;
-    let mut p = 0;
-    while p < 32 {
+    for p in 0..32 {
         let e = ask(s, o, q, b, i, p, kept);
         b = e;
-        p += 1;
     }
     b
 }
@@ -78,7 +79,7 @@ fn serve_read(s: &mut [u8], o: &mut [u8], q: &mut [u8], c: Counts, i: usize) -> 
     let a = request(s, i);
     let u = server_tests::unavailable(s, i, a);
     server_changes::leave(s, i);
-    server_actions::send_page(s, o, q, c, 16, i, a, u)
+    server_actions::send_page(s, o, q, c, Down::Page as u8, i, a, u)
 }
 
 // 20 to station j, if it is in d.
@@ -99,11 +100,9 @@ fn call_all(s: &[u8], o: &mut [u8], q: &mut [u8], c: Counts, i: usize, d: u8) ->
     ensures { posted s.now o.new q.new result ≡ post o.old q.old c (call_to i d s.now (from s.now) 8) }
 {
     let mut b = c;
-    let mut j = 0;
-    while j < 8 {
+    for j in 0..8 {
         let e = call_one(s, o, q, b, i, d, j);
         b = e;
-        j += 1;
     }
     b
 }
@@ -119,6 +118,7 @@ fn call(s: &mut [u8], o: &mut [u8], q: &mut [u8], c: Counts, i: usize) -> Counts
     b
 }
 
+#[tactic(auto, unfolding(server_actions::specs::Pass::call_once_b))]
 fn call_once(s: &mut [u8], o: &mut [u8], q: &mut [u8], c: Counts, i: usize) -> Counts
     requires { (length s.old ≡ server_length) × (i < 8) × Room o.old q.old c (call_once_b i (from s.old)) }
     ensures { posted s.new o.new q.new result ≡ post o.old q.old c (call_once_b i (from s.old)) }
@@ -137,7 +137,7 @@ fn grant_page(s: &mut [u8], o: &mut [u8], q: &mut [u8], c: Counts, i: usize) -> 
     let u = server_tests::unavailable(s, i, a);
     server_changes::leave(s, i);
     server_changes::lock_page(s, i, a / OBJECTS);
-    server_actions::send_page(s, o, q, c, 18, i, a, u)
+    server_actions::send_page(s, o, q, c, Down::LockedPage as u8, i, a, u)
 }
 
 fn grant_object(s: &mut [u8], o: &mut [u8], q: &mut [u8], c: Counts, i: usize) -> Counts
@@ -149,7 +149,7 @@ fn grant_object(s: &mut [u8], o: &mut [u8], q: &mut [u8], c: Counts, i: usize) -
     let x = server_state::written_set(s, i, a / OBJECTS);
     server_changes::leave(s, i);
     server_changes::lock_set(s, i, a / OBJECTS, x);
-    server_actions::send_page(s, o, q, c, 17, i, a, u)
+    server_actions::send_page(s, o, q, c, Down::LockedObjects as u8, i, a, u)
 }
 
 // The whole page is locked if nobody is in the way there, else the objects of the request.
@@ -171,18 +171,18 @@ fn after_calls(s: &mut [u8], o: &mut [u8], q: &mut [u8], c: Counts, i: usize, w:
     if server_state::pend(s, i) != 0 {
         return c;
     }
-    if w == 2 {
+    if w == Want::Write as u8 {
         return grant(s, o, q, c, i);
     }
     server_actions::install(s, o, q, c, i)
 }
 
-// Nothing is in i's way: w is what it wants (1 a read, 2 a write, 3 a commit).
+// Nothing is in i's way: w is what it wants, the number of a `kinds::Want`.
 fn proceed(s: &mut [u8], o: &mut [u8], q: &mut [u8], c: Counts, i: usize, w: u8) -> Counts
     requires { (length s.old ≡ server_length) × (i < 8) × (w ≢ 1 → w ≢ 2 → last_of s.old < 4294967295) × Room o.old q.old c (proceed_b w i (from s.old)) }
     ensures { posted s.new o.new q.new result ≡ post o.old q.old c (proceed_b w i (from s.old)) }
 {
-    if w == 1 {
+    if w == Want::Read as u8 {
         return serve_read(s, o, q, c, i);
     }
     let b = call_once(s, o, q, c, i);
@@ -201,6 +201,7 @@ fn gates(s: &mut [u8], o: &mut [u8], q: &mut [u8], c: Counts, i: usize, w: u8, x
 }
 
 // 19s to keeping holders. Where nothing that i wants is locked whole by another there are none.
+#[tactic(auto, unfolding(server_actions::specs::Pass::ask_keepers_b))]
 fn ask_keepers(s: &mut [u8], o: &mut [u8], q: &mut [u8], c: Counts, i: usize, x: bool) -> Counts
     requires { (length s.old ≡ server_length) × (i < 8) × Held s.old × (x ≡ shut_out_b s.old i) × Room o.old q.old c (ask_keepers_b i (from s.old)) }
     ensures { posted s.new o.new q.new result ≡ post o.old q.old c (ask_keepers_b i (from s.old)) }
@@ -211,30 +212,38 @@ fn ask_keepers(s: &mut [u8], o: &mut [u8], q: &mut [u8], c: Counts, i: usize, x:
     c
 }
 
-// A commit that cannot be installed any more is aborted; cause is its fault.
-fn judge(
+// A commit without a fault goes on unless somebody blocks it.
+fn judge(s: &mut [u8], o: &mut [u8], q: &mut [u8], c: Counts, i: usize, b: u8, x: bool) -> Counts
+    requires { (length s.old ≡ server_length) × (i < 8) × Held s.old × (b ≡ blockers_b s.old i) × (x ≡ shut_out_b s.old i) × (0 ≡ fault_b s.old i) × Room o.old q.old c (judge_b i (from s.old)) }
+    ensures { posted s.new o.new q.new result ≡ post o.old q.old c (judge_b i (from s.old)) }
+{
+    if b == 0 {
+        return gates(s, o, q, c, i, Want::Commit as u8, x);
+    }
+    c
+}
+
+// A commit that cannot be installed any more is aborted; cause is its fault. 19s to keeping holders go ahead of `Locked`, not of the others.
+fn fail(
     s: &mut [u8],
     o: &mut [u8],
     q: &mut [u8],
     c: Counts,
     i: usize,
-    b: u8,
     x: bool,
-    cause: u8,
+    cause: Cause,
 ) -> Counts
-    requires { (length s.old ≡ server_length) × (i < 8) × Held s.old × (b ≡ blockers_b s.old i) × (x ≡ shut_out_b s.old i) × (cause ≡ fault_b s.old i) × Room o.old q.old c (judge_b i (from s.old)) }
-    ensures { posted s.new o.new q.new result ≡ post o.old q.old c (judge_b i (from s.old)) }
+    requires { (length s.old ≡ server_length) × (i < 8) × Held s.old × (x ≡ shut_out_b s.old i) × (cause_code cause ≡ fault_b s.old i) × Room o.old q.old c (visit_commit_b i (from s.old)) }
+    ensures { posted s.new o.new q.new result ≡ post o.old q.old c (visit_commit_b i (from s.old)) }
 {
-    if cause != 0 {
-        return server_actions::abort(s, o, q, c, i, cause);
+    if cause == Cause::Locked {
+        let d = ask_keepers(s, o, q, c, i, x);
+        return server_actions::abort(s, o, q, d, i, cause as u8);
     }
-    if b == 0 {
-        return gates(s, o, q, c, i, 3, x);
-    }
-    c
+    server_actions::abort(s, o, q, c, i, cause as u8)
 }
 
-// A commit's turn: 19s to keeping holders go ahead of cause 3, not of the others. p is the page that has all that it wants, 32 for none.
+// A commit's turn. p is the page that has all that it wants, 32 for none.
 fn visit_commit(
     s: &mut [u8],
     o: &mut [u8],
@@ -248,12 +257,11 @@ fn visit_commit(
     requires { (length s.old ≡ server_length) × (i < 8) × Held s.old × (b ≡ blockers_b s.old i) × (x ≡ shut_out_b s.old i) × Room o.old q.old c (visit_commit_b i (from s.old)) × Alone s.old i p }
     ensures { posted s.new o.new q.new result ≡ post o.old q.old c (visit_commit_b i (from s.old)) }
 {
-    let cause = server_tests::fault(s, i, p);
-    if (cause == 2) | (cause == 4) {
-        return server_actions::abort(s, o, q, c, i, cause);
+    if let Some(cause) = server_tests::fault(s, i, p) {
+        return fail(s, o, q, c, i, x, cause);
     }
     let d = ask_keepers(s, o, q, c, i, x);
-    judge(s, o, q, d, i, b, x, cause)
+    judge(s, o, q, d, i, b, x)
 }
 
 // A request's turn, of a read or a write.
@@ -293,10 +301,10 @@ pub fn visit(
     ensures { posted s.new o.new q.new result ≡ post o.old q.old c (visit_b i (from s.old)) }
 {
     let w = server_state::want(s, i);
-    if w == 0 {
+    if w == Want::Nothing as u8 {
         return c;
     }
-    if w == 3 {
+    if w == Want::Commit as u8 {
         return visit_commit(s, o, q, c, i, b, x, p);
     }
     visit_request(s, o, q, c, i, w, b, x)

@@ -19,13 +19,10 @@ fn list_group(list: &mut [u8], s: &[u8], at: usize, i: usize, g: usize) -> usize
     requires { (at + set_row ≤ length s.now) × (i + 64 ≤ length list.old) × (g < 4) }
     ensures { filled list.new result ≡ filled (span_to list.old s.now at i (g * 64) 64) (i + rank (member_from s.now at (g * 64)) 64) }
 {
-    let mut x = le::get_u64(s, at + g * GROUP);
     let mut j = i;
-    while x != 0 {
-        let a = g * 64 + station_state::lowest64(x);
-        le::put_u8(list, j, a as u8);
+    for k in station_state::members(le::get_u64(s, at + g * GROUP)) {
+        le::put_u8(list, j, (g * 64 + k) as u8);
         j += 1;
-        x &= x - 1;
     }
     j
 }
@@ -36,26 +33,22 @@ pub fn list_set(list: &mut [u8], s: &[u8], at: usize, i: usize) -> usize
     ensures { (list.new ≡ entries_to list.old s.now at i 256) × (result ≡ i + rank (member s.now at) 256) × (i ≤ result) × (result ≤ i + most_entries) }
 {
     let mut j = i;
-    let mut g = 0;
-    while g < 4 {
-        let b = list_group(list, s, at, j, g);
-        j = b;
-        g += 1;
+    for g in 0..4 {
+        j = list_group(list, s, at, j, g);
     }
     j
 }
 
 // Puts the values of these addresses, each among those from `values`, as entries i and on of a part that has values.
+#[tactic(auto, unfolding(crate::specs::Stores::values_for))]
 fn put_values(part: &mut [u8], i: usize, s: &[u8], values: usize, addresses: &[u8])
     requires { (values + 256 * value_length ≤ length s.now) × ((i + length addresses.now) * value_length ≤ length part.old) }
     ensures { part.new ≡ sets part.old (i * value_length) (values_for s.now values addresses.now) }
 {
     let n = addresses.len();
-    let mut c: usize = 0;
-    while c < n {
+    for c in 0..n {
         let v = le::get_u64(s, values + addresses[c] as usize * record::VALUE);
         le::put_u64(part, (i + c) * record::VALUE, v);
-        c += 1;
     }
 }
 

@@ -5,7 +5,8 @@ ghost use Rattle.std.specs.Int.{w64};
 ghost use Rattle.std.proofs.Common.{SFits};
 ghost use Rattle.signed.specs.Change.{diff, Sums, plus, change_of, with_sign};
 
-// The change between two values, or that one of them is above 2^63 - 1.
+// The change between two values, or that one of them is above 2^63 - 1. No `Option`: theorems `noted_is` and `summed_is` of
+// `licence_meaning` speak of it.
 #[derive(Clone, Copy)]
 pub enum Change {
     By(i64),

@@ -6,6 +6,7 @@ ghost use Rattle.station_state.specs.Layout.{set_row, state_length};
 ghost use Rattle.message.specs.Layout.{message_length};
 ghost use Rattle.message.specs.Commit.{station_room};
 
+use message::Up;
 use station_state::{NAMED, SET_ROW, WRITTEN_SET};
 
 // Thirty-two object sets of a state, as a copy: the state changes while they are used.
@@ -25,13 +26,14 @@ pub fn do_callback(s: &mut [u8], o: &mut [u8], n: usize, i: u8, r: u8, t: u32, x
     ensures { posted s.new o.new result ≡ callback_posted i r t x.now s.old o.old n }
 {
     let y = station_pages::dropped(x, s);
-    message::put_up(o, n * message::LENGTH, 7, i, r, 0, t, y, 0);
+    message::put_up(o, n * message::LENGTH, Up::Done as u8, i, r, 0, t, y, 0);
     station_pages::mark(s, x);
     station_pages::drop_pages(s, y);
     n + 1
 }
 
 // Whether nothing is kept for requester r.
+#[tactic(auto, unfolding(crate::specs::Callbacks::not_kept_b))]
 fn not_kept(i: u8, r: u8, s: &[u8]) -> bool
     requires { (length s.now ≡ state_length) × (r < 8) }
     ensures { result ≡ not_kept_b i r s.now }
@@ -40,6 +42,7 @@ fn not_kept(i: u8, r: u8, s: &[u8]) -> bool
 }
 
 // Does the callback kept for requester r, if there is one.
+#[tactic(auto, unfolding(crate::specs::Callbacks::kept_posted))]
 fn do_kept(s: &mut [u8], o: &mut [u8], n: usize, i: u8, r: u8) -> usize
     requires { (length s.old ≡ state_length) × (r ≢ i → n * message_length + message_length ≤ length o.old) × (r < 8) }
     ensures { posted s.new o.new result ≡ kept_posted i r s.old o.old n }
@@ -59,11 +62,8 @@ fn do_all_kept(s: &mut [u8], o: &mut [u8], n: usize, i: u8) -> usize
     ensures { posted s.new o.new result ≡ kept_posted_to i s.old o.old n 8 }
 {
     let mut k = n;
-    let mut r: u8 = 0;
-    while r < 8 {
-        let next = do_kept(s, o, k, i, r);
-        k = next;
-        r += 1;
+    for r in 0..8u8 {
+        k = do_kept(s, o, k, i, r);
     }
     k
 }
@@ -78,6 +78,7 @@ pub fn close(s: &mut [u8], o: &mut [u8], n: usize, i: u8) -> usize
 }
 
 // Undoes the transaction's writes.
+#[tactic(auto, unfolding(crate::specs::Callbacks::undo_b))]
 pub fn undo(s: &mut [u8])
     requires { length s.old ≡ state_length }
     ensures { s.new ≡ undo_b s.old }

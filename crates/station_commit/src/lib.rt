@@ -7,6 +7,7 @@ ghost use Rattle.station_state.specs.Layout.{state_length};
 ghost use Rattle.message.specs.Layout.{version_width};
 ghost use Rattle.message.specs.Commit.{versions_at};
 
+use message::Up;
 use set_record::ADDRESSES;
 use station_state::{NUMBER_WIDTH, READ_SET, READ_VALUES, SEEN, WRITTEN_SET, WRITTEN_VALUES};
 
@@ -27,11 +28,9 @@ fn put_each(c: &mut [u8], s: &[u8], addresses: &[u8])
     ensures { c.new ≡ sets c.old versions_at (versions_for s.now addresses.now) }
 {
     let n = addresses.len();
-    let mut e: usize = 0;
-    while e < n {
+    for e in 0..n {
         let v = version_sent(s, addresses[e] as usize);
         le::put_u32(c, message::VERSIONS + e * message::VERSION_WIDTH, v);
-        e += 1;
     }
 }
 
@@ -57,7 +56,7 @@ pub fn put_commit(s: &[u8], c: &mut [u8]) -> usize
     message::put_up(
         c,
         0,
-        3,
+        Up::Commit as u8,
         station_state::station(s),
         0,
         0,
@@ -66,8 +65,8 @@ pub fn put_commit(s: &[u8], c: &mut [u8]) -> usize
         0,
     );
     let k = put_versions(c, s);
-    let station = le::wide(station_state::station(s));
-    let kind = le::wide(station_state::kind(s));
+    let station = u32::from(station_state::station(s));
+    let kind = u32::from(station_state::kind(s));
     let at = message::VERSIONS + k * message::VERSION_WIDTH;
     at + set_record::put_record(
         s,

@@ -9,18 +9,22 @@ ghost use Rattle.station_pages.specs.Pages.{in_use_b};
 ghost use Rattle.message.specs.Layout.{message_length, page_of};
 ghost use Rattle.message.specs.Commit.{station_room};
 
+use kinds::Want;
+use message::{Cause, Down, Up};
 use station_answer::{Answer, Said};
 use station_state::{OBJECTS, WHOLE};
 
 // Whether t is the open transaction.
+#[tactic(auto, unfolding(crate::specs::Delivery::live_b))]
 fn live(s: &[u8], t: u32) -> bool
     requires { length s.now ≡ state_length }
     ensures { result ≡ live_b s.now t }
 {
-    (station_state::opened(s) != 0) & (t == station_state::number(s))
+    station_state::is_open(s) & (t == station_state::number(s))
 }
 
 // Whether t is a validating transaction that has ended.
+#[tactic(auto, unfolding(crate::specs::Delivery::ended_b))]
 fn ended(s: &[u8], t: u32) -> bool
     requires { length s.now ≡ state_length }
     ensures { result ≡ ended_b s.now t }
@@ -28,22 +32,25 @@ fn ended(s: &[u8], t: u32) -> bool
     !station_state::locking(s) & !live(s, t) & !(station_state::number(s) < t)
 }
 
+#[tactic(auto, unfolding(crate::specs::Delivery::for_read_of))]
 fn for_read_of(s: &[u8], a: usize) -> bool
     requires { length s.now ≡ state_length }
     ensures { result ≡ for_read_of s.now a }
 {
-    (station_state::wait(s) == 1) & (a == station_state::address(s) as usize)
+    (station_state::wait(s) == Want::Read as u8) & (a == station_state::address(s) as usize)
 }
 
 // Whether a write on page p is out.
+#[tactic(auto, unfolding(crate::specs::Delivery::for_write_on))]
 fn for_write_on(s: &[u8], p: usize) -> bool
     requires { length s.now ≡ state_length }
     ensures { result ≡ for_write_on s.now p }
 {
-    (station_state::wait(s) == 2) & (p == (station_state::address(s) / 8) as usize)
+    (station_state::wait(s) == Want::Write as u8) & (p == (station_state::address(s) / 8) as usize)
 }
 
 // Whether a write that is out will write a.
+#[tactic(auto, unfolding(crate::specs::Delivery::for_write_of))]
 fn for_write_of(s: &[u8], a: usize) -> bool
     requires { length s.now ≡ state_length }
     ensures { result ≡ for_write_of s.now a }
@@ -52,6 +59,7 @@ fn for_write_of(s: &[u8], a: usize) -> bool
 }
 
 // Whether a 16 fits what is out, or comes for an ended transaction.
+#[tactic(auto, unfolding(crate::specs::Delivery::fits_page_b))]
 fn fits_page(m: &[u8], s: &[u8]) -> bool
     requires { (length s.now ≡ state_length) × (message_length ≤ length m.now) }
     ensures { result ≡ fits_page_b m.now s.now }
@@ -63,6 +71,7 @@ fn fits_page(m: &[u8], s: &[u8]) -> bool
 }
 
 // Whether a 17 or 18 fits what is out.
+#[tactic(auto, unfolding(crate::specs::Delivery::fits_lock_b))]
 fn fits_lock(m: &[u8], s: &[u8]) -> bool
     requires { (length s.now ≡ state_length) × (message_length ≤ length m.now) }
     ensures { result ≡ fits_lock_b m.now s.now }
@@ -72,55 +81,57 @@ fn fits_lock(m: &[u8], s: &[u8]) -> bool
         & for_write_on(s, message::page(m) as usize)
 }
 
+#[tactic(auto, unfolding(crate::specs::Delivery::fits_committed_b))]
 fn fits_committed(m: &[u8], s: &[u8]) -> bool
     requires { (length s.now ≡ state_length) × (message_length ≤ length m.now) }
     ensures { result ≡ fits_committed_b m.now s.now }
 {
-    live(s, message::transaction(m)) & (station_state::wait(s) == 3)
+    live(s, message::transaction(m)) & (station_state::wait(s) == Want::Commit as u8)
 }
 
+#[tactic(auto, unfolding(crate::specs::Delivery::fits_aborted_b))]
 fn fits_aborted(m: &[u8], s: &[u8]) -> bool
     requires { (length s.now ≡ state_length) × (message_length ≤ length m.now) }
     ensures { result ≡ fits_aborted_b m.now s.now }
 {
-    live(s, message::transaction(m)) & !(station_state::wait(s) == 0)
+    live(s, message::transaction(m)) & (station_state::wait(s) != Want::Nothing as u8)
 }
 
 // Whether a message fits the station's kind and what is out.
+#[tactic(auto, unfolding(crate::specs::Delivery::fits_b))]
 pub fn fits(m: &[u8], s: &[u8]) -> bool
     requires { (length s.now ≡ state_length) × (message_length ≤ length m.now) × ForStations m.now }
     ensures { result ≡ fits_b m.now s.now }
 {
-    match message::kind(m) {
-        16 => fits_page(m, s),
-        17 => fits_lock(m, s),
-        18 => fits_lock(m, s),
-        19 => station_state::locking(s),
-        20 => station_state::locking(s),
-        21 => fits_committed(m, s),
-        22 => fits_aborted(m, s),
-        23 => !station_state::locking(s),
-        _ => false,
+    let Ok(kind) = Down::try_from(message::kind(m)) else {
+        return false;
+    };
+    match kind {
+        Down::Page => fits_page(m, s),
+        Down::LockedObjects | Down::LockedPage => fits_lock(m, s),
+        Down::Deescalate | Down::Callback => station_state::locking(s),
+        Down::Committed => fits_committed(m, s),
+        Down::Aborted => fits_aborted(m, s),
+        Down::Invalidate => !station_state::locking(s),
     }
 }
 
 // Takes the lock that a page brings.
+#[tactic(auto, unfolding(crate::specs::Delivery::take_lock_b))]
 fn take_lock(s: &mut [u8], m: &[u8])
     requires { (length s.old ≡ state_length) × (message_length ≤ length m.now) × (page_of m.now < 32) }
     ensures { s.new ≡ take_lock_b m.now s.old }
 {
     let p = message::page(m) as usize;
-    if message::kind(m) == 17 {
-        station_state::lock_waiting(s, p);
-        return;
-    }
-    if message::kind(m) == 18 {
-        station_state::page_on(s, WHOLE, p);
-        return;
+    match Down::try_from(message::kind(m)) {
+        Ok(Down::LockedObjects) => station_state::lock_waiting(s, p),
+        Ok(Down::LockedPage) => station_state::page_on(s, WHOLE, p),
+        _ => {}
     }
 }
 
 // The page of a message arrives, with its lock; nothing is out any more.
+#[tactic(auto, unfolding(crate::specs::Delivery::arrived_b))]
 fn arrived(s: &mut [u8], m: &[u8])
     requires { (length s.old ≡ state_length) × (message_length ≤ length m.now) × (page_of m.now < 32) }
     ensures { s.new ≡ arrived_b m.now s.old }
@@ -135,12 +146,12 @@ fn answer_wait(s: &mut [u8], o: &mut [u8], w: u8, a: usize, x: u8, values: &[u64
     requires { (length s.old ≡ state_length) × (a < 256) }
     ensures { delivered s.new o.new result ≡ handed o.old (answer_wait_b w a x values.now s.old) }
 {
-    if w == 1 {
+    if w == Want::Read as u8 {
         let v = station_state::copy(s, a);
         station_state::record_read(s, a);
         return station_answer::say(Answer::Value(v), 0);
     }
-    if w == 2 {
+    if w == Want::Write as u8 {
         station_state::write_all(s, a / 8, x, values);
         return station_answer::say(Answer::Written, 0);
     }
@@ -164,17 +175,19 @@ fn on_page(s: &mut [u8], m: &[u8], o: &mut [u8]) -> Said
 }
 
 // The transaction that the 8 names.
+#[tactic(auto, unfolding(crate::specs::Delivery::answers_for_b))]
 fn answers_for(m: &[u8], s: &[u8]) -> u32
     requires { (length s.now ≡ state_length) × (message_length ≤ length m.now) }
     ensures { result ≡ answers_for_b m.now s.now }
 {
-    if station_state::keeps(s) & !(station_state::opened(s) == 0) {
+    if station_state::keeps(s) & station_state::is_open(s) {
         return station_state::number(s);
     }
     message::transaction(m)
 }
 
 // The objects that it wrote on the page that 19 names.
+#[tactic(auto, unfolding(crate::specs::Delivery::written_on_b))]
 fn written_on(m: &[u8], s: &[u8]) -> u8
     requires { (length s.now ≡ state_length) × (message_length ≤ length m.now) × (page_of m.now < 32) }
     ensures { result ≡ written_on_b m.now s.now }
@@ -186,6 +199,7 @@ fn written_on(m: &[u8], s: &[u8]) -> u8
 }
 
 // Whether the page's whole lock goes.
+#[tactic(auto, unfolding(crate::specs::Delivery::gives_up_b))]
 fn gives_up(m: &[u8], s: &[u8]) -> bool
     requires { (length s.now ≡ state_length) × (message_length ≤ length m.now) × (page_of m.now < 32) }
     ensures { result ≡ gives_up_b m.now s.now }
@@ -196,6 +210,7 @@ fn gives_up(m: &[u8], s: &[u8]) -> bool
 }
 
 // It becomes locks on the objects of x.
+#[tactic(auto, unfolding(crate::specs::Delivery::loosened_b))]
 fn loosened(s: &mut [u8], m: &[u8], x: u8)
     requires { (length s.old ≡ state_length) × (message_length ≤ length m.now) × (page_of m.now < 32) × (x ≡ written_on_b m.now s.old) }
     ensures { s.new ≡ loosened_b m.now s.old }
@@ -215,7 +230,7 @@ fn on_deescalate(s: &mut [u8], m: &[u8], o: &mut [u8]) -> Said
     message::put_up(
         o,
         0,
-        8,
+        Up::WrittenSet as u8,
         station_state::station(s),
         message::page(m),
         0,
@@ -238,7 +253,7 @@ fn on_callback(s: &mut [u8], m: &[u8], o: &mut [u8]) -> Said
         message::put_up(
             o,
             0,
-            6,
+            Up::Busy as u8,
             station_state::station(s),
             message::page(m),
             0,
@@ -274,7 +289,7 @@ fn on_aborted(s: &mut [u8], m: &[u8], o: &mut [u8]) -> Said
     let i = station_state::station(s);
     station_callbacks::undo(s);
     let k = station_callbacks::close(s, o, 0, i);
-    station_answer::say(Answer::Aborted(le::wide(message::object(m))), k)
+    station_answer::say(Answer::Aborted(u32::from(message::object(m))), k)
 }
 
 // Whether a 23 with these sets ends the transaction. A station at rest has used nothing.
@@ -282,10 +297,10 @@ fn ends(sets: &[u8], s: &[u8]) -> bool
     requires { (length s.now ≡ state_length) × (set_row ≤ length sets.now) × Settled s.now }
     ensures { result ≡ (in_use_b sets.now s.now && not (eqb (wait s.now) 3)) }
 {
-    if station_state::opened(s) == 0 {
+    if !station_state::is_open(s) {
         return false;
     }
-    station_pages::in_use(sets, s) & !(station_state::wait(s) == 3)
+    station_pages::in_use(sets, s) & (station_state::wait(s) != Want::Commit as u8)
 }
 
 // On 23.
@@ -300,23 +315,26 @@ fn on_invalidate(s: &mut [u8], m: &[u8], o: &mut [u8]) -> Said
     if over {
         station_callbacks::undo(s);
         let k = station_callbacks::close(s, o, 0, i);
-        return station_answer::say(Answer::Aborted(2), k);
+        return station_answer::say(Answer::Aborted(Cause::Changed as u32), k);
     }
     station_answer::say(Answer::Nothing, 0)
 }
 
 // Takes a message that fits: what the owner is told, and the messages sent.
+#[tactic(auto, unfolding(crate::specs::Delivery::on_down_b))]
 pub fn on_down(s: &mut [u8], m: &[u8], o: &mut [u8]) -> Said
     requires { (length s.old ≡ state_length) × (message_length ≤ length m.now) × (station_room ≤ length o.old) × (layout_station s.old ≤ 7) × Named m.now × Settled s.old }
     ensures { delivered s.new o.new result ≡ handed o.old (on_down_b m.now s.old) }
 {
-    match message::kind(m) {
-        16..=18 => on_page(s, m, o),
-        19 => on_deescalate(s, m, o),
-        20 => on_callback(s, m, o),
-        21 => on_committed(s, m, o),
-        22 => on_aborted(s, m, o),
-        23 => on_invalidate(s, m, o),
-        _ => station_answer::say(Answer::Nothing, 0),
+    let Ok(kind) = Down::try_from(message::kind(m)) else {
+        return station_answer::say(Answer::Nothing, 0);
+    };
+    match kind {
+        Down::Page | Down::LockedObjects | Down::LockedPage => on_page(s, m, o),
+        Down::Deescalate => on_deescalate(s, m, o),
+        Down::Callback => on_callback(s, m, o),
+        Down::Committed => on_committed(s, m, o),
+        Down::Aborted => on_aborted(s, m, o),
+        Down::Invalidate => on_invalidate(s, m, o),
     }
 }

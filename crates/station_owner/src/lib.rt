@@ -7,11 +7,16 @@ ghost use Rattle.station_callbacks.specs.Callbacks.{sends, posted, post};
 ghost use Rattle.station_owner.specs.Owner.{ready, called, commit_called, check_open_b, long_read_b, check_read_b, bad_set_b, check_write_b, check_purge_b, read_request_b, shown_b, read_here_b, at_hand_b, named_b, ask_b, aborts_b, own_begin_b, read_as_b, own_read_b, write_as_b, own_write_set_b, only_at, own_write_b, own_abort_b, own_purge_b, at_rest, no_begin};
 ghost use Rattle.station_state.specs.Layout.{state_length};
 ghost use Rattle.message.specs.Commit.{station_room};
+ghost use Rattle.refusals.specs.Refusals.{number_of, code};
 
+use kinds::Want;
+use message::Up;
+use refusals::Refusal;
 use station_answer::{Answer, Said};
 use station_state::{READ_SET, READ_VALUES, UNAVAILABLE, VALUE_WIDTH, WRITTEN_SET, WRITTEN_VALUES};
 
 // Whether the state is one, and the output is long enough: number 1 otherwise.
+#[tactic(auto, unfolding(crate::specs::Owner::ready))]
 pub fn ready(s: &[u8], o: &[u8], c: &[u8]) -> bool
     ensures { result ≡ ready s.now o.now c.now }
 {
@@ -25,40 +30,43 @@ fn at_rest(s: &[u8], o: &[u8], c: &[u8]) -> bool
     station_state::rests(s) & (message::STATION_ROOM <= o.len()) & (message::COMMIT_ROOM <= c.len())
 }
 
-// A refusal.
+// A refusal. Its number stays a number, as `Answer::Refused` has it: the definitions of calls name it, and hosts are told it as it is.
 pub fn refuse(number: u32) -> Said
     ensures { result ≡ said (Answer.Refused number) 0 0 }
 {
     station_answer::say(Answer::Refused(number), 0)
 }
 
-// The number that turns a begin back where a station is not at rest.
-fn no_begin(s: &[u8], o: &[u8], c: &[u8]) -> u32
-    ensures { result ≡ no_begin s.now o.now c.now }
+// Why a begin is turned back where a station is not at rest.
+#[tactic(auto, unfolding(crate::specs::Owner::no_begin))]
+fn no_begin(s: &[u8], o: &[u8], c: &[u8]) -> Refusal
+    ensures { number_of result ≡ no_begin s.now o.now c.now }
 {
     if !ready(s, o, c) {
-        return 1;
+        return Refusal::Buffer;
     }
-    if station_state::wait(s) == 0 {
-        return 9;
+    if station_state::wait(s) == Want::Nothing as u8 {
+        return Refusal::Open;
     }
-    7
+    Refusal::Waiting
 }
 
-fn check_open(s: &[u8]) -> u32
+#[tactic(auto, unfolding(crate::specs::Owner::open_then_b))]
+fn check_open(s: &[u8]) -> Result<(), Refusal>
     requires { length s.now ≡ state_length }
-    ensures { result ≡ check_open_b s.now }
+    ensures { code result ≡ check_open_b s.now }
 {
-    if station_state::wait(s) != 0 {
-        return 7;
+    if station_state::wait(s) != Want::Nothing as u8 {
+        return Err(Refusal::Waiting);
     }
-    if station_state::opened(s) == 0 {
-        return 8;
+    if !station_state::is_open(s) {
+        return Err(Refusal::Closed);
     }
-    0
+    Ok(())
 }
 
 // Whether a would be one recorded read too many.
+#[tactic(auto, unfolding(crate::specs::Owner::long_read_b))]
 fn long_read(a: usize, s: &[u8]) -> bool
     requires { (length s.now ≡ state_length) × (a < 256) }
     ensures { result ≡ long_read_b a s.now }
@@ -69,24 +77,23 @@ fn long_read(a: usize, s: &[u8]) -> bool
     limits::LIMIT <= station_state::count_in(s, READ_SET)
 }
 
-fn check_read(a: u32, s: &[u8]) -> u32
+#[tactic(auto, unfolding(crate::specs::Owner::check_read_b, crate::specs::Owner::open_then_b))]
+fn check_read(a: u32, s: &[u8]) -> Result<(), Refusal>
     requires { length s.now ≡ state_length }
-    ensures { result ≡ check_read_b a s.now }
+    ensures { code result ≡ check_read_b a s.now }
 {
     if a >= 256 {
-        return 4;
+        return Err(Refusal::Range);
     }
-    let n = check_open(s);
-    if n != 0 {
-        return n;
-    }
+    check_open(s)?;
     if long_read(a as usize, s) {
-        return 15;
+        return Err(Refusal::Long);
     }
-    0
+    Ok(())
 }
 
 // Whether x is no set of objects of page p, or one that this owner may not write.
+#[tactic(auto, unfolding(crate::specs::Owner::bad_set_b))]
 fn bad_set(p: u32, x: u32, s: &[u8]) -> bool
     requires { length s.now ≡ state_length }
     ensures { result ≡ bad_set_b p x s.now }
@@ -94,40 +101,39 @@ fn bad_set(p: u32, x: u32, s: &[u8]) -> bool
     (p > 31) | (x == 0) | (x > 255) | (!station_state::locking(s) & (u32::count_ones(x) > 1))
 }
 
-fn check_write(p: u32, x: u32, s: &[u8]) -> u32
+#[tactic(auto, unfolding(crate::specs::Owner::check_write_b, crate::specs::Owner::long_write_b, crate::specs::Owner::open_then_b))]
+fn check_write(p: u32, x: u32, s: &[u8]) -> Result<(), Refusal>
     requires { length s.now ≡ state_length }
-    ensures { result ≡ check_write_b p x s.now }
+    ensures { code result ≡ check_write_b p x s.now }
 {
     if bad_set(p, x, s) {
-        return 4;
+        return Err(Refusal::Range);
     }
-    let n = check_open(s);
-    if n != 0 {
-        return n;
-    }
+    check_open(s)?;
     if station_state::written_with(s, p as usize, x as u8) > limits::LIMIT {
-        return 15;
+        return Err(Refusal::Long);
     }
-    0
+    Ok(())
 }
 
-fn check_purge(p: u32, s: &[u8]) -> u32
+#[tactic(auto, unfolding(crate::specs::Owner::check_purge_b))]
+fn check_purge(p: u32, s: &[u8]) -> Result<(), Refusal>
     requires { length s.now ≡ state_length }
-    ensures { result ≡ check_purge_b p s.now }
+    ensures { code result ≡ check_purge_b p s.now }
 {
     if p >= 32 {
-        return 4;
+        return Err(Refusal::Range);
     }
     if station_state::requested(s, p as usize) {
-        return 7;
+        return Err(Refusal::Waiting);
     }
     if station_pages::used_page(s, p as usize)
         | !station_state::has_bit32(station_state::cached(s), p as usize)
         | station_state::kept_whole(s, p as usize)
     {
-        return 10;
+        return Err(Refusal::Kept);
     }
-    0
+    Ok(())
 }
 
 // Begins a transaction.
@@ -135,16 +141,17 @@ pub fn begin(s: &mut [u8], o: &mut [u8], c: &mut [u8]) -> Said
     ensures { outcome s.new o.new c.new result ≡ called s.old o.old c.old (own_begin_b s.old) }
 {
     if !at_rest(s, o, c) {
-        return refuse(no_begin(s, o, c));
+        return refuse(no_begin(s, o, c).number());
     }
     let n = station_state::number(s);
     if n == 4294967295 {
-        return refuse(11);
+        return refuse(Refusal::Spent as u32);
     }
     station_state::begin(s);
     station_answer::say(Answer::Begun(n + 1), 0)
 }
 
+#[tactic(auto, unfolding(crate::specs::Owner::shown_b))]
 fn shown(a: usize, s: &[u8]) -> bool
     requires { (length s.now ≡ state_length) × (a < 256) }
     ensures { result ≡ shown_b a s.now }
@@ -161,7 +168,7 @@ fn request(a: usize, s: &[u8], o: &mut [u8])
     message::put_up(
         o,
         0,
-        1,
+        Up::Read as u8,
         station_state::station(s),
         (a / 8) as u8,
         (a % 8) as u8,
@@ -187,6 +194,7 @@ fn read_here(a: usize, s: &mut [u8], o: &mut [u8]) -> Said
 }
 
 // The own last write, then the recorded read, come before the copy.
+#[tactic(auto, unfolding(crate::specs::Owner::read_as_b))]
 fn read_as(a: usize, s: &mut [u8], o: &mut [u8]) -> Said
     requires { (length s.old ≡ state_length) × (station_room ≤ length o.old) × (a < 256) }
     ensures { delivered s.new o.new result ≡ handed o.old (read_as_b a s.old) }
@@ -211,16 +219,16 @@ pub fn read(address: u32, s: &mut [u8], o: &mut [u8], c: &mut [u8]) -> Said
     ensures { outcome s.new o.new c.new result ≡ called s.old o.old c.old (own_read_b address s.old) }
 {
     if !ready(s, o, c) {
-        return refuse(1);
+        return refuse(Refusal::Buffer as u32);
     }
-    let n = check_read(address, s);
-    if n != 0 {
-        return refuse(n);
+    if let Err(why) = check_read(address, s) {
+        return refuse(why.number());
     }
     read_as(address as usize, s, o)
 }
 
 // The objects of page p that may be written at once.
+#[tactic(auto, unfolding(crate::specs::Owner::at_hand_b))]
 fn at_hand(p: usize, s: &[u8]) -> u8
     requires { (length s.now ≡ state_length) × (p < 32) }
     ensures { result ≡ at_hand_b p s.now }
@@ -238,6 +246,7 @@ fn at_hand(p: usize, s: &[u8]) -> u8
 }
 
 // Those of x that must be asked for.
+#[tactic(auto, unfolding(crate::specs::Owner::named_b))]
 fn named(p: usize, x: u8, s: &[u8]) -> u8
     requires { (length s.now ≡ state_length) × (p < 32) }
     ensures { result ≡ named_b p x s.now }
@@ -254,7 +263,7 @@ fn ask(p: usize, x: u8, s: &[u8], o: &mut [u8])
         message::put_up(
             o,
             0,
-            2,
+            Up::Write as u8,
             station_state::station(s),
             p as u8,
             0,
@@ -293,16 +302,16 @@ pub fn write_set(
     ensures { outcome s.new o.new c.new result ≡ called s.old o.old c.old (own_write_set_b page set values.now s.old) }
 {
     if !ready(s, o, c) {
-        return refuse(1);
+        return refuse(Refusal::Buffer as u32);
     }
-    let n = check_write(page, set, s);
-    if n != 0 {
-        return refuse(n);
+    if let Err(why) = check_write(page, set, s) {
+        return refuse(why.number());
     }
     write_as(page as usize, set as u8, values, s, o)
 }
 
 // Values by object, of which one counts.
+#[tactic(auto, unfolding(crate::specs::Owner::only_at))]
 fn only(k: usize, value: u64) -> [u64; 8]
     requires { k < 8 }
     ensures { result ≡ only_at k value }
@@ -320,7 +329,7 @@ pub fn write(address: u32, value: u64, s: &mut [u8], o: &mut [u8], c: &mut [u8])
     let values = only(k, value);
     write_set(
         address / 8,
-        le::wide(station_state::bit8(k)),
+        u32::from(station_state::bit8(k)),
         &values,
         s,
         o,
@@ -333,11 +342,10 @@ pub fn commit(s: &mut [u8], o: &mut [u8], c: &mut [u8]) -> Said
     ensures { outcome s.new o.new c.new result ≡ commit_called s.old o.old c.old }
 {
     if !ready(s, o, c) {
-        return refuse(1);
+        return refuse(Refusal::Buffer as u32);
     }
-    let n = check_open(s);
-    if n != 0 {
-        return refuse(n);
+    if let Err(why) = check_open(s) {
+        return refuse(why.number());
     }
     let k = station_commit::put_commit(s, c);
     station_state::for_commit(s);
@@ -357,7 +365,7 @@ fn tell_abort(s: &[u8], o: &mut [u8]) -> usize
         message::put_up(
             o,
             0,
-            4,
+            Up::Abort as u8,
             station_state::station(s),
             0,
             0,
@@ -375,11 +383,10 @@ pub fn abort(s: &mut [u8], o: &mut [u8], c: &mut [u8]) -> Said
     ensures { outcome s.new o.new c.new result ≡ called s.old o.old c.old (own_abort_b s.old) }
 {
     if !ready(s, o, c) {
-        return refuse(1);
+        return refuse(Refusal::Buffer as u32);
     }
-    let n = check_open(s);
-    if n != 0 {
-        return refuse(n);
+    if let Err(why) = check_open(s) {
+        return refuse(why.number());
     }
     let i = station_state::station(s);
     let k = tell_abort(s, o);
@@ -393,13 +400,13 @@ pub fn purge(page: u32, s: &mut [u8], o: &mut [u8], c: &mut [u8]) -> Said
     ensures { outcome s.new o.new c.new result ≡ called s.old o.old c.old (own_purge_b page s.old) }
 {
     if !ready(s, o, c) {
-        return refuse(1);
+        return refuse(Refusal::Buffer as u32);
     }
-    let n = check_purge(page, s);
-    if n != 0 {
-        return refuse(n);
+    if let Err(why) = check_purge(page, s) {
+        return refuse(why.number());
     }
-    message::put_up(o, 0, 5, station_state::station(s), page as u8, 0, 0, 0, 0);
+    let i = station_state::station(s);
+    message::put_up(o, 0, Up::Purge as u8, i, page as u8, 0, 0, 0, 0);
     station_pages::drop_pages(s, station_state::bit32(page as usize));
     station_answer::say(Answer::Purged, 1)
 }

@@ -24,6 +24,7 @@ fn bit_if(yes: bool, p: usize) -> u32
     0
 }
 
+#[tactic(auto, unfolding(crate::specs::Pages::used_page_b))]
 pub fn used_page(s: &[u8], p: usize) -> bool
     requires { (length s.now ≡ state_length) × (p < 32) }
     ensures { result ≡ used_page_b s.now p }
@@ -31,6 +32,7 @@ pub fn used_page(s: &[u8], p: usize) -> bool
     (station_state::read_set(s, p) | station_state::written_set(s, p)) != 0
 }
 
+#[tactic(auto, unfolding(crate::specs::Pages::wrote_page_b))]
 fn wrote_page(s: &[u8], p: usize) -> bool
     requires { (length s.now ≡ state_length) × (p < 32) }
     ensures { result ≡ wrote_page_b s.now p }
@@ -38,33 +40,33 @@ fn wrote_page(s: &[u8], p: usize) -> bool
     station_state::written_set(s, p) != 0
 }
 
-// The pages on which the transaction has read or written.
+// The pages on which the transaction has read or written, and below those on which it has written. They stay two: one loop with the test
+// as a closure would have to say in its contract, for every page, what the closure answers, which is longer than the loop.
+#[tactic(auto, unfolding(cells::specs::Loops::mask_to, crate::specs::Pages::used_pages_b))]
 pub fn used_pages(s: &[u8]) -> u32
     requires { length s.now ≡ state_length }
     ensures { result ≡ used_pages_b s.now }
 {
     let mut d: u32 = 0;
-    let mut p = 0;
-    while p < 32 {
+    for p in 0..32 {
         d |= bit_if(used_page(s, p), p);
-        p += 1;
     }
     d
 }
 
+#[tactic(auto, unfolding(cells::specs::Loops::mask_to, crate::specs::Pages::written_pages_b))]
 pub fn written_pages(s: &[u8]) -> u32
     requires { length s.now ≡ state_length }
     ensures { result ≡ written_pages_b s.now }
 {
     let mut d: u32 = 0;
-    let mut p = 0;
-    while p < 32 {
+    for p in 0..32 {
         d |= bit_if(wrote_page(s, p), p);
-        p += 1;
     }
     d
 }
 
+#[tactic(auto, unfolding(crate::specs::Pages::uses_b))]
 fn uses(sets: &[u8], s: &[u8], p: usize) -> bool
     requires { (length s.now ≡ state_length) × (set_row ≤ length sets.now) × (p < 32) }
     ensures { result ≡ uses_b sets.now s.now p }
@@ -73,19 +75,19 @@ fn uses(sets: &[u8], s: &[u8], p: usize) -> bool
 }
 
 // Whether the transaction has read or written an object of these sets.
+#[tactic(auto, unfolding(cells::specs::Loops::any_to, crate::specs::Pages::in_use_b))]
 pub fn in_use(sets: &[u8], s: &[u8]) -> bool
     requires { (length s.now ≡ state_length) × (set_row ≤ length sets.now) }
     ensures { result ≡ in_use_b sets.now s.now }
 {
     let mut r = false;
-    let mut p = 0;
-    while p < 32 {
+    for p in 0..32 {
         r |= uses(sets, s, p);
-        p += 1;
     }
     r
 }
 
+#[tactic(auto, unfolding(crate::specs::Pages::drops_b))]
 fn drops(sets: &[u8], s: &[u8], p: usize) -> bool
     requires { (length s.now ≡ state_length) × (set_row ≤ length sets.now) × (p < 32) }
     ensures { result ≡ drops_b sets.now s.now p }
@@ -98,6 +100,7 @@ fn drops(sets: &[u8], s: &[u8], p: usize) -> bool
 }
 
 // Eight pages; where the sets name nothing none is looked at.
+#[tactic(auto, unfolding(crate::specs::Groups::mask_from))]
 fn dropped_in(sets: &[u8], s: &[u8], g: usize) -> u32
     requires { (length s.now ≡ state_length) × (set_row ≤ length sets.now) × (g < 4) }
     ensures { result ≡ mask_from (drops_b sets.now s.now) (g * 8) 8 }
@@ -106,52 +109,48 @@ fn dropped_in(sets: &[u8], s: &[u8], g: usize) -> u32
         return 0;
     }
     let mut d: u32 = 0;
-    let mut p = 0;
-    while p < 8 {
+    for p in 0..8 {
         d |= bit_if(drops(sets, s, g * GROUP + p), g * GROUP + p);
-        p += 1;
     }
     d
 }
 
 // The pages that a callback of these sets drops.
+#[tactic(auto, unfolding(cells::specs::Loops::mask_to, crate::specs::Pages::dropped_b))]
 pub fn dropped(sets: &[u8], s: &[u8]) -> u32
     requires { (length s.now ≡ state_length) × (set_row ≤ length sets.now) }
     ensures { result ≡ dropped_b sets.now s.now }
 {
     let mut d: u32 = 0;
-    let mut g = 0;
-    while g < 4 {
+    for g in 0..4 {
         d |= dropped_in(sets, s, g);
-        g += 1;
     }
     d
 }
 
 // The eight values of a page become 0.
+#[tactic(auto, unfolding(crate::specs::Pages::blank_to))]
 fn blank(s: &mut [u8], p: usize)
     requires { (length s.old ≡ state_length) × (p < 32) }
     ensures { s.new ≡ blank_to s.old p 8 }
 {
-    let mut o = 0;
-    while o < 8 {
+    for o in 0..8 {
         le::put_u64(s, COPY + (p * OBJECTS + o) * VALUE_WIDTH, 0);
-        o += 1;
     }
 }
 
 // .. and its eight versions.
+#[tactic(auto, unfolding(crate::specs::Pages::unversion_to))]
 fn unversion(s: &mut [u8], p: usize)
     requires { (length s.old ≡ state_length) × (p < 32) }
     ensures { s.new ≡ unversion_to s.old p 8 }
 {
-    let mut o = 0;
-    while o < 8 {
+    for o in 0..8 {
         le::put_u32(s, VERSIONS + (p * OBJECTS + o) * NUMBER_WIDTH, 0);
-        o += 1;
     }
 }
 
+#[tactic(auto, unfolding(crate::specs::Pages::drop_page_b))]
 fn drop_page(s: &mut [u8], p: usize)
     requires { (length s.old ≡ state_length) × (p < 32) }
     ensures { s.new ≡ drop_page_b s.old p }
@@ -166,15 +165,14 @@ pub fn drop_pages(s: &mut [u8], d: u32)
     requires { length s.old ≡ state_length }
     ensures { s.new ≡ drop_pages_b d s.old }
 {
-    let mut x = d;
-    while x != 0 {
-        drop_page(s, station_state::lowest32(x));
-        x &= x - 1;
+    for p in station_state::members(u64::from(d)) {
+        drop_page(s, p);
     }
     let y = station_state::cached(s);
     le::put_u32(s, CACHED, y & !d);
 }
 
+#[tactic(auto, unfolding(crate::specs::Pages::mark_one_b))]
 fn mark_one(s: &mut [u8], sets: &[u8], p: usize)
     requires { (length s.old ≡ state_length) × (set_row ≤ length sets.now) × (p < 32) }
     ensures { s.new ≡ mark_one_b sets.now s.old p }
@@ -187,6 +185,7 @@ fn mark_one(s: &mut [u8], sets: &[u8], p: usize)
 }
 
 // Eight pages; where the sets name nothing none is looked at.
+#[tactic(auto, unfolding(station_state::specs::Runs::run))]
 fn mark_group(s: &mut [u8], sets: &[u8], g: usize)
     requires { (length s.old ≡ state_length) × (set_row ≤ length sets.now) × (g < 4) }
     ensures { s.new ≡ run (mark_one_b sets.now) s.old (g * 8) 8 }
@@ -194,26 +193,24 @@ fn mark_group(s: &mut [u8], sets: &[u8], g: usize)
     if le::get_u64(sets, g * GROUP) == 0 {
         return;
     }
-    let mut p = 0;
-    while p < 8 {
+    for p in 0..8 {
         mark_one(s, sets, g * GROUP + p);
-        p += 1;
     }
 }
 
 // Marks the objects of these sets unavailable on the cached pages.
+#[tactic(auto, unfolding(station_state::specs::Runs::run, crate::specs::Pages::mark_b))]
 pub fn mark(s: &mut [u8], sets: &[u8])
     requires { (length s.old ≡ state_length) × (set_row ≤ length sets.now) }
     ensures { s.new ≡ mark_b sets.now s.old }
 {
-    let mut g = 0;
-    while g < 4 {
+    for g in 0..4 {
         mark_group(s, sets, g);
-        g += 1;
     }
 }
 
 // The value of object o of page p when message m brings the page: the own one, if the transaction wrote it.
+#[tactic(auto, unfolding(crate::specs::Pages::arrives_b))]
 fn arrives(m: &[u8], s: &[u8], p: usize, o: usize) -> u64
     requires { (length s.now ≡ state_length) × (message_length ≤ length m.now) × (p < 32) × (o < 8) }
     ensures { result ≡ arrives_b m.now s.now p o }
@@ -224,31 +221,30 @@ fn arrives(m: &[u8], s: &[u8], p: usize, o: usize) -> u64
     le::get_u64(m, message::VALUES + o * record::VALUE)
 }
 
+#[tactic(auto, unfolding(crate::specs::Pages::arrive_to))]
 fn arrive_values(s: &mut [u8], m: &[u8], p: usize)
     requires { (length s.old ≡ state_length) × (message_length ≤ length m.now) × (p < 32) }
     ensures { s.new ≡ arrive_to m.now s.old p 8 }
 {
-    let mut o = 0;
-    while o < 8 {
+    for o in 0..8 {
         let v = arrives(m, s, p, o);
         le::put_u64(s, COPY + (p * OBJECTS + o) * VALUE_WIDTH, v);
-        o += 1;
     }
 }
 
+#[tactic(auto, unfolding(crate::specs::Pages::arrive_versions_to))]
 fn arrive_versions(s: &mut [u8], m: &[u8], p: usize)
     requires { (length s.old ≡ state_length) × (message_length ≤ length m.now) × (p < 32) }
     ensures { s.new ≡ arrive_versions_to m.now s.old p 8 }
 {
-    let mut o = 0;
-    while o < 8 {
+    for o in 0..8 {
         let v = le::get_u32(m, message::PAGE_VERSIONS + o * message::VERSION_WIDTH);
         le::put_u32(s, VERSIONS + (p * OBJECTS + o) * NUMBER_WIDTH, v);
-        o += 1;
     }
 }
 
 // Page p arrives with message m: values, versions, unavailable set.
+#[tactic(auto, unfolding(crate::specs::Pages::arrive_b))]
 pub fn arrive(s: &mut [u8], m: &[u8], p: usize)
     requires { (length s.old ≡ state_length) × (message_length ≤ length m.now) × (p < 32) }
     ensures { s.new ≡ arrive_b m.now p s.old }
@@ -260,6 +256,7 @@ pub fn arrive(s: &mut [u8], m: &[u8], p: usize)
 }
 
 // Address a takes version n, if its page is cached.
+#[tactic(auto, unfolding(crate::specs::Versions::version_at_b))]
 fn version_at(s: &mut [u8], n: u32, a: usize)
     requires { (length s.old ≡ state_length) × (a < 256) }
     ensures { s.new ≡ version_at_b n s.old a }
@@ -275,21 +272,18 @@ fn version_group(s: &mut [u8], n: u32, g: usize)
     requires { (length s.old ≡ state_length) × (g < 4) }
     ensures { s.new ≡ run (version_if_b n) s.old (g * 64) 64 }
 {
-    let mut x = le::get_u64(s, WRITTEN_SET + g * GROUP);
-    while x != 0 {
-        version_at(s, n, g * 64 + station_state::lowest64(x));
-        x &= x - 1;
+    for k in station_state::members(le::get_u64(s, WRITTEN_SET + g * GROUP)) {
+        version_at(s, n, g * 64 + k);
     }
 }
 
 // Written objects of cached pages take version n.
+#[tactic(auto, unfolding(station_state::specs::Runs::run, crate::specs::Pages::versions_b))]
 pub fn versions(s: &mut [u8], n: u32)
     requires { length s.old ≡ state_length }
     ensures { s.new ≡ versions_b n s.old }
 {
-    let mut g = 0;
-    while g < 4 {
+    for g in 0..4 {
         version_group(s, n, g);
-        g += 1;
     }
 }

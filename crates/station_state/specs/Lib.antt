@@ -1,5 +1,6 @@
 -- The bytes of a station's state: where each field stands, number 1, a fresh state, and the small changes.
 pub mod Layout
+pub mod Taken
 pub mod Valid
 pub mod Changes
 pub mod Stores

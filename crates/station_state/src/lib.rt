@@ -1,14 +1,20 @@
 #![tactic(auto)]
 // The bytes of a station's state: number 1, a fresh state, and the changes that touch one place or one set.
 // Where each field stands is said here for all code, in specs/Layout.antt for the definitions and in docs/STATE.md for readers.
-ghost use Rattle.std.specs.Prelude.{◌≡◌, ◌≢◌, ◌+◌, ◌^◌, ◌≤◌, ◌<◌, length, replicate};
+ghost use Rattle.std.specs.Prelude.{◌≡◌, ◌≢◌, ◌+◌, ◌^◌, ◌≤◌, ◌<◌, length, not, eqb};
 ghost use Rattle.std.specs.Int.Count.{ones, count_trailing_zeros};
+ghost use Rattle.std.specs.Iterator.{at_most};
 ghost use Rattle.le.specs.Le.{u64_at};
 ghost use Rattle.station_state.specs.Layout.{page_set_width, set_row, state_length, copy_of, kept_of, read_set, written_set, locks, station as layout_station, kind as layout_kind, locking_b, keeps_b, opened, wait, address, waiting_set, has_bit, member, passing_whole, kept_whole_b, count_in, written_with, none_in, requested_b, number, cached, whole};
 ghost use Rattle.station_state.specs.Valid.{fields_ok, own_kept, first_ok, set_ok, out_ok, few_in, few_written, limited_ok, works_ok, lockless_ok, holds_ok, valid, freshened, fresh_of, rests_ok};
 ghost use Rattle.station_state.specs.Changes.{add_to, page_on, page_off, clear_to, copy_to, begin_b, record_read_b, used_b, first_use_b, write_local_b, write_object_b, write_all_b, idle_b, for_read_b, wait_object_b, wait_all_b, for_write_b, waiting_values, for_commit_b, lock_waiting_b, loosen_b, keep_b, unkeep_b, unwhole_b, closed_b};
 ghost use Rattle.station_state.specs.Sets.{joined, over};
 ghost use Rattle.station_state.specs.Few.{rest};
+ghost use Rattle.station_state.specs.Taken.{takes_lowest};
+ghost use Rattle.refusals.specs.Refusals.{code};
+
+use kinds::Want;
+use refusals::Refusal;
 
 // Widths: of a value, of a transaction's number or a version, of a page set. An object set has one byte.
 pub const VALUE_WIDTH: usize = 8;
@@ -169,7 +175,7 @@ pub fn keeps(s: &[u8]) -> bool
     kinds::keeps(s[KIND])
 }
 
-// 1 while a transaction is open.
+// 1 while a transaction is open, 0 else; in a lent state that is not valid any byte.
 pub fn opened(s: &[u8]) -> u8
     requires { length s.now ≡ state_length }
     ensures { result ≡ opened s.now }
@@ -177,7 +183,15 @@ pub fn opened(s: &[u8]) -> u8
     s[OPEN]
 }
 
-// What is out: 0 nothing, 1 a read, 2 a write, 3 a commit.
+// Whether a transaction is open.
+pub fn is_open(s: &[u8]) -> bool
+    requires { length s.now ≡ state_length }
+    ensures { result ≡ not (eqb (opened s.now) 0) }
+{
+    opened(s) != 0
+}
+
+// What is out: the byte of a `Want`, and in a lent state that is not valid perhaps of none.
 pub fn wait(s: &[u8]) -> u8
     requires { length s.now ≡ state_length }
     ensures { result ≡ wait s.now }
@@ -201,6 +215,8 @@ pub fn waiting_set(s: &[u8]) -> u8
     s[WAITING_SET]
 }
 
+// Bits and the lowest member, once for each width that sets have. Each is one call of the width's own method or one shift: a trait over the
+// widths would have the same line in an impl for each of them, with the width as a ghost member beside it.
 pub fn bit8(k: usize) -> u8
     requires { k < 8 }
     ensures { result ≡ 2 ^ k }
@@ -215,6 +231,7 @@ pub fn bit32(k: usize) -> u32
     1u32 << k
 }
 
+#[tactic(auto, unfolding(crate::specs::Layout::has_bit))]
 pub fn has_bit8(x: u8, k: usize) -> bool
     requires { k < 8 }
     ensures { result ≡ has_bit x k }
@@ -222,6 +239,7 @@ pub fn has_bit8(x: u8, k: usize) -> bool
     x & bit8(k) != 0
 }
 
+#[tactic(auto, unfolding(crate::specs::Layout::has_bit))]
 pub fn has_bit32(x: u32, k: usize) -> bool
     requires { k < 32 }
     ensures { result ≡ has_bit x k }
@@ -251,6 +269,35 @@ pub fn lowest64(x: u64) -> usize
     u64::trailing_zeros(x) as usize
 }
 
+// The members of a set, the lowest first.
+#[derive(Drop)]
+pub struct EachMember {
+    left: u64,
+}
+
+pub fn members(x: u64) -> EachMember
+    ensures { result.left ≡ x }
+{
+    EachMember { left: x }
+}
+
+impl Iterator for EachMember {
+    type Item = usize;
+
+    ghost next_gives = { takes_lowest (λ m. m.left) };
+
+    ghost remaining = { λ m. at_most m.left };
+
+    fn next(&mut self) -> Option<usize> {
+        if self.left == 0 {
+            return None;
+        }
+        let k = lowest64(self.left);
+        self.left &= self.left - 1;
+        Some(k)
+    }
+}
+
 // A set without its lowest member, if it has one.
 fn rest(x: u64) -> u64
     ensures { result ≡ rest x }
@@ -262,6 +309,7 @@ fn rest(x: u64) -> u64
 }
 
 // Whether the object sets from `at` have the address a.
+#[tactic(auto, unfolding(crate::specs::Layout::member))]
 pub fn member(s: &[u8], at: usize, a: usize) -> bool
     requires { (at + set_row ≤ length s.now) × (a < 256) }
     ensures { result ≡ member s.now at a }
@@ -271,20 +319,20 @@ pub fn member(s: &[u8], at: usize, a: usize) -> bool
 
 // The n bytes from `at`, laid over each other: 0 where each of them is. No test leaves the loop early, so that it compiles to vector
 // code; a test of words would be taken apart into bytes again.
+#[tactic(auto, unfolding(crate::specs::Sets::over))]
 pub fn over(s: &[u8], at: usize, n: usize) -> u8
     requires { at + n ≤ length s.now }
     ensures { result ≡ over s.now at n }
 {
     let mut x: u8 = 0;
-    let mut k = 0;
-    while k < n {
+    for k in 0..n {
         x |= s[at + k];
-        k += 1;
     }
     x
 }
 
 // The object sets from `at`, eight at a time, in one word: 0 where they have nothing.
+#[tactic(auto, unfolding(crate::specs::Sets::joined))]
 fn joined(s: &[u8], at: usize) -> u64
     requires { at + set_row ≤ length s.now }
     ensures { result ≡ joined s.now at }
@@ -317,6 +365,7 @@ pub fn count_in(s: &[u8], at: usize) -> u32
 }
 
 // How many addresses are written, with the objects x of page p.
+#[tactic(auto, unfolding(crate::specs::Layout::written_with))]
 pub fn written_with(s: &[u8], p: usize, x: u8) -> u32
     requires { (length s.now ≡ state_length) × (p < 32) }
     ensures { result ≡ written_with s.now p x }
@@ -326,6 +375,7 @@ pub fn written_with(s: &[u8], p: usize, x: u8) -> u32
 }
 
 // Whether page p is under a whole lock that outlives its transaction.
+#[tactic(auto, unfolding(crate::specs::Layout::kept_whole_b))]
 pub fn kept_whole(s: &[u8], p: usize) -> bool
     requires { (length s.now ≡ state_length) × (p < 32) }
     ensures { result ≡ kept_whole_b s.now p }
@@ -338,21 +388,24 @@ pub fn requested(s: &[u8], p: usize) -> bool
     requires { length s.now ≡ state_length }
     ensures { result ≡ requested_b s.now p }
 {
-    ((wait(s) == 1) | (wait(s) == 2)) & (p == (address(s) / 8) as usize)
+    ((wait(s) == Want::Read as u8) | (wait(s) == Want::Write as u8))
+        & (p == (address(s) / 8) as usize)
 }
 
 // Whether the fields other than the station's number are in range.
+#[tactic(auto, unfolding(crate::specs::Valid::fields_ok))]
 pub fn fields_ok(s: &[u8]) -> bool
     requires { length s.now ≡ state_length }
     ensures { result ≡ fields_ok s.now }
 {
     (kind(s) <= kinds::MOST)
         & (opened(s) <= 1)
-        & (wait(s) <= 3)
-        & ((opened(s) == 0) | (number(s) != 0))
+        & (wait(s) <= Want::Commit as u8)
+        & (!is_open(s) | (number(s) != 0))
 }
 
 // Whether a callback from the station itself is kept.
+#[tactic(auto, unfolding(crate::specs::Valid::own_kept))]
 pub fn own_kept(s: &[u8]) -> bool
     requires { (length s.now ≡ state_length) × (layout_station s.now ≤ 7) }
     ensures { result ≡ own_kept s.now }
@@ -362,6 +415,7 @@ pub fn own_kept(s: &[u8]) -> bool
 }
 
 // Whether the object of the read that is out was neither read nor written.
+#[tactic(auto, unfolding(crate::specs::Valid::first_ok))]
 fn first_ok(s: &[u8]) -> bool
     requires { length s.now ≡ state_length }
     ensures { result ≡ first_ok s.now }
@@ -371,6 +425,7 @@ fn first_ok(s: &[u8]) -> bool
 }
 
 // Whether the write that is out has a page, and objects there.
+#[tactic(auto, unfolding(crate::specs::Valid::set_ok))]
 fn set_ok(s: &[u8]) -> bool
     requires { length s.now ≡ state_length }
     ensures { result ≡ set_ok s.now }
@@ -379,14 +434,15 @@ fn set_ok(s: &[u8]) -> bool
 }
 
 // Whether what is out can be.
+#[tactic(auto, unfolding(crate::specs::Valid::out_ok))]
 fn out_ok(s: &[u8]) -> bool
     requires { length s.now ≡ state_length }
     ensures { result ≡ out_ok s.now }
 {
-    if wait(s) == 1 {
+    if wait(s) == Want::Read as u8 {
         return first_ok(s);
     }
-    if wait(s) == 2 {
+    if wait(s) == Want::Write as u8 {
         return set_ok(s);
     }
     true
@@ -405,11 +461,12 @@ fn few_in(s: &[u8], at: usize, out: bool) -> bool
 }
 
 // Whether what is written is within the limit, with what the write that is out will write.
+#[tactic(auto, unfolding(crate::specs::Valid::few_written))]
 fn few_written(s: &[u8]) -> bool
     requires { length s.now ≡ state_length }
     ensures { result ≡ few_written s.now }
 {
-    if wait(s) == 2 {
+    if wait(s) == Want::Write as u8 {
         let p = (address(s) / 8) as usize;
         return written_with(s, p, waiting_set(s)) <= limits::LIMIT;
     }
@@ -426,7 +483,7 @@ fn limited_ok(s: &[u8]) -> bool
     if rest(rest(rest(x))) == 0 {
         return true;
     }
-    few_in(s, READ_SET, wait(s) == 1) & few_written(s)
+    few_in(s, READ_SET, wait(s) == Want::Read as u8) & few_written(s)
 }
 
 // Of an open transaction.
@@ -438,6 +495,7 @@ fn works_ok(s: &[u8]) -> bool
 }
 
 // The whole locks that go with their transaction.
+#[tactic(auto, unfolding(crate::specs::Layout::passing_whole))]
 fn passing_whole(s: &[u8]) -> u32
     requires { length s.now ≡ state_length }
     ensures { result ≡ passing_whole s.now }
@@ -480,7 +538,7 @@ pub fn rests(s: &[u8]) -> bool
     }
     let sets = joined(s, READ_SET)
         | joined(s, WRITTEN_SET)
-        | le::long(passing_whole(s))
+        | u64::from(passing_whole(s))
         | joined(s, LOCKS)
         | joined(s, KEPT);
     (station(s) <= 7) & (sets == 0)
@@ -496,7 +554,7 @@ pub fn valid(s: &[u8]) -> bool
     if station(s) > 7 {
         return false;
     }
-    if opened(s) == 0 {
+    if !is_open(s) {
         return rests(s);
     }
     if !(fields_ok(s) & !own_kept(s)) {
@@ -505,37 +563,25 @@ pub fn valid(s: &[u8]) -> bool
     works_ok(s) & holds_ok(s)
 }
 
-fn zero(s: &mut [u8])
-    ensures { s.new ≡ replicate (length s.old) 0 }
-{
-    let mut i = 0;
-    while i < s.len() {
-        s[i] = 0;
-        i += 1;
-    }
-}
-
-// Makes a station's first state: 1 where the length is wrong, then 4 where station or kind is out of range, else 0.
-// A refusal changes nothing.
-pub fn fresh(station: u32, kind: u32, s: &mut [u8]) -> u32
-    ensures { freshened s.new result ≡ fresh_of station kind s.old }
+// Makes a station's first state, unless the length is wrong, or else station or kind is out of range. A refusal changes nothing.
+#[tactic(auto, unfolding(crate::specs::Valid::fresh_of))]
+pub fn fresh(station: u32, kind: u32, s: &mut [u8]) -> Result<(), Refusal>
+    ensures { freshened s.new (code result) ≡ fresh_of station kind s.old }
 {
     if s.len() != LENGTH {
-        return 1;
+        return Err(Refusal::Buffer);
     }
-    if station > 7 {
-        return 4;
+    if (station > 7) | (kind > MOST_KIND) {
+        return Err(Refusal::Range);
     }
-    if kind > MOST_KIND {
-        return 4;
-    }
-    zero(s);
+    s.fill(0);
     le::put_u8(s, STATION, station as u8);
     le::put_u8(s, KIND, kind as u8);
-    0
+    Ok(())
 }
 
 // The address a joins the object sets from `at`.
+#[tactic(auto, unfolding(crate::specs::Changes::add_to))]
 pub fn add_to(s: &mut [u8], at: usize, a: usize)
     requires { (at + set_row ≤ length s.old) × (a < 256) }
     ensures { s.new ≡ add_to s.old at a }
@@ -545,6 +591,7 @@ pub fn add_to(s: &mut [u8], at: usize, a: usize)
 }
 
 // Page p joins the page set at `at`.
+#[tactic(auto, unfolding(crate::specs::Changes::page_on))]
 pub fn page_on(s: &mut [u8], at: usize, p: usize)
     requires { (at + page_set_width ≤ length s.old) × (p < 32) }
     ensures { s.new ≡ page_on s.old at p }
@@ -554,6 +601,7 @@ pub fn page_on(s: &mut [u8], at: usize, p: usize)
 }
 
 // Page p leaves the page set at `at`.
+#[tactic(auto, unfolding(crate::specs::Changes::page_off))]
 pub fn page_off(s: &mut [u8], at: usize, p: usize)
     requires { (at + page_set_width ≤ length s.old) × (p < 32) }
     ensures { s.new ≡ page_off s.old at p }
@@ -567,11 +615,7 @@ pub fn clear(s: &mut [u8], at: usize)
     requires { at + set_row ≤ length s.old }
     ensures { s.new ≡ clear_to s.old at set_row }
 {
-    let mut i = 0;
-    while i < SET_ROW {
-        s[at + i] = 0;
-        i += 1;
-    }
+    s[at..at + SET_ROW].fill(0);
 }
 
 // The object sets from `at` are those of `sets`.
@@ -579,14 +623,11 @@ pub fn copy_sets(s: &mut [u8], at: usize, sets: &[u8])
     requires { (at + set_row ≤ length s.old) × (set_row ≤ length sets.now) }
     ensures { s.new ≡ copy_to s.old at sets.now set_row }
 {
-    let mut i = 0;
-    while i < SET_ROW {
-        s[at + i] = sets[i];
-        i += 1;
-    }
+    s[at..at + SET_ROW].copy_from_slice(&sets[..SET_ROW]);
 }
 
 // The next transaction is open.
+#[tactic(auto, unfolding(crate::specs::Changes::begin_b))]
 pub fn begin(s: &mut [u8])
     requires { (length s.old ≡ state_length) × (number s.old < 4294967295) }
     ensures { s.new ≡ begin_b s.old }
@@ -609,6 +650,7 @@ pub fn record_read(s: &mut [u8], a: usize)
 }
 
 // Whether the transaction has read or written a.
+#[tactic(auto, unfolding(crate::specs::Changes::used_b))]
 fn used(s: &[u8], a: usize) -> bool
     requires { (length s.now ≡ state_length) × (a < 256) }
     ensures { result ≡ used_b s.now a }
@@ -617,6 +659,7 @@ fn used(s: &[u8], a: usize) -> bool
 }
 
 // Keeps the version of a's copy, if the transaction has not used a yet.
+#[tactic(auto, unfolding(crate::specs::Changes::first_use_b))]
 fn first_use(s: &mut [u8], a: usize)
     requires { (length s.old ≡ state_length) × (a < 256) }
     ensures { s.new ≡ first_use_b a s.old }
@@ -655,10 +698,8 @@ pub fn write_all(s: &mut [u8], p: usize, x: u8, values: &[u64; 8])
     requires { (length s.old ≡ state_length) × (p < 32) }
     ensures { s.new ≡ write_all_b p x values.now s.old }
 {
-    let mut o = 0;
-    while o < OBJECTS {
+    for o in 0..OBJECTS {
         write_object(s, p, x, o, values[o]);
-        o += 1;
     }
 }
 
@@ -667,7 +708,7 @@ pub fn idle(s: &mut [u8])
     requires { length s.old ≡ state_length }
     ensures { s.new ≡ idle_b s.old }
 {
-    le::put_u8(s, WAIT, 0);
+    le::put_u8(s, WAIT, Want::Nothing as u8);
 }
 
 // A read of a is out.
@@ -675,11 +716,12 @@ pub fn for_read(s: &mut [u8], a: u8)
     requires { length s.old ≡ state_length }
     ensures { s.new ≡ for_read_b a s.old }
 {
-    le::put_u8(s, WAIT, 1);
+    le::put_u8(s, WAIT, Want::Read as u8);
     le::put_u8(s, ADDRESS, a);
 }
 
 // Of the objects of x, the value of o is kept.
+#[tactic(auto, unfolding(crate::specs::Changes::wait_object_b))]
 fn wait_object(s: &mut [u8], x: u8, o: usize, v: u64)
     requires { (length s.old ≡ state_length) × (o < 8) }
     ensures { s.new ≡ wait_object_b x o v s.old }
@@ -691,14 +733,13 @@ fn wait_object(s: &mut [u8], x: u8, o: usize, v: u64)
 }
 
 // The values of the objects of x are kept.
+#[tactic(auto, unfolding(crate::specs::Changes::waiting_to, crate::specs::Changes::wait_all_b))]
 fn wait_all(s: &mut [u8], x: u8, values: &[u64; 8])
     requires { length s.old ≡ state_length }
     ensures { s.new ≡ wait_all_b x values.now s.old }
 {
-    let mut o = 0;
-    while o < OBJECTS {
+    for o in 0..OBJECTS {
         wait_object(s, x, o, values[o]);
-        o += 1;
     }
 }
 
@@ -707,22 +748,21 @@ pub fn for_write(s: &mut [u8], p: usize, x: u8, values: &[u64; 8])
     requires { (length s.old ≡ state_length) × (p < 32) }
     ensures { s.new ≡ for_write_b p x values.now s.old }
 {
-    le::put_u8(s, WAIT, 2);
+    le::put_u8(s, WAIT, Want::Write as u8);
     le::put_u8(s, ADDRESS, (p * OBJECTS) as u8);
     le::put_u8(s, WAITING_SET, x);
     wait_all(s, x, values);
 }
 
 // The values that were kept, by object.
+#[tactic(auto, unfolding(crate::specs::Changes::values_to, crate::specs::Changes::waiting_values))]
 pub fn waiting_values(s: &[u8]) -> [u64; 8]
     requires { length s.now ≡ state_length }
     ensures { result ≡ waiting_values s.now }
 {
     let mut v = [0u64; 8];
-    let mut o = 0;
-    while o < OBJECTS {
+    for o in 0..OBJECTS {
         v[o] = le::get_u64(s, WAITING_VALUES + o * VALUE_WIDTH);
-        o += 1;
     }
     v
 }
@@ -732,10 +772,11 @@ pub fn for_commit(s: &mut [u8])
     requires { length s.old ≡ state_length }
     ensures { s.new ≡ for_commit_b s.old }
 {
-    le::put_u8(s, WAIT, 3);
+    le::put_u8(s, WAIT, Want::Commit as u8);
 }
 
 // The objects that were asked for on page p are locked.
+#[tactic(auto, unfolding(crate::specs::Changes::lock_waiting_b))]
 pub fn lock_waiting(s: &mut [u8], p: usize)
     requires { (length s.old ≡ state_length) × (p < 32) }
     ensures { s.new ≡ lock_waiting_b p s.old }
@@ -745,6 +786,7 @@ pub fn lock_waiting(s: &mut [u8], p: usize)
 }
 
 // The whole lock on page p becomes locks on the objects of x.
+#[tactic(auto, unfolding(crate::specs::Changes::loosen_b))]
 pub fn loosen(s: &mut [u8], p: usize, x: u8)
     requires { (length s.old ≡ state_length) × (p < 32) }
     ensures { s.new ≡ loosen_b p x s.old }
@@ -755,6 +797,7 @@ pub fn loosen(s: &mut [u8], p: usize, x: u8)
 }
 
 // The callback of r's transaction t, which names `sets`, is kept in the place of an older one.
+#[tactic(auto, unfolding(crate::specs::Changes::keep_b))]
 pub fn keep(s: &mut [u8], r: usize, t: u32, sets: &[u8])
     requires { (length s.old ≡ state_length) × (r < 8) × (set_row ≤ length sets.now) }
     ensures { s.new ≡ keep_b r t sets.now s.old }
@@ -764,6 +807,7 @@ pub fn keep(s: &mut [u8], r: usize, t: u32, sets: &[u8])
 }
 
 // No callback of r is kept.
+#[tactic(auto, unfolding(crate::specs::Changes::unkeep_b))]
 pub fn unkeep(s: &mut [u8], r: usize)
     requires { (length s.old ≡ state_length) × (r < 8) }
     ensures { s.new ≡ unkeep_b r s.old }
@@ -772,6 +816,7 @@ pub fn unkeep(s: &mut [u8], r: usize)
 }
 
 // The whole locks go that end with their transaction.
+#[tactic(auto, unfolding(crate::specs::Changes::unwhole_b))]
 fn unwhole(s: &mut [u8])
     requires { length s.old ≡ state_length }
     ensures { s.new ≡ unwhole_b s.old }

@@ -2,18 +2,21 @@
 // What the programs have of the system in common: the words of their command line, what they read, and what they say where that fails.
 //
 // No clause can say what the system gives or takes. What is said here of a read is said of every reader.
-ghost use Rattle.std.specs.Prelude.{◌≡◌, ◌≤◌, length, take, OnOk};
+ghost use Rattle.std.specs.Prelude.{◌≡◌, ◌≤◌, ◌↔◌, length, take, OnOk, IsOk};
 ghost use Rattle.std.specs.Str.{IsUtf8};
 ghost use Rattle.std.specs.Io.{StartsWith};
+ghost use Rattle.std.specs.Process.{exit_status};
 ghost use Rattle.std.specs.Io.KnownBytes.{Consumes};
 ghost use Rattle.text.specs.Text.{decimal64};
 ghost use Rattle.streams.specs.Reading.{Brings};
+ghost use Rattle.streams.specs.Ending.{number_of};
 
 use std::env::FillError;
 use std::fmt::InlineText;
 use std::fs::File;
 use std::io;
 use std::io::{Error, ErrorKind, Read, Stdin};
+use std::process::ExitCode;
 use std::rt::Env;
 
 // Bytes asked of one read: few enough to stay in the processor's cache while they are played.
@@ -42,13 +45,28 @@ pub fn large_buffer() -> [u8; 65536]
     [0; 65536]
 }
 
-// What a read brings: the bytes that the buffer now has, the end, or a failure.
-#[derive(Drop)]
-pub enum More {
-    Bytes(usize),
-    End,
-    Failed(Error),
+// How a program that plays an archive ends. The numbers are its exit statuses.
+#[derive(Clone, Copy, PartialEq, Eq, Debug)]
+pub enum Status {
+    Accepted = 0,
+    Refused = 1,
+    // The arguments are not understood, or what they ask for is not there.
+    Unclear = 2,
+    // Reading or writing failed.
+    Failed = 3,
 }
+
+impl Status {
+    pub fn code(self) -> ExitCode
+        ensures { exit_status result ≡ number_of self }
+    {
+        ExitCode::from(self as u8)
+    }
+}
+
+// The error of what failed where standard error was told why: there is nothing more to say.
+#[derive(Clone, Copy, PartialEq, Eq, Debug)]
+pub struct Told;
 
 // Where a program reads: standard input, or a file that it was told.
 #[derive(Drop)]
@@ -66,21 +84,23 @@ impl Read for Source {
     }
 }
 
-// One read behind the first `len` bytes of the buffer, which stay as they are.
-pub fn read_more<R: Read>(from: &mut R, input: &mut [u8], len: usize) -> More
+// One read behind the first `len` bytes of the buffer, which stay as they are. It answers how many bytes the buffer now has, or none at
+// the input's end.
+pub fn read_more<R: Read>(from: &mut R, input: &mut [u8], len: usize) -> io::Result<Option<usize>>
     requires { len ≤ length input.old }
     ensures kept { take len input.new ≡ take len input.old }
     ensures brought { Brings (R.remaining from.old) (R.remaining from.new) len input.new result }
 {
     let e = len + CHUNK.min(input.len() - len);
     match from.read(&mut input[len..e]) {
-        Ok(0) => More::End,
-        Ok(n) => More::Bytes(len + n),
-        Err(error) => More::Failed(error),
+        Ok(0) => Ok(None),
+        Ok(n) => Ok(Some(len + n)),
+        Err(error) => Err(error),
     }
 }
 
-// Reads until the buffer is full, the input ends or a read fails, and answers how many bytes are there.
+// Reads until the buffer is full, the input ends or a read fails, and answers how many bytes are there. No `for`: a turn goes on by as many
+// bytes as one read brings.
 pub fn read_full<R: Read>(from: &mut R, input: &mut [u8]) -> usize
     ensures bound { result ≤ length input.new }
     ensures bytes { Consumes (R.remaining from.old) (R.remaining from.new) (take result input.new) }
@@ -106,14 +126,12 @@ pub fn open(rt: HostRuntime, name: &[u8]) -> io::Result<File>
     }
 }
 
-// Puts word i of the command line at the start of `word` and answers its length; 0 where there is none, or it is longer than that.
-pub fn argument<E: Env>(rt: &E, i: usize, word: &mut [u8]) -> usize
-    ensures { result ≤ length word.new }
+// Word i of the command line, in the room lent for it; empty where there is none, or it is longer than that.
+pub fn argument<'a, E: Env>(rt: &E, i: usize, room: &'a mut [u8]) -> &'a [u8]
+    ensures { length result.now ≤ length room.old }
 {
-    match rt.arg(i, word) {
-        Ok(n) => n,
-        Err(_) => 0,
-    }
+    let n = rt.arg(i, room).unwrap_or(0);
+    &room[..n]
 }
 
 // How many words the command line has, the program's name among them.
@@ -125,6 +143,13 @@ pub fn argument_count<E: Env>(rt: &E) -> usize {
         }
     }
     usize::MAX
+}
+
+// The first n bytes of a text, all of it where it has fewer.
+pub fn first(text: &[u8], n: usize) -> &[u8]
+    ensures { result.now ≡ take n text.now }
+{
+    if n < text.len() { &text[..n] } else { text }
 }
 
 // A number's digits.
@@ -163,6 +188,19 @@ pub fn fail(rt: HostRuntime, what: &[u8], error: Error) {
     tell(rt, b"\n");
 }
 
+// What a write to standard output came to. Where it failed, standard error is told so, under the name by which the caller knows it.
+pub fn written(rt: HostRuntime, what: &[u8], outcome: io::Result<()>) -> Result<(), Told>
+    ensures { IsOk result ↔ IsOk outcome }
+{
+    match outcome {
+        Ok(()) => Ok(()),
+        Err(error) => {
+            fail(rt, what, error);
+            Err(Told)
+        }
+    }
+}
+
 #[cfg(test)]
 mod tests {
     use super::*;
@@ -181,13 +219,13 @@ mod tests {
         let mut from: &[u8] = b"bytes";
         let mut input = [0u8; 8];
         match read_more(&mut from, &mut input, 2) {
-            More::Bytes(n) => assert_eq!(rt; n, 7),
-            More::End | More::Failed(_) => panic!(rt; "nothing is read"),
+            Ok(Some(n)) => assert_eq!(rt; n, 7),
+            Ok(None) | Err(_) => panic!(rt; "nothing is read"),
         }
         assert_eq!(rt; &input[2..7], b"bytes".as_slice());
         match read_more(&mut from, &mut input, 7) {
-            More::End => {}
-            More::Bytes(_) | More::Failed(_) => panic!(rt; "the end is not told"),
+            Ok(None) => {}
+            Ok(Some(_)) | Err(_) => panic!(rt; "the end is not told"),
         }
     }
 

@@ -5,8 +5,7 @@ use Rattle.std.proofs.lemmas.Bool.{eqb-false}
 use Rattle.lists.specs.Tests.{and_l, and_r}
 use Rattle.wide.specs.Wide.{words}
 use Rattle.signed.specs.Change.{most}
-use Rattle.tariff.specs.declared.Cents.{Cents}
-use Rattle.tariff.specs.declared.Cents.TheVariants as cents
+use Rattle.std.specs.Prelude.{Option, Some, None}
 use Rattle.tariff.specs.Table.{step_length, longest_table, steps_in, upper_at, price_at, rises, lawful, covered_of, done_to, charge_to, nearest, cents_of}
 
 -- what a table that keeps the rules tells
@@ -48,11 +47,11 @@ module _ (t : List ℕ) (n i up to : ℕ) (eu : up ≡ upper_at t i) (et : to �
   unfolding charge_to
   charge_next done more p before product after eb ed em ep eq ea = rw (add-one, ea, eq, em, eb, ed, ep, ← eu, et)
 
-pub cents_beyond : (x : ℕ) → most < nearest x → cents.Beyond ≡ cents_of x
+pub cents_beyond : (x : ℕ) → most < nearest x → None ≡ cents_of x
 unfolding cents_of
 cents_beyond x h = rw (lt-ltb most (nearest x) h)
 
-pub cents_of_lem : (x q : ℕ) → q ≡ nearest x → q ≤ most → cents.Of q ≡ cents_of x
+pub cents_of_lem : (x q : ℕ) → q ≡ nearest x → q ≤ most → Some q ≡ cents_of x
 unfolding cents_of
 cents_of_lem x q e h = rw (sym e, le-ltb most q h)
 
@@ -70,24 +69,24 @@ unfolding words
 nearest_words hi lo = omega arith
 
 -- what a rounding answers is below 2^63
-abbrev amount : Cents → ℕ
-amount (cents.Of n) = n
-amount cents.Beyond = 0
+abbrev amount : Option ℕ → ℕ
+amount (Some n) = n
+amount None = 0
 
 amount_small : (x : ℕ) → amount (cents_of x) ≤ most
 unfolding cents_of
 amount_small x = by_test (ltb most (nearest x)) refl
   where
-    by_test : (b : Bool) → ltb most (nearest x) ≡ b → amount (cond b cents.Beyond (cents.Of (nearest x))) ≤ most
+    by_test : (b : Bool) → ltb most (nearest x) ≡ b → amount (cond b None (Some (nearest x))) ≤ most
     by_test true e = omega arith
     by_test false e = ltb-false most (nearest x) e
 
-pub cents_small : (n x : ℕ) → cents.Of n ≡ cents_of x → n < 2 ^ 63
+pub cents_small : (n x : ℕ) → Some n ≡ cents_of x → n < 2 ^ 63
 cents_small n x e =
-    let h : n ≤ most = subst (λ (k : Cents). amount k ≤ most) (sym e) (amount_small x) in
+    let h : n ≤ most = subst (λ (k : Option ℕ). amount k ≤ most) (sym e) (amount_small x) in
     omega arith
 
 -- what is rounded, by what each call tells
-pub cents_are : (t : List ℕ) (s : ℤ) (m x : ℕ) (r : Cents) → r ≡ cents_of x → x ≡ charge_to t m (steps_in t) → m ≡ nat_abs s
+pub cents_are : (t : List ℕ) (s : ℤ) (m x : ℕ) (r : Option ℕ) → r ≡ cents_of x → x ≡ charge_to t m (steps_in t) → m ≡ nat_abs s
     → r ≡ cents_of (charge_to t (nat_abs s) (steps_in t))
 cents_are t s m x r er ex em = er ∙ ap cents_of (ex ∙ ap (λ (k : ℕ). charge_to t k (steps_in t)) em)

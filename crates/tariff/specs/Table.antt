@@ -1,10 +1,8 @@
 -- A tariff's table (docs/LICENCE.md): steps one behind the other, and what frames cost by them.
-use Rattle.std.specs.Prelude.{ℕ, zero, suc, ◌+◌, ◌*◌, ◌-◌, ◌/◌, ◌%◌, List, Bool, false, ◌&&◌, cond, length, eqb, ltb, ℤ, nat_abs}
+use Rattle.std.specs.Prelude.{ℕ, zero, suc, ◌+◌, ◌*◌, ◌-◌, ◌/◌, ◌%◌, List, Bool, false, ◌&&◌, cond, length, eqb, ltb, ℤ, nat_abs, Option, Some, None}
 use Rattle.lists.specs.Tests.{all_to}
 use Rattle.le.specs.Le.{u32_at, u64_at}
 use Rattle.signed.specs.Change.{most, with_sign}
-use Rattle.tariff.specs.declared.Cents.{Cents}
-use Rattle.tariff.specs.declared.Cents.TheVariants as cents
 use Rattle.tariff.specs.declared.Fee.{Fee}
 use Rattle.tariff.specs.declared.Fee.TheVariants as fee
 
@@ -60,12 +58,13 @@ charge_to t n (suc i) = charge_to t n i + (covered_of n (upper_at t i) - done_to
 abbrev pub nearest : ℕ → ℕ
 nearest x = (2 * x + 100000) / 200000
 
-unfoldable pub cents_of : ℕ → Cents
-cents_of x = cond (ltb most (nearest x)) cents.Beyond (cents.Of (nearest x))
+-- .. where that is at most 2^63 − 1
+unfoldable pub cents_of : ℕ → Option ℕ
+cents_of x = cond (ltb most (nearest x)) None (Some (nearest x))
 
-abbrev pub signed_fee : ℤ → Cents → Fee
-signed_fee s (cents.Of c) = fee.Owed (with_sign s c)
-signed_fee s cents.Beyond = fee.Beyond
+abbrev pub signed_fee : ℤ → Option ℕ → Fee
+signed_fee s (Some c) = fee.Owed (with_sign s c)
+signed_fee s None = fee.Beyond
 
 -- "A negative sum is charged as the negative of its opposite"
 unfoldable pub fee_of : List ℕ → ℤ → Fee

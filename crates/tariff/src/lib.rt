@@ -16,6 +16,7 @@ pub const STEPS: usize = 16;
 
 pub const LONGEST: usize = STEPS * STEP;
 
+#[tactic(auto, unfolding(crate::specs::Table::upper_at))]
 fn upper(table: &[u8], i: usize) -> u64
     requires { step_length * i + step_length ≤ length table.now }
     ensures { result ≡ upper_at table.now i }
@@ -23,6 +24,7 @@ fn upper(table: &[u8], i: usize) -> u64
     le::get_u64(table, STEP * i)
 }
 
+#[tactic(auto, unfolding(crate::specs::Table::price_at))]
 fn price(table: &[u8], i: usize) -> u32
     requires { step_length * i + step_length ≤ length table.now }
     ensures { result ≡ price_at table.now i }
@@ -31,6 +33,7 @@ fn price(table: &[u8], i: usize) -> u32
 }
 
 // Whether the upper count of a step is below the next one's.
+#[tactic(auto, unfolding(crate::specs::Table::rise_at))]
 fn rise_at(table: &[u8], i: usize) -> bool
     requires { step_length * i + 2 * step_length ≤ length table.now }
     ensures { result ≡ rise_at table.now i }
@@ -44,15 +47,14 @@ fn rise(table: &[u8], k: usize) -> bool
     ensures { result ≡ rises table.now k }
 {
     let mut ok = true;
-    let mut i: usize = 1;
-    while i < k {
+    for i in 1..k {
         ok &= rise_at(table, i - 1);
-        i += 1;
     }
     ok
 }
 
 // Whether a table keeps the rules of a tariff: 1 to 16 steps, whose upper counts rise to 2^63 - 1.
+#[tactic(auto, unfolding(crate::specs::Table::lawful))]
 pub fn keeps_rules(table: &[u8]) -> bool
     ensures { result ≡ lawful table.now }
 {
@@ -70,6 +72,7 @@ pub fn keeps_rules(table: &[u8]) -> bool
 }
 
 // How many of n frames are at or below an upper count.
+#[tactic(auto, unfolding(crate::specs::Table::covered_of))]
 fn covered(n: u64, upper: u64) -> u64
     ensures { result ≡ covered_of n upper }
 {
@@ -90,6 +93,7 @@ fn above(a: u64, b: u64) -> u64
 }
 
 // What n frames cost, in hundred-thousandths of a cent, step by step.
+#[tactic(auto, unfolding(crate::specs::Table::charge_to, wide::specs::Wide::words))]
 fn charge(table: &[u8], n: u64) -> Wide
     requires { length table.now ≤ longest_table }
     ensures { words result.hi result.lo ≡ charge_to table.now n (steps_in table.now) }
@@ -97,43 +101,34 @@ fn charge(table: &[u8], n: u64) -> Wide
     let k = table.len() / STEP;
     let mut sum = Wide { hi: 0, lo: 0 };
     let mut done: u64 = 0;
-    let mut i: usize = 0;
-    while i < k {
+    for i in 0..k {
         let to = covered(n, upper(table, i));
         sum = wide::add(sum, wide::product(above(to, done), price(table, i)));
         done = to;
-        i += 1;
     }
     sum
-}
-
-// Whole cents, or that they are above 2^63 - 1.
-#[derive(Clone, Copy)]
-pub enum Cents {
-    Of(u64),
-    Beyond,
 }
 
 // The high word of the greatest number that is below 2^63 cents: above it nothing fits.
 const HIGH: u64 = 49999;
 
-// Hundred-thousandths of a cent, rounded to cents, a half up.
-fn rounded(x: Wide) -> Cents
+// Hundred-thousandths of a cent, rounded to cents, a half up; none where these are above 2^63 - 1.
+fn rounded(x: Wide) -> Option<u64>
     ensures { result ≡ cents_of (words x.hi x.lo) }
 {
     if HIGH < x.hi {
-        return Cents::Beyond;
+        return None;
     }
     let high = x.hi * 4294967296 + x.lo / 4294967296;
     let low = high % 100000 * 4294967296 + x.lo % 4294967296 + 50000;
     let q = high / 100000 * 4294967296 + low / 100000;
     if 9223372036854775807 < q {
-        return Cents::Beyond;
+        return None;
     }
-    Cents::Of(q)
+    Some(q)
 }
 
-// A fee in cents, or that it is beyond 2^63 - 1 either way.
+// A fee in cents, or that it is beyond 2^63 - 1 either way. No `Option`: theorem `fee_is` of `licence_meaning` speaks of it.
 #[derive(Clone, Copy)]
 pub enum Fee {
     Owed(i64),
@@ -146,9 +141,8 @@ pub fn fee_for(table: &[u8], frames: i64) -> Fee
     ensures { result ≡ fee_of table.now frames }
 {
     let n = signed::magnitude(frames);
-    let c = rounded(charge(table, n));
-    match c {
-        Cents::Beyond => Fee::Beyond,
-        Cents::Of(q) => Fee::Owed(signed::with_sign(frames, q)),
+    match rounded(charge(table, n)) {
+        None => Fee::Beyond,
+        Some(q) => Fee::Owed(signed::with_sign(frames, q)),
     }
 }

@@ -1,25 +1,20 @@
 -- "A line has an upper frame count, a space and a price" (docs/LICENCE.md, "The tariff file").
-use Rattle.std.specs.Prelude.{ℕ, ◌+◌, ◌*◌, ◌-◌, List, [], ◌∷◌, Bool, ◌&&◌, cond, length, eqb, leb}
+use Rattle.std.specs.Prelude.{ℕ, ◌+◌, ◌*◌, ◌-◌, List, [], ◌∷◌, Bool, ◌&&◌, cond, length, eqb, leb, Option, Some, None}
 use Rattle.signed.specs.Change.{most}
-use Rattle.arguments.specs.declared.Commit.{Commit}
-use Rattle.arguments.specs.declared.Commit.TheVariants as commit
 use Rattle.arguments.specs.Modes.{commit_of}
-use Rattle.tariff_file.specs.declared.Count.{Count}
-use Rattle.tariff_file.specs.declared.Count.TheVariants.{Number, Nothing}
-use Rattle.tariff_file.specs.declared.Line.{Line}
-use Rattle.tariff_file.specs.declared.Line.TheVariants.{Step, Wrong}
+use Rattle.tariff_file.specs.declared.Step.{Step}
 
 unfoldable pub is_digit : ℕ → Bool
 is_digit b = leb 48 b && leb b 57
 
 -- the rest of a word behind digits that mean n
-unfoldable pub read_from : ℕ → List ℕ → Count
-read_from n [] = Number n
-read_from n (b ∷ bs) = cond (is_digit b) (cond (leb (n * 10 + (b - 48)) most) (read_from (n * 10 + (b - 48)) bs) Nothing) Nothing
+unfoldable pub read_from : ℕ → List ℕ → Option ℕ
+read_from n [] = Some n
+read_from n (b ∷ bs) = cond (is_digit b) (cond (leb (n * 10 + (b - 48)) most) (read_from (n * 10 + (b - 48)) bs) None) None
 
 -- an upper count is written in digits, and is at most 2^63 − 1
-unfoldable pub count_of : List ℕ → Count
-count_of word = cond (eqb (length word) 0) Nothing (read_from 0 word)
+unfoldable pub count_of : List ℕ → Option ℕ
+count_of word = cond (eqb (length word) 0) None (read_from 0 word)
 
 -- a line up to its first space, and behind it
 unfoldable pub word_of : List ℕ → List ℕ
@@ -31,10 +26,10 @@ rest_of [] = []
 rest_of (b ∷ bs) = cond (eqb b 32) bs (rest_of bs)
 
 -- a price is written as a commit number is, and has as many bits
-abbrev pub step_of : Count → Commit → Line
-step_of Nothing p = Wrong
-step_of (Number u) commit.Nothing = Wrong
-step_of (Number u) (commit.Number p) = Step u p
+abbrev pub step_of : Option ℕ → Option ℕ → Option Step
+step_of None p = None
+step_of (Some u) None = None
+step_of (Some u) (Some p) = Some (record { upper = u; price = p })
 
-unfoldable pub line_of : List ℕ → Line
+unfoldable pub line_of : List ℕ → Option Step
 line_of line = step_of (count_of (word_of line)) (commit_of (rest_of line))

@@ -1,5 +1,5 @@
 -- A word read byte by byte, and a line up to its first space.
-use Rattle.std.specs.Prelude.{ℕ, suc, ◌+◌, ◌*◌, ◌-◌, ◌≤◌, ◌<◌, ◌≡◌, refl, List, [], ◌∷◌, ◌++◌, true, false, length, take, drop, get_or, leb}
+use Rattle.std.specs.Prelude.{ℕ, suc, ◌+◌, ◌*◌, ◌-◌, ◌≤◌, ◌<◌, ◌≡◌, refl, List, [], ◌∷◌, ◌++◌, true, false, length, take, drop, get_or, leb, Option, Some, None}
 use Rattle.std.proofs.Math.Path.{sym}
 use Rattle.std.proofs.Common.{◌∙◌, append_assoc, append-nil, arith}
 use Rattle.std.proofs.Math.Numerals.{add-one}
@@ -8,14 +8,10 @@ use Rattle.std.proofs.Math.Seq.{drop-cons, take-suc}
 use borrow.Author.Tests.{leb-true, le-leb, lt-leb, eq-eqb, ne_eqb}
 use Rattle.lists.specs.Tests.{and_l, and_r}
 use Rattle.signed.specs.Change.{most}
-use Rattle.arguments.specs.declared.Commit.{Commit}
 use Rattle.arguments.specs.Modes.{is_number, commit_of}
-use Rattle.tariff_file.specs.declared.Count.{Count}
-use Rattle.tariff_file.specs.declared.Count.TheVariants.{Number, Nothing}
-use Rattle.tariff_file.specs.declared.Line.TheVariants.{Wrong}
 use Rattle.tariff_file.specs.Line.{is_digit, read_from, count_of, word_of, rest_of, step_of, line_of}
 
-pub nothing_there : (w : List ℕ) → length w ≡ 0 → count_of w ≡ Nothing
+pub nothing_there : (w : List ℕ) → length w ≡ 0 → count_of w ≡ None
 unfolding count_of
 nothing_there w h = rw (eq-eqb (length w) 0 h)
 
@@ -33,11 +29,11 @@ digit b h = record { least = leb-true _ _ (and_l (leb 48 b) (leb b 57) h); great
 
 -- a turn at byte i: it is no digit, the number is too large, or it goes on
 module _ (w : List ℕ) (n i : ℕ) (inside : i < length w) where
-  pub stops_at : is_digit (get_or w i 0) ≡ false → read_from n (drop i w) ≡ Nothing
+  pub stops_at : is_digit (get_or w i 0) ≡ false → read_from n (drop i w) ≡ None
   unfolding read_from
   stops_at h = rw (drop-cons w i 0 inside, h)
 
-  pub too_large : is_digit (get_or w i 0) ≡ true → most < n * 10 + (get_or w i 0 - 48) → read_from n (drop i w) ≡ Nothing
+  pub too_large : is_digit (get_or w i 0) ≡ true → most < n * 10 + (get_or w i 0 - 48) → read_from n (drop i w) ≡ None
   unfolding read_from
   too_large h over = rw (drop-cons w i 0 inside, h, lt-leb _ _ over)
 
@@ -45,7 +41,7 @@ module _ (w : List ℕ) (n i : ℕ) (inside : i < length w) where
   unfolding read_from
   goes_on h le = rw (add-one, drop-cons w i 0 inside, h, le-leb _ _ le)
 
-pub ends : (w : List ℕ) (n i : ℕ) → length w ≤ i → read_from n (drop i w) ≡ Number n
+pub ends : (w : List ℕ) (n i : ℕ) → length w ≤ i → read_from n (drop i w) ≡ Some n
 unfolding read_from
 ends w n i h = rw (drop_of_length-le w h)
 
@@ -85,16 +81,16 @@ module _ (line : List ℕ) (i : ℕ) (a : Ahead line i) where
   no_space_rest h = sym (a.rest ∙ rw (drop_of_length-le line h, drop_of_length-le line {i = i + 1} (omega arith)))
 
 -- nothing behind a space is no price
-no_price : (u : Count) (line : List ℕ) → rest_of line ≡ [] → step_of u (commit_of (rest_of line)) ≡ Wrong
+no_price : (u : Option ℕ) (line : List ℕ) → rest_of line ≡ [] → step_of u (commit_of (rest_of line)) ≡ None
 unfolding commit_of is_number
-no_price (Number u) line e = rw e
-no_price Nothing line e = refl
+no_price (Some u) line e = rw e
+no_price None line e = refl
 
-pub wrong_line : (line : List ℕ) (r : ℕ) → drop (r + 1) line ≡ rest_of line → length line ≤ r → Wrong ≡ line_of line
+pub wrong_line : (line : List ℕ) (r : ℕ) → drop (r + 1) line ≡ rest_of line → length line ≤ r → None ≡ line_of line
 unfolding line_of
 wrong_line line r e h = sym (no_price (count_of (word_of line)) line (sym e ∙ drop_of_length-le line {i = r + 1} (omega arith)))
 
 -- the answer, by what each call tells
-pub said : (line : List ℕ) (w v : List ℕ) (u : Count) (p : Commit) → w ≡ word_of line → v ≡ rest_of line → u ≡ count_of w → p ≡ commit_of v → step_of u p ≡ line_of line
+pub said : (line : List ℕ) (w v : List ℕ) (u : Option ℕ) (p : Option ℕ) → w ≡ word_of line → v ≡ rest_of line → u ≡ count_of w → p ≡ commit_of v → step_of u p ≡ line_of line
 unfolding line_of
 said line w v u p ew ev eu ep = rw (eu, ep, ew, ev)

@@ -1,7 +1,7 @@
 -- Decimal text: how long it is, what number it means, and its digits counted from the last.
 use Rattle.std.specs.Prelude.{ℕ, zero, suc, ◌+◌, ◌*◌, ◌-◌, ◌/◌, ◌%◌, ◌^◌, ◌≤◌, ◌<◌, ◌≡◌, refl, List, [], ◌∷◌, ◌++◌, Bool, true, false, cond, length, ltb}
-use Rattle.std.proofs.Common.{sym, ap, ◌∙◌, pow-suc, div-lt_iff_lt-mul, le-div_iff_mul-le, div-add-mod', add-one, arith, length-append, ltb-true, ltb-false, lt-ltb, le-ltb}
-use Rattle.std.proofs.Math.Nat.{one-le-pow, pow-le-pow_right}
+use Rattle.std.proofs.Common.{sym, ap, ◌∙◌, pow-suc, div-lt_iff_lt-mul, le-div_iff_mul-le, div-add-mod', add-one, arith, length-append, lt-ltb, le-ltb}
+use Rattle.std.proofs.Math.Nat.{one-le-pow}
 use Rattle.text.specs.Text.{decimal_to, decimal64, field64}
 
 pub decimal_short : (k n : ℕ) → length (decimal_to k n) ≤ k
@@ -73,40 +73,14 @@ decimal_same (suc k) zero n h some le = absurd (omega arith)
 decimal_same (suc zero) (suc m) n h some le = rw (lt-ltb n 10 (omega arith))
 decimal_same (suc (suc k)) (suc m) n h some le = rw (decimal_same (suc k) m (n / 10) (one_digit_less (suc k) n h) (omega arith) (omega arith))
 
--- a count of the digits of n, under way: it has `more` digits behind the first, and one more if it reaches `power`
-pub record Counted (n more power : ℕ) : Type 0 where
-  pub few : more < 19
-  pub next : power ≡ 10 ^ suc more
-  pub reached : 0 < more → 10 ^ more ≤ n
-
-pub counted_none : (n : ℕ) → Counted n 0 10
-counted_none n = record { few = omega arith; next = refl; reached = λ h. absurd (omega arith) }
-
--- a number below 10 ^ 19 does not reach it
-nineteen_digits : (k n : ℕ) → 10 ^ k ≤ n → n < 10 ^ 19 → k < 19
-nineteen_digits k n h fits = by_test (ltb k 19) refl
-  where
-    by_test : (b : Bool) → ltb k 19 ≡ b → k < 19
-    by_test true e = ltb-true k 19 e
-    by_test false e = let many : 10 ^ 19 ≤ 10 ^ k = pow-le-pow_right (omega arith) (ltb-false k 19 e) in absurd (omega arith)
-
-pub counted_more : (n more power : ℕ) → Counted n more power → power ≤ n → n < 10 ^ 19 → Counted n (more + 1) (power * 10)
-counted_more n more power c h fits =
-    let reaches : 10 ^ suc more ≤ n = omega arith in
-    rw add-one (record { few = nineteen_digits (suc more) n reaches fits; next = rw (c.next, pow-suc 10 (suc more)); reached = λ _. reaches })
-
--- the next power fits in 64 bits
-pub counted_fits : (n more power : ℕ) → Counted n more power → power ≤ 10 ^ 19
-counted_fits n more power c = rw c.next (pow-le-pow_right (omega arith) c.few)
-
-pub counted : (n more power : ℕ) → Counted n more power → n < power → decimal64 n ≡ last_digits (more + 1) n
+-- a number below 10 has one digit, and one from 10 ^ k on and below the next power has k + 1
+pub one_digit : (n : ℕ) → n < 10 → decimal64 n ≡ last_digits 1 n
 unfolding decimal64
-counted n more power c h = rw add-one (decimal_digits more 20 n (omega arith) c.reached (omega arith))
+one_digit n h = decimal_digits 0 20 n (omega arith) (λ some. absurd (omega arith)) (omega arith)
 
--- those from 10 ^ 19 on have twenty
-pub twenty_digits : (n : ℕ) → 10 ^ 19 ≤ n → n < 2 ^ 64 → decimal64 n ≡ last_digits 20 n
+pub digits_of : (n k : ℕ) → 10 ^ k ≤ n → n < 10 * 10 ^ k → k < 20 → decimal64 n ≡ last_digits (k + 1) n
 unfolding decimal64
-twenty_digits n least h = decimal_digits 19 20 n (omega arith) (λ _. least) (omega arith)
+digits_of n k least h l = rw add-one (decimal_digits k 20 n (rw pow-suc (omega arith)) (λ _. least) l)
 
 pub digits_length : (n k : ℕ) → decimal64 n ≡ last_digits k n → length (decimal64 n) ≡ k
 digits_length n k e = rw (e, length_digits)

@@ -5,21 +5,14 @@ ghost use Rattle.std.proofs.lemmas.List.Edits.{sets};
 ghost use Rattle.text.specs.Text.{decimal64, field64, parted, columns, put, put_of, has_room_lem};
 ghost use Rattle.text.specs.Decimal.{last_digits};
 
-// How many digits a number has: one, and one more for each of 10, 100, .. that it reaches. A division would cost more. The
-// next power behind the last would not fit in 64 bits.
+// How many digits a number has.
 fn digits(n: u64) -> usize
     ensures { (decimal64 n ≡ last_digits result n) × (result ≤ 20) }
 {
-    if 10000000000000000000 <= n {
-        return 20;
+    if n < 10 {
+        return 1;
     }
-    let mut more: usize = 0;
-    let mut power: u64 = 10;
-    while power <= n {
-        more += 1;
-        power *= 10;
-    }
-    more + 1
+    n.ilog10() as usize + 1
 }
 
 // Stores the last k digits of a number from `at` on, the last of them first.
@@ -27,10 +20,8 @@ fn put_digits(out: &mut [u8], at: usize, k: usize, n: u64)
     requires { at + k ≤ length out.old }
     ensures { out.new ≡ sets out.old at (last_digits k n) }
 {
-    let mut i = k;
     let mut rest = n;
-    while 0 < i {
-        i -= 1;
+    for i in (0..k).rev() {
         out[at + i] = (48 + rest % 10) as u8;
         rest /= 10;
     }
@@ -69,6 +60,7 @@ pub fn put_text(out: &mut [u8], at: usize, text: &[u8]) -> usize
 }
 
 // The byte that stands for one of a row of words.
+#[tactic(auto, unfolding(crate::specs::Text::parted))]
 fn parted(sep: u8, b: u8) -> u8
     ensures { result ≡ parted sep b }
 {
@@ -83,15 +75,14 @@ pub fn put_columns(out: &mut [u8], at: usize, text: &[u8], sep: u8) -> usize
     requires { at + length text.now ≤ length out.old }
     ensures { (put out.new result ≡ put_of out.old at (columns sep text.now)) × (result ≡ at + length text.now) }
 {
-    let mut i = 0;
-    while i < text.len() {
+    for i in 0..text.len() {
         out[at + i] = parted(sep, text[i]);
-        i += 1;
     }
     at + text.len()
 }
 
 // Whether a line of up to `longest` bytes has room from `at` on in an output of this length.
+#[tactic(auto, unfolding(crate::specs::Text::has_room_lem))]
 pub fn room(longest: usize, len: usize, at: usize) -> bool
     ensures { result ≡ has_room_lem longest len at }
 {

@@ -11,6 +11,7 @@ ghost use Rattle.totals.specs.Table.{heading, counter_line, at_line, missing_lin
 const MOST: u64 = 18446744073709551615;
 
 // One more, where that fits.
+#[tactic(auto, unfolding(crate::specs::Totals::one_more))]
 fn one_more(n: u64) -> u64
     ensures { result ≡ one_more n }
 {
@@ -25,24 +26,23 @@ fn count_entry(t: &[u8], counts: &mut [u64; 256], i: usize)
     requires { address_from i < length t.now }
     ensures { counts.new ≡ set counts.old (address_at t.now i) (one_more (get_or counts.old (address_at t.now i) 0)) }
 {
-    let a = le::index(le::wide(t[record::HEADER + i]));
+    let a = t[record::HEADER + i] as usize;
     let n = counts[a];
     counts[a] = one_more(n);
 }
 
 // Counts the writes of the record at the start of `part`. Bytes that end inside it change nothing.
+#[tactic(auto, unfolding(crate::specs::Totals::counted, crate::specs::Totals::counted_to))]
 pub fn count(part: &[u8], counts: &mut [u64; 256])
     ensures { counts.new ≡ counted part.now counts.old }
 {
     if part.len() < record::claimed_length(part) {
         return;
     }
-    let n = le::index(le::get_u16(part, record::READS));
-    let m = le::index(le::get_u16(part, record::WRITES));
-    let mut c = 0;
-    while c < m {
+    let n = le::get_u16(part, record::READS) as usize;
+    let m = le::get_u16(part, record::WRITES) as usize;
+    for c in 0..m {
         count_entry(part, counts, n + c);
-        c += 1;
     }
 }
 
@@ -72,7 +72,7 @@ pub fn counter_line(
     if !text::room(report::LINE, out.len(), at) {
         return at;
     }
-    let a = le::long(le::wide(address));
+    let a = u64::from(address);
     let at = text::put_field(out, at, a, sep);
     let at = text::put_field(out, at, a / 8, sep);
     let at = text::put_field(out, at, a % 8, sep);
@@ -87,7 +87,7 @@ pub fn at_line(out: &mut [u8], at: usize, commit: u32) -> usize
         return at;
     }
     let at = text::put_text(out, at, b"at ");
-    let at = text::put_field(out, at, le::long(commit), b':');
+    let at = text::put_field(out, at, u64::from(commit), b':');
     text::put_text(out, at, b" what follows was not looked at\n")
 }
 
@@ -102,7 +102,7 @@ pub fn missing_line(out: &mut [u8], at: usize, commit: u32, last: u32) -> usize
         return at;
     }
     let at = text::put_text(out, at, b"playback: there is no commit ");
-    let at = text::put_field(out, at, le::long(commit), b':');
+    let at = text::put_field(out, at, u64::from(commit), b':');
     let at = text::put_text(out, at, b" the archive ends behind commit ");
-    text::put_field(out, at, le::long(last), b'\n')
+    text::put_field(out, at, u64::from(last), b'\n')
 }

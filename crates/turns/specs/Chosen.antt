@@ -6,8 +6,7 @@ use Rattle.std.proofs.Math.Bool.{true, false}
 use Rattle.lists.specs.Tests.{all_to, all_to_at}
 use Rattle.sets.specs.Laws.{by_b}
 use Rattle.sets.proofs.Laws.{ltb_yes, and_l}
-use Rattle.turns.specs.declared.Choice.{Choice}
-use Rattle.turns.specs.Turn.{of, ready, lowest, in_range, share_ok, rests, begins, round_of, found, choice_of}
+use Rattle.turns.specs.Turn.{of, ready, lowest, in_range, share_ok, rests, begins, round_of, Outcome, found, choice_of}
 use Rattle.turns.specs.Lowest.{lowest_ready, fresh_lowest, leb_yes, ready_left, share_most}
 
 module _ (s g w : List ℕ) where
@@ -44,10 +43,10 @@ module _ (s g w : List ℕ) where
   pub given_ready : Passes → ready s (round_of (begins s g w) g) w (lowest s (round_of (begins s g w) g) w) ≡ true
   given_ready p = lowest_ready s (round_of (begins s g w) g) w (given_below p)
 
--- the same of a choice that the code has made
-module _ (s g w : List ℕ) (c : Choice) (is : c ≡ choice_of s g w) (given : c.number ≡ 0) where
+-- the same of a choice that is made
+module _ (s g w : List ℕ) (c : Outcome) (is : c ≡ choice_of s g w) (given : c.number ≡ 0) where
   passes : Passes s g w
-  passes = given_passes s g w (ap (λ (x : Choice). x.number) (sym is) ∙ given)
+  passes = given_passes s g w (ap (λ (x : Outcome). x.number) (sym is) ∙ given)
 
   found_is : c ≡ found s g w
   found_is = is ∙ passed_is s g w passes
@@ -59,8 +58,8 @@ module _ (s g w : List ℕ) (c : Choice) (is : c ≡ choice_of s g w) (given : c
   pub choice_room : c.begins ≡ false → of g c.line < 4
   unfolding found
   choice_room same =
-      let e : begins s g w ≡ false = ap (λ (x : Choice). x.begins) (sym found_is) ∙ same in
+      let e : begins s g w ≡ false = ap (λ (x : Outcome). x.begins) (sym found_is) ∙ same in
       let r : ready s g w (lowest s g w) ≡ true = rw e at (given_ready s g w passes) in
       let l : lowest s g w < 8 = rw e at (given_below s g w passes) in
-      let k : c.line ≡ lowest s g w = ap (λ (x : Choice). x.line) found_is ∙ rw e refl in
+      let k : c.line ≡ lowest s g w = ap (λ (x : Outcome). x.line) found_is ∙ rw e refl in
       rw k (omega (arith, ready_left s g w (lowest s g w) r, share_most s passes.shares (lowest s g w) l))

@@ -1,6 +1,8 @@
 -- Document 02's wish 12, "Shares of the server's turns", over the numbers of eight lines: s their shares, g the turns that each was given in this round, w their marks (1: a message waits).
-use Rattle.std.specs.Prelude.{ℕ, zero, suc, ◌+◌, ◌-◌, Bool, false, ◌&&◌, not, cond, List, get_or, set, replicate, eqb, ltb, leb}
+use Rattle.std.specs.Prelude.{ℕ, zero, suc, ◌+◌, ◌-◌, Bool, false, ◌&&◌, not, cond, List, get_or, set, replicate, eqb, ltb, leb, Result, Ok, Err}
 use Rattle.lists.specs.Tests.{all_to}
+use Rattle.refusals.specs.declared.Refusal.{Refusal}
+use Rattle.refusals.specs.Refusals.{number_of}
 use Rattle.turns.specs.declared.Choice.{Choice}
 
 -- "eight lines"
@@ -43,8 +45,18 @@ unfoldable pub rests : List ℕ → ℕ → Bool
 rests w i = not (waits w i)
 
 -- whom a turn is given to, and whether it begins a round; a turn that is turned back has its number alone
-abbrev pub refused : ℕ → Choice
+pub record Outcome : Type 0 where
+  pub number : ℕ
+  pub line : ℕ
+  pub begins : Bool
+
+abbrev pub refused : ℕ → Outcome
 refused n = record { number = n; line = 0; begins = false }
+
+-- the same of the code's answer
+abbrev pub outcome : Result Choice Refusal → Outcome
+outcome (Ok c) = record { number = 0; line = c.line; begins = c.begins }
+outcome (Err why) = refused (number_of why)
 
 -- "a turn that finds none first begins a new round"
 unfoldable pub begins : List ℕ → List ℕ → List ℕ → Bool
@@ -54,11 +66,11 @@ abbrev pub round_of : Bool → List ℕ → List ℕ
 round_of b g = cond b new_round g
 
 -- "the next turn goes to the lowest waiting line with share left"
-unfoldable pub found : List ℕ → List ℕ → List ℕ → Choice
+unfoldable pub found : List ℕ → List ℕ → List ℕ → Outcome
 found s g w = record { number = 0; line = lowest s (round_of (begins s g w) g) w; begins = begins s g w }
 
 -- numbers 1, 19 and 20, in this order
-unfoldable pub choice_of : List ℕ → List ℕ → List ℕ → Choice
+unfoldable pub choice_of : List ℕ → List ℕ → List ℕ → Outcome
 choice_of s g w =
     cond (all_to (in_range s g w) lines)
     (cond (all_to (share_ok s) lines) (cond (all_to (rests w) lines) (refused 20) (found s g w)) (refused 19))
@@ -73,7 +85,7 @@ pub record Turn : Type 0 where
 unfoldable pub one_more : List ℕ → ℕ → List ℕ
 one_more g i = set g i (of g i + 1)
 
-abbrev pub counts_after : List ℕ → Choice → List ℕ
+abbrev pub counts_after : List ℕ → Outcome → List ℕ
 counts_after g c = cond (eqb c.number 0) (one_more (round_of c.begins g) c.line) g
 
 unfoldable pub turn_of : List ℕ → List ℕ → List ℕ → Turn

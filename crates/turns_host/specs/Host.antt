@@ -1,9 +1,9 @@
 -- A turn over lent lines: the number, the line that is given it, and every field afterwards.
-use Rattle.std.specs.Prelude.{ℕ, suc, cond, List, [], ◌∷◌, length, get_or, set, eqb, ltb}
-use Rattle.turns.specs.declared.Choice.{Choice}
-use Rattle.turns.specs.Turn.{lines, of, new_round, choice_of, Turn, turn_of}
+use Rattle.std.specs.Prelude.{ℕ, suc, cond, List, [], ◌∷◌, length, get_or, eqb, Result, Ok, Err}
+use Rattle.refusals.specs.declared.Refusal.{Refusal}
+use Rattle.refusals.specs.Refusals.{number_of}
+use Rattle.turns.specs.Turn.{lines, of, Turn, turn_of}
 use Rattle.turns_host.specs.declared.Line.{Line}
-use Rattle.turns_host.specs.declared.Eight.{Eight}
 
 -- the numbers of some lines
 abbrev pub shares_of : List Line → List ℕ
@@ -51,30 +51,17 @@ taken ls i = let t = turn_of (shares_of ls) (counts_of ls) (marks_of ls) in turn
 unfoldable pub taken_of : List Line → ℕ → Turned
 taken_of ls i = cond (eqb (length ls) lines) (taken ls i) (turned ls i 1)
 
--- ---- how the code goes about it: whose turn it is, and the lines of a new round
-unfoldable pub chosen : List Line → Choice
-chosen ls = choice_of (shares_of ls) (counts_of ls) (marks_of ls)
+-- ---- the same of the code's answer: the line that is told, with i what is lent for it, and the number
+abbrev pub line_told : ℕ → Result ℕ Refusal → ℕ
+line_told i (Ok l) = l
+line_told i (Err _) = i
 
--- the counts behind the first turn of a round
-unfoldable pub first_turn : ℕ → List ℕ
-first_turn i = cond (ltb i lines) (set new_round i 1) new_round
+abbrev pub number_told : Result ℕ Refusal → ℕ
+number_told (Ok _) = 0
+number_told (Err why) = number_of why
 
 abbrev pub no_line : Line
 no_line = record { share = 0; given = 0; waiting = 0 }
 
 abbrev pub line_at : List Line → ℕ → Line
 line_at ls k = get_or ls k no_line
-
--- the first eight of some lines
-unfoldable pub eight_of : List Line → Eight
-eight_of ls =
-    record {
-      l0 = line_at ls 0;
-      l1 = line_at ls 1;
-      l2 = line_at ls 2;
-      l3 = line_at ls 3;
-      l4 = line_at ls 4;
-      l5 = line_at ls 5;
-      l6 = line_at ls 6;
-      l7 = line_at ls 7;
-    }

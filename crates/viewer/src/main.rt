@@ -8,8 +8,11 @@ ghost use Rattle.std.specs.Prelude.{◌≤◌, length};
 
 use archive::Found;
 use counts_file::{Counted, Next, Written};
+use refusals::Refusal;
+use std::fmt::InlineText;
+use std::ops::ControlFlow;
 use std::process::ExitCode;
-use streams::{More, read_more, tell};
+use streams::{Status, Told, first, read_more, tell, written};
 
 // Room for a line, of six numbers and 512 entries at most, and for the closing line.
 const LINE: usize = 16384;
@@ -19,91 +22,47 @@ const CLOSING: usize = 64;
 // What the two bytes of a record's count can say.
 const SIZES: u64 = 65536;
 
-// What is asked for.
-const COUNTS: u8 = 1;
-
-const SERVICE: u8 = 2;
-
-const FILE: u8 = 3;
-
-// The answer where standard output failed.
-const FAILED: u32 = 254;
-
-// The exit statuses: 0 accepted, 1 refused, 2 the arguments are not understood, 3 reading or writing failed.
-const ACCEPTED: u8 = 0;
-
-const REFUSED: u8 = 1;
-
-const UNCLEAR: u8 = 2;
-
-const BROKEN: u8 = 3;
-
-// Bytes in the input buffer that are not played yet, the last commit number, and whether there is more to do; if not, the exit status.
-#[derive(Drop)]
-struct State {
-    len: usize,
-    last: u32,
-    going: bool,
-    status: u8,
+// What is asked for: the counts of each commit, all fields of each, or the counts file.
+#[derive(Clone, Copy, PartialEq, Eq, Debug)]
+enum Reader {
+    Counts,
+    Service,
+    File,
 }
 
-// Where a play of the input buffer stopped, and the number that stopped it: 0 at the end of what is there.
-#[derive(Drop)]
-struct Stop {
-    at: usize,
-    last: u32,
-    number: u32,
+// Why no more of an archive is shown: a number that it is refused for, or standard output failed.
+#[derive(Clone, Copy, PartialEq, Eq, Debug)]
+enum Stop {
+    Refused(u32),
+    Failed(Told),
 }
 
-fn least(a: usize, b: usize) -> usize
-    ensures { (result ≤ a) × (result ≤ b) }
-{
-    if a < b { a } else { b }
-}
-
-fn further(a: usize, b: usize) -> usize {
-    if usize::MAX - a < b {
-        usize::MAX
-    } else {
-        a + b
+impl From<Told> for Stop {
+    fn from(told: Told) -> Stop {
+        Stop::Failed(told)
     }
 }
 
-// The first n bytes of a text, all of it where it has fewer.
-fn first(text: &[u8], n: usize) -> &[u8] {
-    let e = least(n, text.len());
-    &text[..e]
+// A number of a call's answer, 0 where it was accepted.
+fn accepted(number: u32) -> Result<(), Stop> {
+    if number == 0 {
+        return Ok(());
+    }
+    Err(Stop::Refused(number))
 }
 
-// Writes to standard output: 0, or FAILED where that could not be.
-fn say(rt: HostRuntime, text: &[u8]) -> u32 {
-    match rt.write_all(text) {
-        Ok(()) => 0,
-        Err(error) => {
-            streams::fail(rt, b"standard output", error);
-            FAILED
-        }
-    }
+// Writes to standard output.
+fn say(rt: HostRuntime, text: &[u8]) -> Result<(), Told> {
+    written(rt, b"standard output", rt.write_all(text))
 }
 
 // Each function below that puts something into a line answers the position behind it; what has no room is left out.
 
-fn put_byte(line: &mut [u8], at: usize, b: u8) -> usize {
-    if line.len() <= at {
-        return at;
-    }
-    line[at] = b;
-    at + 1
-}
-
 fn put_text(line: &mut [u8], at: usize, text: &[u8]) -> usize {
-    let mut next = at;
-    let mut i = 0;
-    while i < text.len() {
-        next = put_byte(line, next, text[i]);
-        i += 1;
-    }
-    next
+    let from = at.min(line.len());
+    let n = text.len().min(line.len() - from);
+    line[from..from + n].copy_from_slice(&text[..n]);
+    from + n
 }
 
 fn put_number(line: &mut [u8], at: usize, n: u64) -> usize {
@@ -114,16 +73,16 @@ fn put_number(line: &mut [u8], at: usize, n: u64) -> usize {
 
 // A space and a number.
 fn put_column(line: &mut [u8], at: usize, n: u64) -> usize {
-    let at = put_byte(line, at, b' ');
+    let at = put_text(line, at, b" ");
     put_number(line, at, n)
 }
 
 // A space, a word and `counter=value`.
 fn put_pair(line: &mut [u8], at: usize, word: &[u8], address: u8, value: u64) -> usize {
-    let at = put_byte(line, at, b' ');
+    let at = put_text(line, at, b" ");
     let at = put_text(line, at, word);
-    let at = put_number(line, at, le::long(le::wide(address)));
-    let at = put_byte(line, at, b'=');
+    let at = put_number(line, at, address as u64);
+    let at = put_text(line, at, b"=");
     put_number(line, at, value)
 }
 
@@ -138,42 +97,46 @@ fn put_write(line: &mut [u8], at: usize, counts: &[u8], writes: u32, i: u32) -> 
 // The line of a commit's counts: its number, how many counters it writes, and each with its value.
 fn counts_line(line: &mut [u8], counts: &[u8], c: Counted) -> usize {
     let writes = c.writes;
-    let at = put_number(line, 0, le::long(c.commit));
-    let mut next = put_column(line, at, le::long(writes));
-    let mut i: u32 = 0;
-    while i < writes {
+    let at = put_number(line, 0, u64::from(c.commit));
+    let mut next = put_column(line, at, u64::from(writes));
+    for i in 0..writes {
         next = put_write(line, next, counts, writes, i);
-        i += 1;
     }
-    put_byte(line, next, b'\n')
+    put_text(line, next, b"\n")
 }
 
 // Shows the counts of a record, or writes them as they stand.
-fn show_counts(rt: HostRuntime, counts: &[u8], before: u32, asked: u8, line: &mut [u8]) -> u32 {
+fn show_counts(
+    rt: HostRuntime,
+    counts: &[u8],
+    before: u32,
+    reader: Reader,
+    line: &mut [u8],
+) -> Result<(), Stop> {
     match counts_file::read(counts, 0, before) {
         Next::Counts(c) => {
-            if asked == FILE {
-                return say(rt, first(counts, c.end));
+            if reader == Reader::File {
+                say(rt, first(counts, c.end))?;
+                return Ok(());
             }
             let length = counts_line(line, counts, c);
-            say(rt, first(line, length))
+            say(rt, first(line, length))?;
+            Ok(())
         }
-        Next::End => 0,
-        Next::Refused(number) => number,
+        Next::End => Ok(()),
+        Next::Refused(number) => accepted(number),
     }
 }
 
-fn entry_word(read: bool) -> u8 {
-    if read { b'r' } else { b'w' }
-}
-
-// Entry i of the record at the start of `part`.
+// Entry i of the record at the start of `part`, of which the first `reads` are reads.
 fn put_entry(line: &mut [u8], at: usize, part: &[u8], entries: u32, i: u32, reads: u32) -> usize {
     let Found::Entry { address, value } = archive::entry(part, 0, entries, i) else {
         return at;
     };
-    let word = [entry_word(i < reads)];
-    put_pair(line, at, &word, address, value)
+    if i < reads {
+        return put_pair(line, at, b"r", address, value);
+    }
+    put_pair(line, at, b"w", address, value)
 }
 
 // The line of a record: its numbers, and each entry, reads first.
@@ -187,12 +150,10 @@ fn service_line(line: &mut [u8], part: &[u8], fields: &[u64; readers::SERVICE]) 
     let at = put_column(line, at, fields[readers::READS]);
     let mut next = put_column(line, at, fields[readers::WRITES]);
     let entries = reads + writes;
-    let mut i: u32 = 0;
-    while i < entries {
+    for i in 0..entries {
         next = put_entry(line, next, part, entries, i, reads);
-        i += 1;
     }
-    put_byte(line, next, b'\n')
+    put_text(line, next, b"\n")
 }
 
 // Plays the record at the start of `part` and shows all of it.
@@ -202,273 +163,207 @@ fn service(
     last: &mut u32,
     values: &mut [u64; 256],
     line: &mut [u8],
-) -> u32 {
+) -> Result<(), Stop> {
     let mut fields = [0u64; readers::SERVICE];
-    let number = readers::wax_service_record(part, values, last, &mut fields);
-    if number != 0 {
-        return number;
-    }
+    accepted(readers::wax_service_record(part, values, last, &mut fields))?;
     let length = service_line(line, part, &fields);
-    say(rt, first(line, length))
+    say(rt, first(line, length))?;
+    Ok(())
 }
 
 // Plays the record at the start of `part` and shows what is asked for of it.
 fn show(
     rt: HostRuntime,
     part: &[u8],
-    asked: u8,
+    reader: Reader,
     last: &mut u32,
     values: &mut [u64; 256],
     line: &mut [u8],
-) -> u32 {
-    if asked == SERVICE {
+) -> Result<(), Stop> {
+    if reader == Reader::Service {
         return service(rt, part, last, values, line);
     }
     let before = *last;
     let mut counts = [0u8; counts::LONGEST];
-    let number = counts::wax_counts_record(part, values, last, &mut counts);
-    if number != 0 {
-        return number;
-    }
-    show_counts(rt, &counts, before, asked, line)
+    accepted(counts::wax_counts_record(part, values, last, &mut counts))?;
+    show_counts(rt, &counts, before, reader, line)
 }
 
-// Plays the records that are whole in the input: a record has at least a byte.
+// Plays the records that are whole in the input, each of which has at least a byte, and answers where they end, and why there.
 fn play(
     rt: HostRuntime,
     input: &[u8],
-    asked: u8,
-    last: u32,
+    reader: Reader,
+    last: &mut u32,
     values: &mut [u64; 256],
     line: &mut [u8],
-) -> Stop {
-    let mut at = 0;
-    let mut commit = last;
-    let mut turns = input.len();
-    while turns > 0 {
+) -> (usize, Result<(), Stop>) {
+    let mut at: usize = 0;
+    for _ in 0..input.len() {
         if input.len() <= at {
-            return Stop {
-                at,
-                last: commit,
-                number: 0,
-            };
+            return (at, Ok(()));
         }
         let part = &input[at..];
-        let number = show(rt, part, asked, &mut commit, values, line);
-        if number != 0 {
-            return Stop {
-                at,
-                last: commit,
-                number,
-            };
+        if let Err(stop) = show(rt, part, reader, last, values, line) {
+            return (at, Err(stop));
         }
-        at = further(at, record::claimed_length(part));
-        turns -= 1;
+        at = at.saturating_add(record::claimed_length(part));
     }
-    Stop {
-        at,
-        last: commit,
-        number: 0,
-    }
+    (at, Ok(()))
 }
 
-fn stopped(status: u8) -> State {
-    State {
-        len: 0,
-        last: 0,
-        going: false,
-        status,
-    }
-}
-
-// The last line, the first `length` bytes of these: of a counts file it goes to standard error. Answers the exit status.
-fn close(rt: HostRuntime, asked: u8, line: &[u8], length: usize, status: u8) -> u8 {
-    let text = first(line, length);
-    if asked == FILE {
+// The last line: of a counts file it goes to standard error.
+fn close(rt: HostRuntime, reader: Reader, text: &[u8]) -> Result<(), Told> {
+    if reader == Reader::File {
         tell(rt, text);
-        return status;
+        return Ok(());
     }
-    if say(rt, text) != 0 {
-        return BROKEN;
-    }
-    status
+    say(rt, text)
 }
 
 // `refused N after K`.
-fn refuse(rt: HostRuntime, asked: u8, number: u32, last: u32) -> u8 {
-    let mut line = [0u8; CLOSING];
-    let at = put_text(&mut line, 0, b"refused ");
-    let at = put_number(&mut line, at, le::long(number));
-    let at = put_text(&mut line, at, b" after ");
-    let at = put_number(&mut line, at, le::long(last));
-    let at = put_byte(&mut line, at, b'\n');
-    close(rt, asked, &line, at, REFUSED)
+fn refuse(rt: HostRuntime, reader: Reader, number: u32, last: u32) -> Result<Status, Told> {
+    let line = InlineText::<CLOSING>::of(format_args!("refused {number} after {last}\n"));
+    close(rt, reader, line.as_str().as_bytes())?;
+    Ok(Status::Refused)
 }
 
 // `end K`.
-fn end(rt: HostRuntime, asked: u8, last: u32) -> u8 {
-    let mut line = [0u8; CLOSING];
-    let at = put_text(&mut line, 0, b"end ");
-    let at = put_number(&mut line, at, le::long(last));
-    let at = put_byte(&mut line, at, b'\n');
-    close(rt, asked, &line, at, ACCEPTED)
+fn end(rt: HostRuntime, reader: Reader, last: u32) -> Result<Status, Told> {
+    let line = InlineText::<CLOSING>::of(format_args!("end {last}\n"));
+    close(rt, reader, line.as_str().as_bytes())?;
+    Ok(Status::Accepted)
 }
 
-// Plays the first `len` bytes of the buffer and keeps the record that is cut by its end for the next turn.
+// Plays the first `len` bytes of the buffer and keeps the record that is cut by its end for the next turn: so many bytes.
 fn advance(
     rt: HostRuntime,
     input: &mut [u8],
     len: usize,
-    asked: u8,
+    reader: Reader,
+    last: &mut u32,
     values: &mut [u64; 256],
     line: &mut [u8],
-    s: State,
-) -> State
+) -> Result<ControlFlow<Status, usize>, Told>
     requires { len ≤ length input.old }
 {
-    let stop = play(rt, &input[..len], asked, s.last, values, line);
-    let at = least(stop.at, len);
-    if stop.number == 0 || stop.number == 12 {
-        return State {
-            len: player::move_down(input, at, len),
-            last: stop.last,
-            going: true,
-            status: ACCEPTED,
-        };
+    let (played, shown) = play(rt, &input[..len], reader, last, values, line);
+    match shown {
+        Err(Stop::Failed(told)) => Err(told),
+        Err(Stop::Refused(number)) if number != Refusal::Short.number() => {
+            Ok(ControlFlow::Break(refuse(rt, reader, number, *last)?))
+        }
+        _ => {
+            let at = played.min(len);
+            Ok(ControlFlow::Continue(player::move_down(input, at, len)))
+        }
     }
-    if stop.number == FAILED {
-        return stopped(BROKEN);
-    }
-    stopped(refuse(rt, asked, stop.number, stop.last))
 }
 
 // The end of the archive. Bytes that are left are a record cut short.
-fn ended(rt: HostRuntime, left: usize, asked: u8, last: u32) -> u8 {
+fn ended(rt: HostRuntime, left: usize, reader: Reader, last: u32) -> Result<Status, Told> {
     if left != 0 {
-        return refuse(rt, asked, 12, last);
+        return refuse(rt, reader, Refusal::Short.number(), last);
     }
-    end(rt, asked, last)
+    end(rt, reader, last)
 }
 
-// One read, and the play of what is then there.
+// One read behind the first bytes of the buffer, which are not played yet, and the play of what is then there.
 fn turn(
     rt: HostRuntime,
     input: &mut [u8],
-    asked: u8,
+    left: usize,
+    reader: Reader,
+    last: &mut u32,
     values: &mut [u64; 256],
     line: &mut [u8],
-    s: State,
-) -> State {
-    let len = least(s.len, input.len());
+) -> Result<ControlFlow<Status, usize>, Told> {
+    let len = left.min(input.len());
     match read_more(&mut rt.stdin(), input, len) {
-        More::Bytes(n) => {
-            let have = least(n, input.len());
-            advance(rt, input, have, asked, values, line, s)
+        Ok(Some(n)) => {
+            let have = n.min(input.len());
+            advance(rt, input, have, reader, last, values, line)
         }
-        More::End => stopped(ended(rt, len, asked, s.last)),
-        More::Failed(error) => {
+        Ok(None) => Ok(ControlFlow::Break(ended(rt, len, reader, *last)?)),
+        Err(error) => {
             streams::fail(rt, b"standard input", error);
-            stopped(BROKEN)
+            Err(Told)
         }
     }
 }
 
-// A proved loop has to end, and nothing says that standard input does: it counts down from a number that no run uses up.
-fn run(rt: HostRuntime, input: &mut [u8], line: &mut [u8], asked: u8) -> u8 {
+// A proved loop has to end, and nothing says that standard input does: its turns are more than any run takes.
+fn run(rt: HostRuntime, input: &mut [u8], line: &mut [u8], reader: Reader) -> Result<Status, Told> {
     let mut values = [0u64; 256];
-    let mut s = State {
-        len: 0,
-        last: 0,
-        going: true,
-        status: ACCEPTED,
-    };
-    let mut turns = u64::MAX;
-    while turns > 0 {
-        if !s.going {
-            return s.status;
+    let mut last: u32 = 0;
+    let mut left: usize = 0;
+    for _ in 0..u64::MAX {
+        match turn(rt, input, left, reader, &mut last, &mut values, line)? {
+            ControlFlow::Continue(next) => left = next,
+            ControlFlow::Break(status) => return Ok(status),
         }
-        s = turn(rt, input, asked, &mut values, line, s);
-        turns -= 1;
     }
-    BROKEN
+    Ok(Status::Failed)
 }
 
 // The buffers come as arrays: their lengths are then known by their types.
-fn start(rt: HostRuntime, input: &mut [u8; player::INPUT], line: &mut [u8; LINE], asked: u8) -> u8 {
-    run(rt, input, line, asked)
+fn start(
+    rt: HostRuntime,
+    input: &mut [u8; player::INPUT],
+    line: &mut [u8; LINE],
+    reader: Reader,
+) -> Result<Status, Told> {
+    run(rt, input, line, reader)
 }
 
-fn heading(rt: HostRuntime, asked: u8) -> u32 {
-    if asked == COUNTS {
-        return say(rt, b"commit writes counter=value\n");
-    }
-    if asked == SERVICE {
-        return say(
+fn heading(rt: HostRuntime, reader: Reader) -> Result<(), Told> {
+    match reader {
+        Reader::Counts => say(rt, b"commit writes counter=value\n"),
+        Reader::Service => say(
             rt,
             b"commit station kind transaction reads writes rcounter=value wcounter=value\n",
-        );
+        ),
+        Reader::File => Ok(()),
     }
-    0
 }
 
-fn view(rt: HostRuntime, asked: u8) -> u8 {
-    if heading(rt, asked) != 0 {
-        return BROKEN;
-    }
+fn view(rt: HostRuntime, reader: Reader) -> Result<Status, Told> {
+    heading(rt, reader)?;
     let mut input = [0u8; player::INPUT];
     let mut line = [0u8; LINE];
-    start(rt, &mut input, &mut line, asked)
+    start(rt, &mut input, &mut line, reader)
 }
 
-fn same(word: &[u8], other: &[u8]) -> bool {
-    if word.len() != other.len() {
-        return false;
+// What a word asks for.
+fn asked_by(word: &[u8]) -> Option<Reader> {
+    if word == b"--counts".as_slice() {
+        return Some(Reader::Counts);
     }
-    let mut ok = true;
-    let mut i = 0;
-    while i < other.len() {
-        ok &= byte_at(word, i) == byte_at(other, i);
-        i += 1;
+    if word == b"--service".as_slice() {
+        return Some(Reader::Service);
     }
-    ok
-}
-
-fn byte_at(word: &[u8], i: usize) -> u8 {
-    if i < word.len() {
-        return word[i];
+    if word == b"--counts-file".as_slice() {
+        return Some(Reader::File);
     }
-    0
-}
-
-// What a word asks for; 0 for nothing.
-fn asked_by(word: &[u8]) -> u8 {
-    if same(word, b"--counts") {
-        return COUNTS;
-    }
-    if same(word, b"--service") {
-        return SERVICE;
-    }
-    if same(word, b"--counts-file") {
-        return FILE;
-    }
-    0
+    None
 }
 
 // What the one word behind the program's name asks for, if it is one.
-fn answer(rt: HostRuntime) -> u8 {
-    let mut word = streams::buffer();
-    let n = streams::argument(&rt, 1, &mut word);
-    let asked = asked_by(&word[..n]);
-    if streams::argument_count(&rt) != 2 || asked == 0 {
+fn asked(rt: HostRuntime) -> Option<Reader> {
+    if streams::argument_count(&rt) != 2 {
+        return None;
+    }
+    let mut room = streams::buffer();
+    asked_by(streams::argument(&rt, 1, &mut room))
+}
+
+fn main(rt: HostRuntime) -> ExitCode {
+    let Some(reader) = asked(rt) else {
         tell(
             rt,
             b"usage: viewer --counts|--service|--counts-file <ARCHIVE\n",
         );
-        return UNCLEAR;
-    }
-    view(rt, asked)
-}
-
-fn main(rt: HostRuntime) -> ExitCode {
-    ExitCode::from(answer(rt))
+        return Status::Unclear.code();
+    };
+    view(rt, reader).unwrap_or(Status::Failed).code()
 }

@@ -3,9 +3,6 @@
 ghost use Rattle.std.specs.Prelude.{◌≡◌, ◌+◌, ◌*◌, ◌<◌, ◌≤◌};
 ghost use Rattle.wide.specs.Wide.{words};
 
-// The most that a word says.
-const MOST: u64 = 18446744073709551615;
-
 #[derive(Clone, Copy)]
 pub struct Wide {
     pub hi: u64,
@@ -29,15 +26,15 @@ pub fn add(a: Wide, b: Wide) -> Wide
     requires { a.hi + b.hi < 18446744073709551615 }
     ensures { (words result.hi result.lo ≡ words a.hi a.lo + words b.hi b.lo) × (result.hi ≤ a.hi + b.hi + 1) }
 {
-    let room = MOST - a.lo;
-    if room < b.lo {
+    let (lo, carry) = a.lo.overflowing_add(b.lo);
+    if carry {
         return Wide {
             hi: a.hi + b.hi + 1,
-            lo: b.lo - room - 1,
+            lo,
         };
     }
     Wide {
         hi: a.hi + b.hi,
-        lo: a.lo + b.lo,
+        lo,
     }
 }

@@ -5,7 +5,10 @@ ghost use Rattle.station_answer.specs.Did.{outcome};
 ghost use Rattle.station_state.specs.Layout.{state_length};
 ghost use Rattle.window_state.specs.Layout.{registers};
 ghost use Rattle.window.specs.Window.{accessed, ready_w, refusal_of, noted_abort, noted_value, noted_commit, noted, performed, taken_as, taken_said, shown, command_of, write_of, step_of};
+ghost use Rattle.window.specs.Operations.{operation_code, GivesOperation};
 
+use kinds::Kind;
+use refusals::Refusal;
 use station_answer::{Answer, Said};
 use window_state::{ABORTED_FLAG, COMMAND, COMMIT, DONE_FLAG, REFUSAL, REGISTERS, VALUE};
 
@@ -16,10 +19,10 @@ fn ready(r: &[u8], s: &[u8], o: &[u8], c: &[u8]) -> bool
     if !station_owner::ready(s, o, c) {
         return false;
     }
-    (station_state::kind(s) == 1) & window_state::registers_ok(r)
+    (station_state::kind(s) == Kind::Validating as u8) & window_state::registers_ok(r)
 }
 
-// The number of a refusal, 0 for every other answer.
+// The number of a refusal, 0 for every other answer: as the refusal register shows it.
 fn refusal(a: Answer) -> u32
     ensures { result ≡ refusal_of a }
 {
@@ -83,24 +86,48 @@ fn note(r: &mut [u8], a: Answer)
     }
 }
 
-// The station's own operation of command 1 to 5.
-fn perform(b: u8, r: &[u8], s: &mut [u8], o: &mut [u8], c: &mut [u8]) -> Said
+// What the command register takes; another value is only stored.
+#[derive(Clone, Copy, PartialEq, Eq, Debug)]
+enum Operation {
+    Begin = 1,
+    Read = 2,
+    Write = 3,
+    Commit = 4,
+    Abort = 5,
+}
+
+impl TryFrom<u8> for Operation {
+    type Error = Refusal;
+
+    ghost try_from_gives = { GivesOperation };
+
+    fn try_from(command: u8) -> Result<Self, Refusal> {
+        match command {
+            1 => Ok(Operation::Begin),
+            2 => Ok(Operation::Read),
+            3 => Ok(Operation::Write),
+            4 => Ok(Operation::Commit),
+            5 => Ok(Operation::Abort),
+            _ => Err(Refusal::Range),
+        }
+    }
+}
+
+// The station's own operation of a command.
+#[tactic(auto, unfolding(crate::specs::Window::performed))]
+fn perform(b: Operation, r: &[u8], s: &mut [u8], o: &mut [u8], c: &mut [u8]) -> Said
     requires { length r.now ≡ registers }
-    ensures { outcome s.new o.new c.new result ≡ performed b r.now s.old o.old c.old }
+    ensures { outcome s.new o.new c.new result ≡ performed (operation_code b) r.now s.old o.old c.old }
 {
-    if b == 1 {
-        return station_owner::begin(s, o, c);
+    match b {
+        Operation::Begin => station_owner::begin(s, o, c),
+        Operation::Read => station_owner::read(window_state::address(r), s, o, c),
+        Operation::Write => {
+            station_owner::write(window_state::address(r), le::get_u64(r, VALUE), s, o, c)
+        }
+        Operation::Commit => station_owner::commit(s, o, c),
+        Operation::Abort => station_owner::abort(s, o, c),
     }
-    if b == 2 {
-        return station_owner::read(window_state::address(r), s, o, c);
-    }
-    if b == 3 {
-        return station_owner::write(window_state::address(r), le::get_u64(r, VALUE), s, o, c);
-    }
-    if b == 4 {
-        return station_owner::commit(s, o, c);
-    }
-    station_owner::abort(s, o, c)
 }
 
 // What is said of a command that the station answered so.
@@ -134,10 +161,10 @@ fn command(b: u8, r: &mut [u8], s: &mut [u8], o: &mut [u8], c: &mut [u8]) -> Sai
     ensures { accessed r.new (outcome s.new o.new c.new result) ≡ command_of b r.old s.old o.old c.old }
 {
     le::put_u8(r, COMMAND, b);
-    if !((1 <= b) & (b <= 5)) {
+    let Ok(operation) = Operation::try_from(b) else {
         return station_answer::say(Answer::Nothing, 0);
-    }
-    let x = perform(b, r, s, o, c);
+    };
+    let x = perform(operation, r, s, o, c);
     show(r, x)
 }
 
@@ -146,11 +173,11 @@ pub fn write(offset: u32, byte: u8, r: &mut [u8], s: &mut [u8], o: &mut [u8], c:
     ensures { accessed r.new (outcome s.new o.new c.new result) ≡ write_of offset byte r.old s.old o.old c.old }
 {
     if !ready(r, s, o, c) {
-        return station_owner::refuse(1);
+        return station_owner::refuse(Refusal::Buffer as u32);
     }
     let k = offset as usize;
     if k >= REGISTERS {
-        return station_owner::refuse(16);
+        return station_owner::refuse(Refusal::Register as u32);
     }
     if k == COMMAND {
         return command(byte, r, s, o, c);
@@ -164,7 +191,7 @@ pub fn step(m: &[u8], r: &mut [u8], s: &mut [u8], o: &mut [u8], c: &mut [u8]) ->
     ensures { accessed r.new (outcome s.new o.new c.new result) ≡ step_of m.now r.old s.old o.old c.old }
 {
     if !ready(r, s, o, c) {
-        return station_owner::refuse(1);
+        return station_owner::refuse(Refusal::Buffer as u32);
     }
     let x = station::step(m, s, o, c);
     let a = x.answer;

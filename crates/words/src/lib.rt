@@ -28,7 +28,7 @@ fn say(out: &mut [u8], at: usize, before: &[u8], n: u32, behind: &[u8]) -> usize
     requires { at + (length before.now + 20 + length behind.now) ≤ length out.old }
     ensures { put out.new result ≡ put_of out.old at (numbered before.now n behind.now) }
 {
-    say_long(out, at, before, le::long(n), behind)
+    say_long(out, at, before, u64::from(n), behind)
 }
 
 // The words of the faults whose row is more than a `say`. No words name a place: the contracts have a 0 there.
@@ -114,6 +114,7 @@ fn put_words(out: &mut [u8], at: usize, f: Fault) -> usize
 }
 
 // So many bytes further on in an archive. It is cut at the largest number.
+#[tactic(auto, unfolding(crate::specs::Words::further))]
 pub fn further(start: u64, more: usize) -> u64
     ensures { result ≡ further start more }
 {
@@ -125,6 +126,7 @@ pub fn further(start: u64, more: usize) -> u64
 }
 
 // The fault's byte, of a record at byte `start`.
+#[tactic(auto, unfolding(crate::specs::Words::placed))]
 fn placed(start: u64, f: Fault) -> u64
     ensures { result ≡ placed start f }
 {

@@ -1,24 +1,18 @@
-use borrow.Author.Rules.{rules}
-use native.Mathlib.Omega.{arith}
-use Rattle.arguments.specs.Words.{same_word}
-use Rattle.lists.specs.Tests.{all_to}
-use mathlib.Core.Path.{ap, ◌∙◌}
-use native.Mathlib.Numerals.{add-one}
-use borrow.Author.Tests.{eq-eqb, ne_eqb}
+-- `arguments::same` meets its contract.
+use Rattle.std.proofs.Common.{◌≡◌, refl, sym, ◌∙◌, Bool, true, false, subst}
+use lib.Pointwise.{bytes_decides}
+use Rattle.arguments.specs.Words.{same_word, same_means, same_self}
 use Rattle.arguments.proofs.same.Goals as goal
 
-pub returns-then-a-b : goal.returns-then-a-b
-unfolding same_word
-returns-then-a-b c = simp (ne_eqb _ _ c.if-a-b.true)
-
-pub loop-i-init : goal.loop-i-init
-unfolding all_to
-loop-i-init c = search rules
-
-pub loop-i-preserved : goal.loop-i-preserved
-unfolding all_to
-loop-i-preserved c = (search rules, rw add-one (cc))
+-- tests that are true of the same are the same
+alike : (p q : Bool) → (p ≡ true → q ≡ true) → (q ≡ true → p ≡ true) → p ≡ q
+alike true q f g = sym (f refl)
+alike false true f g = g refl
+alike false false f g = refl
 
 pub returns : goal.returns
-unfolding same_word
-returns c = simp (eq-eqb _ _ c.if-a-b.false) (c.loop-i.invariant.1 ∙ ap (all_to _) (omega arith))
+returns c =
+    let a = c.args.a.now in
+    let b = c.args.b.now in
+    let d = bytes_decides a b in
+    c.eq.ensures ∙ alike _ _ (λ h. subst (λ t. same_word a t ≡ true) (d.0 h) (same_self a)) (λ h. d.1 (same_means a b h))

@@ -18,4 +18,4 @@ returns-in_default c = simp (eq-eqb _ _ c.if-a-ne0.false, ne_eqb _ _ c.if-a-eq0.
 
 pub returns : goal.returns
 unfolding word_taken
-returns c = simp (eq-eqb _ _ c.if-a-ne0.false, ne_eqb _ _ c.if-a-eq0.false) (c.take_number.ensures ∙ ap (number_taken c.args.a.now c.args.i) (sym c.in-Number.is ∙ c.commit_of.ensures))
+returns c = simp (eq-eqb _ _ c.if-a-ne0.false, ne_eqb _ _ c.if-a-eq0.false) (c.take_number.ensures ∙ ap (number_taken c.args.a.now c.args.i) (sym c.in-Some.is ∙ c.commit_of.ensures))

@@ -1,5 +1,5 @@
 -- `block::copy_part` meets its contract.
-use Rattle.std.proofs.Common.{ap, ◌∙◌, ◌≡◌, ◌+◌, ◌-◌, ℕ, take, drop, length, arith}
+use Rattle.std.proofs.Common.{ap, ◌∙◌, ◌≡◌, ◌+◌, ◌-◌, ℕ, take, drop, arith}
 use Rattle.lists.specs.Stores.{put_part}
 use Rattle.block.specs.Parts.{length_part}
 use Rattle.block.proofs.copy_part.Goals as goal

@@ -9,11 +9,11 @@ use mathlib.Core.Path.{◌≡◌, ap, ◌∙◌}
 use native.Mathlib.Numerals.{add-one}
 use Rattle.block_reader.proofs.put_records.Goals as goal
 
-pub get_u16-requires : goal.get_u16-requires
-get_u16-requires c = omega (arith, (agreed _ c.requires.0).counts_there)
+pub get_u16-c-requires : goal.get_u16-c-requires
+get_u16-c-requires c = omega (arith, (agreed _ c.requires.0).counts_there)
 
-pub get_u16-requires-2 : goal.get_u16-requires-2
-get_u16-requires-2 c = omega (arith, (agreed _ c.requires.0).counts_there)
+pub get_u16-t-requires : goal.get_u16-t-requires
+get_u16-t-requires c = omega (arith, (agreed _ c.requires.0).counts_there)
 
 pub header_at-a-requires : goal.header_at-a-requires
 header_at-a-requires c = omega (arith, (agreed _ c.requires.0).shape.at_most)

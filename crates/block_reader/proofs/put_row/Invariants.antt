@@ -1,5 +1,5 @@
 -- `block_reader::put_row` meets its contract.
-use Prim.Native.Nat.{◌-◌, ◌≤◌}
+use Prim.Native.Nat.{◌≤◌}
 use mathlib.Core.Path.{◌≡◌}
 use lib.ListN.{length}
 use Rattle.layout.specs.Record.{value_length}
@@ -8,6 +8,3 @@ use Rattle.block_reader.proofs.put_row.Given as goal
 
 abbrev pub invariant-loop-k : goal.invariant-loop-k
 invariant-loop-k l = (l.k ≤ value_length) × (length l.to ≡ length l.initial.to) × (l.to ≡ stored_to l.b l.initial.to l.at l.p l.t l.k)
-
-abbrev pub decreases-loop-k : goal.decreases-loop-k
-decreases-loop-k l = value_length - l.k

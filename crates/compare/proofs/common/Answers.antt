@@ -1,11 +1,8 @@
-use mathlib.Core.Path.{refl, sym, ap, ◌∙◌}
+use mathlib.Core.Path.{sym, ap, ◌∙◌}
 use native.Mathlib.Omega.{arith}
 use Rattle.replay.specs.Replay.{replayed}
 use Rattle.compare.specs.Steps.{onward, stops, refuses}
 use Rattle.compare.proofs.common.Goals as goal
-
-pub loop-f-init : goal.loop-f-init
-loop-f-init c = (omega arith, omega arith, refl)
 
 pub overflow_add-at : goal.overflow_add-at
 overflow_add-at c = let o = onward c.args.first.now c.args.second.now _ c.loop-f.at _ _ _ c.loop-f.invariant.0 c.loop-f.invariant.1 c.loop-f.invariant.2 _ (ap (replayed _) (sym c.in-Record.is) ∙ c.shared.ensures) in omega (arith, o)

@@ -7,6 +7,3 @@ use Rattle.compare.proofs.same_words.Given as goal
 
 abbrev pub invariant-loop-i : goal.invariant-loop-i
 invariant-loop-i l = (l.i ≤ few_words) × (l.same ≡ all_to (same_word l.a l.b l.n) l.i)
-
-abbrev pub decreases-loop-i : goal.decreases-loop-i
-decreases-loop-i l = few_words - l.i

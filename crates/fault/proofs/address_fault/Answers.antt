@@ -4,4 +4,4 @@ use Rattle.fault.proofs.address_fault.Goals as goal
 
 pub returns : goal.returns
 unfolding address_fault
-returns c = rw (c.or_else.ensures, c.order_fault.ensures, c.order_fault-2.ensures, c.index-n.ensures, c.index-m.ensures, c.get_u16.ensures.0, c.get_u16-2.ensures.0)
+returns c = rw (c.or_else.ensures, c.order_fault.ensures, c.order_fault-2.ensures, c.get_u16-n.ensures.0, c.get_u16-m.ensures.0)

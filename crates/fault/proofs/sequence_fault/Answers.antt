@@ -6,10 +6,10 @@ use native.Mathlib.Omega.{arith}
 use Prim.Native.Nat.{◌+◌}
 use Rattle.fault.proofs.sequence_fault.Goals as goal
 
-pub returns-then-long : goal.returns-then-long
+pub returns-then-from : goal.returns-then-from
 unfolding sequence_fault
-returns-then-long c = let e : c.get_u32-commit.result ≡ c.args.last + 1 = omega arith in simp (sym c.get_u32-commit.ensures, eq-eqb _ _ e)
+returns-then-from c = let e : c.get_u32-commit.result ≡ c.args.last + 1 = omega arith in simp (sym c.get_u32-commit.ensures, eq-eqb _ _ e)
 
 pub returns : goal.returns
 unfolding sequence_fault
-returns c = let e : c.get_u32-commit.result ≡ c.args.last + 1 → ⊥ = λ h. c.if-long.false (omega arith) in simp (sym c.get_u32-commit.ensures, ne_eqb _ _ e)
+returns c = let e : c.get_u32-commit.result ≡ c.args.last + 1 → ⊥ = λ h. c.if-from.false (omega arith) in simp (sym c.get_u32-commit.ensures, ne_eqb _ _ e)

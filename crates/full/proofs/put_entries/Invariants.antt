@@ -8,6 +8,3 @@ use Rattle.full.proofs.put_entries.Given as goal
 
 abbrev pub invariant-loop-i : goal.invariant-loop-i
 invariant-loop-i l = (l.i ≤ l.k) × (length l.out ≡ length l.initial.out) × (put l.out l.next ≡ entries_to l.sep l.reads l.addresses l.values (put l.initial.out l.at) l.i)
-
-abbrev pub decreases-loop-i : goal.decreases-loop-i
-decreases-loop-i l = l.k - l.i

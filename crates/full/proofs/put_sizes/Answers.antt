@@ -5,17 +5,17 @@ use native.Mathlib.Omega.{arith}
 use Rattle.full.proofs.put_sizes.Goals as goal
 
 pub put_field-at-requires : goal.put_field-at-requires
-put_field-at-requires c = omega (arith, field_short c.long.result c.args.sep)
+put_field-at-requires c = omega (arith, field_short c.from.result c.args.sep)
 
 pub put_field-at-requires-2 : goal.put_field-at-requires-2
-put_field-at-requires-2 c = omega (arith, field_short c.long.result c.args.sep, field_short c.long-2.result c.args.sep)
+put_field-at-requires-2 c = omega (arith, field_short c.from.result c.args.sep, field_short c.from-2.result c.args.sep)
 
 pub put_field-at-requires-3 : goal.put_field-at-requires-3
-put_field-at-requires-3 c = omega (arith, field_short c.long.result c.args.sep, field_short c.long-2.result c.args.sep, field_short c.args.byte c.args.sep)
+put_field-at-requires-3 c = omega (arith, field_short c.from.result c.args.sep, field_short c.from-2.result c.args.sep, field_short c.args.byte c.args.sep)
 
 pub put_field-requires : goal.put_field-requires
-put_field-requires c = omega (arith, field_short c.long.result c.args.sep, field_short c.long-2.result c.args.sep, field_short c.args.byte c.args.sep, field_short c.args.size (10))
+put_field-requires c = omega (arith, field_short c.from.result c.args.sep, field_short c.from-2.result c.args.sep, field_short c.args.byte c.args.sep, field_short c.args.size (10))
 
 pub returns : goal.returns
 unfolding sizes
-returns c = put_join _ _ _ _ (rw c.long.ensures at c.put_field-at.ensures.0) (put_join _ _ _ _ (rw c.long-2.ensures at c.put_field-at-2.ensures.0) (put_join _ _ _ _ c.put_field-at-3.ensures.0 c.put_field.ensures.0))
+returns c = put_join _ _ _ _ (rw c.from.ensures at c.put_field-at.ensures.0) (put_join _ _ _ _ (rw c.from-2.ensures at c.put_field-at-2.ensures.0) (put_join _ _ _ _ c.put_field-at-3.ensures.0 c.put_field.ensures.0))

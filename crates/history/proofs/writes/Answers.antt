@@ -11,11 +11,11 @@ pub returns-then-part-claimed_length : goal.returns-then-part-claimed_length
 unfolding writes_at
 returns-then-part-claimed_length c = simp (sym c.claimed_length.ensures, lt-ltb _ _ c.if-part-claimed_length.true)
 
-pub get_u16-requires : goal.get_u16-requires
-get_u16-requires c = omega (arith, whole _ c.claimed_length.ensures c.if-part-claimed_length.false)
+pub get_u16-n-requires : goal.get_u16-n-requires
+get_u16-n-requires c = omega (arith, whole _ c.claimed_length.ensures c.if-part-claimed_length.false)
 
-pub get_u16-requires-2 : goal.get_u16-requires-2
-get_u16-requires-2 c = omega (arith, whole _ c.claimed_length.ensures c.if-part-claimed_length.false)
+pub get_u16-m-requires : goal.get_u16-m-requires
+get_u16-m-requires c = omega (arith, whole _ c.claimed_length.ensures c.if-part-claimed_length.false)
 
 pub loop-c-init : goal.loop-c-init
 unfolding none_to
@@ -30,4 +30,4 @@ loop-c-preserved c = (search rules, rw add-one (cc))
 
 pub returns : goal.returns
 unfolding writes_at
-returns c = simp (sym c.claimed_length.ensures, le-ltb _ _ c.if-part-claimed_length.false) (writes_done _ _ (c.index-n.ensures ∙ c.get_u16.ensures.0) (c.index-m.ensures ∙ c.get_u16-2.ensures.0) c.loop-c.invariant.0 (omega arith) c.loop-c.invariant.1)
+returns c = simp (sym c.claimed_length.ensures, le-ltb _ _ c.if-part-claimed_length.false) (writes_done _ _ c.get_u16-n.ensures.0 c.get_u16-m.ensures.0 c.loop-c.invariant.0 (omega arith) c.loop-c.invariant.1)

@@ -6,6 +6,3 @@ use Rattle.history.proofs.writes.Given as goal
 
 abbrev pub invariant-loop-c : goal.invariant-loop-c
 invariant-loop-c l = (l.c ≤ l.m) × (l.none ≡ none_to l.part l.n l.counter l.c)
-
-abbrev pub decreases-loop-c : goal.decreases-loop-c
-decreases-loop-c l = l.m - l.c

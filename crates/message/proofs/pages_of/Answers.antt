@@ -11,7 +11,7 @@ loop-i-init c = search rules
 
 pub loop-i-preserved : goal.loop-i-preserved
 unfolding pages_to
-loop-i-preserved c = (search rules, rw (add-one, c.page_bit-pages.ensures, c.wide.ensures.0, c.loop-i.invariant.1))
+loop-i-preserved c = (search rules, rw (add-one, c.page_bit-pages.ensures, c.from.ensures, c.loop-i.invariant.1))
 
 pub returns : goal.returns
 returns c = c.loop-i.invariant.1 ∙ ap (pages_to _ _) (omega arith)

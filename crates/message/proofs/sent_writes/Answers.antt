@@ -1,6 +1,5 @@
 -- `message::sent_writes` meets its contract.
-use native.Mathlib.Omega.{arith}
 use Rattle.message.proofs.sent_writes.Goals as goal
 
 pub returns : goal.returns
-returns c = (rw (c.index.ensures, c.get_u16.ensures.0, c.record_at.ensures.0), omega (arith, c.index.ensures, c.get_u16.ensures.1))
+returns c = (rw (c.get_u16.ensures.0, c.record_at.ensures.0), c.get_u16.ensures.1)

@@ -8,6 +8,3 @@ use Rattle.player.proofs.put_table.Given as goal
 
 abbrev pub invariant-loop-a : goal.invariant-loop-a
 invariant-loop-a l = (l.a ≤ 256) × (length l.output ≡ length l.initial.output) × (put l.output l.next ≡ counters_to l.sep l.values l.counts (put l.initial.output l.initial.next) l.a)
-
-abbrev pub decreases-loop-a : goal.decreases-loop-a
-decreases-loop-a l = 256 - l.a

@@ -25,4 +25,4 @@ pub bounds-out-7 : goal.bounds-out-7
 bounds-out-7 c = simp length-set (omega arith)
 
 pub returns : goal.returns
-returns c = rw (c.long.ensures, c.long-2.ensures, c.long-3.ensures, c.long-4.ensures, c.long-5.ensures, c.long-6.ensures)
+returns c = rw (c.from.ensures, c.from-2.ensures, c.from-3.ensures, c.from-4.ensures, c.from-5.ensures, c.from-6.ensures)

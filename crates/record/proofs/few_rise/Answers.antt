@@ -1,21 +1,12 @@
-use mathlib.Core.Path.{ap, ◌∙◌}
-use native.Mathlib.Numerals.{add-one}
-use native.Mathlib.Omega.{arith}
+-- `record::few_rise` meets its contract: all turns test all pairs (`few_rise`).
+use mathlib.Core.Path.{◌≡◌, ◌∙◌}
+use Prim.Native.Nat.{◌-◌}
 use borrow.Author.Rules.{rules}
 use Rattle.lists.specs.Tests.{all_to}
-use Rattle.record.specs.Few.{few_are, few_rise}
+use Rattle.record.specs.Few.{most_few, rise_in, few_are, few_rise}
 use Rattle.record.proofs.few_rise.Goals as goal
 
-pub loop-i-init : goal.loop-i-init
-unfolding all_to
-loop-i-init c = search rules
-
-pub rise_in-ok-requires : goal.rise_in-ok-requires
-rise_in-ok-requires c = omega (arith, few_are _ _ c.requires.1)
-
-pub loop-i-preserved : goal.loop-i-preserved
-unfolding all_to
-loop-i-preserved c = (search rules, rw add-one (cc))
-
 pub returns : goal.returns
-returns c = c.loop-i.invariant.1 ∙ ap (all_to _) (omega arith) ∙ few_rise _ _ _ (few_are _ _ c.requires.1)
+returns c =
+    let turns : c.all_of.result ≡ all_to (rise_in c.args.s.now c.args.a c.args.n) (most_few - 1) = search rules in
+    turns ∙ few_rise _ _ _ (few_are _ _ c.requires.1)

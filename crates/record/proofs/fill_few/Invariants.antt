@@ -1,5 +1,5 @@
 -- `record::fill_few` meets its contract. The loop's invariant: as many bytes as turns passed are copied.
-use Prim.Native.Nat.{◌≤◌, ◌-◌}
+use Prim.Native.Nat.{◌≤◌}
 use mathlib.Core.Path.{◌≡◌}
 use lib.ListN.{length}
 use Rattle.record.specs.Few.{few_entries}
@@ -8,6 +8,3 @@ use Rattle.record.proofs.fill_few.Given as goal
 
 abbrev pub invariant-loop-i : goal.invariant-loop-i
 invariant-loop-i l = (l.i ≤ few_entries) × (length l.to ≡ length l.from) × Copied l.to l.from l.i
-
-abbrev pub decreases-loop-i : goal.decreases-loop-i
-decreases-loop-i l = few_entries - l.i

@@ -4,9 +4,6 @@ use Rattle.record.specs.Few.{few_are}
 use Rattle.record.specs.Copies.{value_copied, copied_all}
 use Rattle.record.proofs.fill_few_values.Goals as goal
 
-pub loop-i-init : goal.loop-i-init
-loop-i-init c = (omega arith, omega arith, λ l lt in-from. absurd (omega arith))
-
 pub up_to-at-requires : goal.up_to-at-requires
 up_to-at-requires c = omega (arith, few_are _ _ c.requires.2)
 

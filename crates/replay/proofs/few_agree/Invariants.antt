@@ -1,5 +1,5 @@
 -- `replay::few_agree` meets its contract. The loop's invariant: the result so far is the test of all turns passed; all turns test all reads (`turns-agree`).
-use Prim.Native.Nat.{◌≤◌, ◌-◌}
+use Prim.Native.Nat.{◌≤◌}
 use mathlib.Core.Path.{◌≡◌}
 use Rattle.lists.specs.Tests.{all_to}
 use Rattle.record.specs.Few.{most_few}
@@ -8,6 +8,3 @@ use Rattle.replay.proofs.few_agree.Given as goal
 
 abbrev pub invariant-loop-i : goal.invariant-loop-i
 invariant-loop-i l = (l.i ≤ most_few) × (l.ok ≡ all_to (read_in_turn l.t l.values l.k l.n) l.i)
-
-abbrev pub decreases-loop-i : goal.decreases-loop-i
-decreases-loop-i l = most_few - l.i

@@ -1,5 +1,5 @@
 -- `replay::reads_agree` meets its contract. The loop's invariant: the result so far is the test of all reads passed.
-use Prim.Native.Nat.{◌≤◌, ◌-◌}
+use Prim.Native.Nat.{◌≤◌}
 use mathlib.Core.Path.{◌≡◌}
 use Rattle.replay.specs.Replay.{read_agrees}
 use Rattle.lists.specs.Tests.{all_to}
@@ -7,6 +7,3 @@ use Rattle.replay.proofs.reads_agree.Given as goal
 
 abbrev pub invariant-loop-i : goal.invariant-loop-i
 invariant-loop-i l = (l.i ≤ l.n) × (l.ok ≡ all_to (read_agrees l.t l.values l.k) l.i)
-
-abbrev pub decreases-loop-i : goal.decreases-loop-i
-decreases-loop-i l = l.n - l.i

@@ -1,12 +1,7 @@
 -- `server_accept::on_write` meets its contract.
 use Rattle.server_accept.specs.Facts.{arrivals_fit}
-use Rattle.server_actions.specs.Actions.{on_write_b, noticed_b}
 use borrow.Author.Rules.{rules}
 use Rattle.server_accept.proofs.on_write.Goals as goal
 
 pub join_write-requires : goal.join_write-requires
 join_write-requires c = let h = arrivals_fit _ _ _ c.requires.2 c.requires.5 c.noticed.ensures in search rules
-
-pub returns : goal.returns
-unfolding on_write_b noticed_b
-returns c = cc

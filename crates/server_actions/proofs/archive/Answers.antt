@@ -5,7 +5,7 @@ use borrow.Author.Rules.{rules}
 use Rattle.server_actions.proofs.archive.Goals as goal
 
 pub put_record-k-requires : goal.put_record-k-requires
-put_record-k-requires c = (search rules, search rules, search rules, search rules, archive_room _ _ _ _ c.last-n.ensures c.work-t.ensures (c.wide-kind.ensures.0 ∙ c.kind.ensures) c.requires.2, search rules, search rules)
+put_record-k-requires c = (search rules, search rules, search rules, search rules, archive_room _ _ _ _ c.last-n.ensures c.work-t.ensures (c.from-kind.ensures ∙ c.kind.ensures) c.requires.2, search rules, search rules)
 
 pub returns : goal.returns
-returns c = archive_chain _ _ _ _ c.last-n.ensures c.work-t.ensures (c.wide-kind.ensures.0 ∙ c.kind.ensures) c.put_record-k.ensures.0
+returns c = archive_chain _ _ _ _ c.last-n.ensures c.work-t.ensures (c.from-kind.ensures ∙ c.kind.ensures) c.put_record-k.ensures.0

@@ -1,4 +1,3 @@
-use mathlib.Core.Path.{◌≡◌}
 use native.Mathlib.Omega.{arith}
 use borrow.Author.Rules.{rules}
 use Rattle.server_actions.specs.Stores.{word_copied}
@@ -6,6 +5,3 @@ use Rattle.server_actions.proofs.copy_in.Goals as goal
 
 pub loop-k-preserved : goal.loop-k-preserved
 loop-k-preserved c = let a = c.args in (omega arith, search rules, word_copied a.s.now a.o.now a.from a.at c.loop-k.k (λ j. omega (arith, c.shared_slice_known-1.given j)) (omega arith) c.loop-k.invariant.2 (rw (← c.get_u64-v.ensures) c.put_u64.ensures))
-
-pub returns : goal.returns
-returns c = let all : c.loop-k.k ≡ c.args.words = omega arith in rw (← all) c.loop-k.invariant.2

@@ -7,6 +7,3 @@ use Rattle.server_actions.proofs.copy_in.Given as goal
 
 abbrev pub invariant-loop-k : goal.invariant-loop-k
 invariant-loop-k l = (l.k ≤ l.words) × (length l.o ≡ length l.initial.o) × (l.o ≡ sets l.initial.o l.at (take (l.k * 8) (drop l.from l.s)))
-
-abbrev pub decreases-loop-k : goal.decreases-loop-k
-decreases-loop-k l = l.words - l.k

@@ -8,6 +8,3 @@ use Rattle.server_changes.proofs.free_group.Given as goal
 
 abbrev pub invariant-loop-p : goal.invariant-loop-p
 invariant-loop-p l = (l.p ≤ 8) × (length l.s ≡ length l.initial.s) × (l.s ≡ run (free_page_b l.i) l.initial.s (l.g * 8) l.p)
-
-abbrev pub decreases-loop-p : goal.decreases-loop-p
-decreases-loop-p l = 8 - l.p

@@ -8,6 +8,3 @@ use Rattle.server_changes.proofs.free_on.Given as goal
 
 abbrev pub invariant-loop-o : goal.invariant-loop-o
 invariant-loop-o l = (l.o ≤ 8) × (length l.s ≡ length l.initial.s) × (l.s ≡ run (free_one_b l.i) l.initial.s (l.p * 8) l.o)
-
-abbrev pub decreases-loop-o : goal.decreases-loop-o
-decreases-loop-o l = 8 - l.o

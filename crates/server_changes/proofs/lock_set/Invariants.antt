@@ -7,6 +7,3 @@ use Rattle.server_changes.proofs.lock_set.Given as goal
 
 abbrev pub invariant-loop-o : goal.invariant-loop-o
 invariant-loop-o l = (l.o ≤ 8) × (length l.s ≡ length l.initial.s) × (l.s ≡ lock_to l.i l.p l.x l.initial.s l.o)
-
-abbrev pub decreases-loop-o : goal.decreases-loop-o
-decreases-loop-o l = 8 - l.o

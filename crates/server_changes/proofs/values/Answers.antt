@@ -6,10 +6,6 @@ use Rattle.station_state.specs.Runs.{run, run_group}
 use Rattle.server_changes.specs.Values.{values_run}
 use Rattle.server_changes.proofs.values.Goals as goal
 
-pub loop-g-init : goal.loop-g-init
-unfolding run
-loop-g-init c = search rules
-
 pub loop-g-preserved : goal.loop-g-preserved
 loop-g-preserved c = (search rules, search rules, run_group _ _ _ _ _ _ _ c.loop-g.invariant.2 c.values_in.ensures (omega arith) (omega arith))
 

@@ -8,6 +8,3 @@ use Rattle.server_changes.proofs.values.Given as goal
 
 abbrev pub invariant-loop-g : goal.invariant-loop-g
 invariant-loop-g l = (l.g ≤ 4) × (length l.s ≡ length l.initial.s) × (l.s ≡ run (value_one_b l.i l.n) l.initial.s 0 (l.g * 64))
-
-abbrev pub decreases-loop-g : goal.decreases-loop-g
-decreases-loop-g l = 4 - l.g

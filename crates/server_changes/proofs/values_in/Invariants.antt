@@ -8,8 +8,5 @@ use Rattle.server_changes.specs.Changes.{value_one_b}
 use Rattle.server_changes.specs.Values.{value_at_b}
 use Rattle.server_changes.proofs.values_in.Given as goal
 
-abbrev pub invariant-loop-x : goal.invariant-loop-x
-invariant-loop-x l = (length l.s ≡ length l.initial.s) × Leads (λ t b. value_at_b l.i l.n t (l.g * 64 + b)) 64 l.x l.s (run (value_one_b l.i l.n) l.initial.s (l.g * 64) 64)
-
-abbrev pub decreases-loop-x : goal.decreases-loop-x
-decreases-loop-x l = l.x
+abbrev pub invariant-loop-k : goal.invariant-loop-k
+invariant-loop-k l = (length l.s ≡ length l.initial.s) × Leads (λ t b. value_at_b l.i l.n t (l.g * 64 + b)) 64 l.k-iterator.left l.s (run (value_one_b l.i l.n) l.initial.s (l.g * 64) 64)

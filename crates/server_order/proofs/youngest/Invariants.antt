@@ -6,6 +6,3 @@ use Rattle.server_order.proofs.youngest.Given as goal
 
 abbrev pub invariant-loop-n : goal.invariant-loop-n
 invariant-loop-n l = (l.n ≤ 8) × (l.r ≤ 8) × (l.r ≡ youngest_to l.s (edges_to l.s 8) l.n)
-
-abbrev pub decreases-loop-n : goal.decreases-loop-n
-decreases-loop-n l = 8 - l.n

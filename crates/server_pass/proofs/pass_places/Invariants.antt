@@ -11,6 +11,3 @@ use Rattle.server_pass.proofs.pass_places.Given as goal
 
 abbrev pub invariant-loop-n : goal.invariant-loop-n
 invariant-loop-n l = (l.n ≤ 8) × (length l.s ≡ length l.initial.s) × (length l.o ≡ length l.initial.o) × (length l.q ≡ length l.initial.q) × (length l.e ≡ length l.initial.e) × Sane l.s × (posted l.s l.o l.q l.b ≡ post l.initial.o l.initial.q l.initial.b (pass_to l.l (from l.initial.s) l.n)) × Noted l.initial.s (pass_to l.l (from l.initial.s) l.n) l.e
-
-abbrev pub decreases-loop-n : goal.decreases-loop-n
-decreases-loop-n l = 8 - l.n

@@ -1,19 +1,12 @@
+-- `server_sets::listed_set` meets its contract.
 use mathlib.Core.Path.{ap, ◌∙◌}
 use native.Mathlib.Numerals.{add-one}
 use native.Mathlib.Omega.{arith}
 use borrow.Author.Rules.{rules}
 use Rattle.cells.specs.Loops.{mask_to}
-use Rattle.server_sets.specs.Sets.{listed_set}
+use Rattle.server_sets.specs.Sets.{listed_set, listed_b}
 use Rattle.server_sets.proofs.listed_set.Goals as goal
-
-pub loop-j-init : goal.loop-j-init
-unfolding mask_to
-loop-j-init c = search rules
-
-pub loop-j-preserved : goal.loop-j-preserved
-unfolding mask_to
-loop-j-preserved c = (search rules, rw add-one (cc))
 
 pub returns : goal.returns
 unfolding listed_set
-returns c = c.loop-j.invariant.1 ∙ ap (mask_to _) (omega arith)
+returns c = c.set_of.ensures (listed_b c.args.s.now c.args.d) (λ k r l p. search rules)

@@ -1,3 +1,5 @@
+-- `server_sets::lock_set` meets its contract.
+use Rattle.server_tests.specs.Tests.{lock_on_b}
 use mathlib.Core.Path.{sym, ap, ◌∙◌}
 use native.Mathlib.Numerals.{add-one}
 use native.Mathlib.Omega.{arith}
@@ -9,14 +11,6 @@ use Rattle.server_sets.proofs.lock_set.Goals as goal
 pub returns-then-not-any_lock : goal.returns-then-not-any_lock
 returns-then-not-any_lock c = sym (lock_none _ _ (sym c.any_lock.ensures ∙ c.if-not-any_lock.true))
 
-pub loop-j-init : goal.loop-j-init
-unfolding mask_to
-loop-j-init c = search rules
-
-pub loop-j-preserved : goal.loop-j-preserved
-unfolding mask_to
-loop-j-preserved c = (search rules, rw add-one (cc))
-
 pub returns : goal.returns
 unfolding lock_set
-returns c = c.loop-j.invariant.1 ∙ ap (mask_to _) (omega arith)
+returns c = c.set_of.ensures (λ j. lock_on_b c.args.s.now j c.args.p) (λ k r l p. search rules)

@@ -1,3 +1,5 @@
+-- `server_sets::locking_set` meets its contract.
+use Rattle.server_state.specs.Layout.{locking_b}
 use mathlib.Core.Path.{ap, ◌∙◌}
 use native.Mathlib.Numerals.{add-one}
 use native.Mathlib.Omega.{arith}
@@ -6,14 +8,6 @@ use Rattle.cells.specs.Loops.{mask_to}
 use Rattle.server_sets.specs.Sets.{locking_set}
 use Rattle.server_sets.proofs.locking_set.Goals as goal
 
-pub loop-j-init : goal.loop-j-init
-unfolding mask_to
-loop-j-init c = search rules
-
-pub loop-j-preserved : goal.loop-j-preserved
-unfolding mask_to
-loop-j-preserved c = (search rules, rw add-one (cc))
-
 pub returns : goal.returns
 unfolding locking_set
-returns c = c.loop-j.invariant.1 ∙ ap (mask_to _) (omega arith)
+returns c = c.set_of.ensures (locking_b c.args.s.now) (λ k r l p. search rules)

@@ -1,21 +1,11 @@
-use mathlib.Core.Path.{sym, ap, ◌∙◌}
-use native.Mathlib.Numerals.{add-one}
-use native.Mathlib.Omega.{arith}
+-- `server_state::ages_apart` meets its contract.
+use mathlib.Core.Path.{sym, ◌∙◌}
 use borrow.Author.Rules.{rules}
-use Rattle.lists.specs.Tests.{all_to}
-use Rattle.server_state.specs.Eights.{ages_idle}
+use Rattle.server_state.specs.Eights.{ages_idle, ages_at}
 use Rattle.server_state.proofs.ages_apart.Goals as goal
 
 pub returns-then-ageless_at : goal.returns-then-ageless_at
 returns-then-ageless_at c = ages_idle _ _ (sym c.ageless_at.ensures ∙ c.if-ageless_at.true)
 
-pub loop-j-init : goal.loop-j-init
-unfolding all_to
-loop-j-init c = search rules
-
-pub loop-j-preserved : goal.loop-j-preserved
-unfolding all_to
-loop-j-preserved c = (search rules, rw add-one (cc))
-
 pub returns : goal.returns
-returns c = c.loop-j.invariant.1 ∙ ap (all_to _) (omega arith)
+returns c = c.all_of.ensures (ages_at c.args.s.now c.args.i) (λ k r l p. search rules)

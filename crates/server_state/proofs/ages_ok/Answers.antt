@@ -1,17 +1,7 @@
-use mathlib.Core.Path.{ap, ◌∙◌}
-use native.Mathlib.Numerals.{add-one}
-use native.Mathlib.Omega.{arith}
+-- `server_state::ages_ok` meets its contract.
+use Rattle.server_state.specs.Valid.{aged_ok}
 use borrow.Author.Rules.{rules}
-use Rattle.lists.specs.Tests.{all_to}
 use Rattle.server_state.proofs.ages_ok.Goals as goal
 
-pub loop-i-init : goal.loop-i-init
-unfolding all_to
-loop-i-init c = search rules
-
-pub loop-i-preserved : goal.loop-i-preserved
-unfolding all_to
-loop-i-preserved c = (search rules, rw add-one (cc))
-
 pub returns : goal.returns
-returns c = c.loop-i.invariant.1 ∙ ap (all_to _) (omega arith)
+returns c = c.all_of.ensures (aged_ok c.args.s.now) (λ k r l p. search rules)

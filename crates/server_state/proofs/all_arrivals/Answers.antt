@@ -1,21 +1,12 @@
-use mathlib.Core.Path.{sym, ap, ◌∙◌}
-use native.Mathlib.Numerals.{add-one}
-use native.Mathlib.Omega.{arith}
+-- `server_state::all_arrivals` meets its contract.
+use mathlib.Core.Path.{sym, ◌∙◌}
 use borrow.Author.Rules.{rules}
-use Rattle.lists.specs.Tests.{all_to}
 use Rattle.server_state.specs.Eights.{arrivals_apart, none_arrived}
 use Rattle.server_state.proofs.all_arrivals.Goals as goal
 
 pub returns-then-wants-eq0 : goal.returns-then-wants-eq0
 returns-then-wants-eq0 c = none_arrived _ (sym c.get_u64-wants.ensures ∙ c.if-wants-eq0.true)
 
-pub loop-i-init : goal.loop-i-init
-unfolding all_to
-loop-i-init c = search rules
-
-pub loop-i-preserved : goal.loop-i-preserved
-unfolding all_to arrivals_apart
-loop-i-preserved c = (search rules, rw add-one (cc))
-
 pub returns : goal.returns
-returns c = c.loop-i.invariant.1 ∙ ap (all_to _) (omega arith)
+unfolding arrivals_apart
+returns c = c.all_of.ensures (arrivals_apart c.args.s.now) (λ k r l p. search rules)

@@ -4,10 +4,10 @@ use borrow.Author.Tests.{eq-eqb, ne_eqb}
 use Rattle.server_state.specs.Valid.{entry_ok}
 use Rattle.server_state.proofs.entry_ok.Goals as goal
 
-pub returns-then-want-eq0 : goal.returns-then-want-eq0
+pub returns-then-want : goal.returns-then-want
 unfolding entry_ok
-returns-then-want-eq0 c = simp (sym c.want.ensures, eq-eqb _ _ c.if-want-eq0.true, sym c.blank_ok.ensures)
+returns-then-want c = simp (sym c.want.ensures, eq-eqb _ _ c.if-want.true, sym c.blank_ok.ensures)
 
 pub returns : goal.returns
 unfolding entry_ok
-returns c = simp (sym c.want.ensures, ne_eqb _ _ c.if-want-eq0.false, sym c.waiter_ok.ensures)
+returns c = simp (sym c.want.ensures, ne_eqb _ _ c.if-want.false, sym c.waiter_ok.ensures)

@@ -20,4 +20,4 @@ put_kinds-requires c = (kinds_length _ (sym c.kinds_ok.ensures ∙ c.if-not-kind
 
 pub returns : goal.returns
 unfolding fresh_of
-returns c = simp (eq-eqb _ _ c.if-s-ne-LENGTH.false, sym c.kinds_ok.ensures, c.if-not-kinds_ok.false) (ap (λ l. freshened l 0) (fresh_stores _ c.args.s.now c.if-s-ne-LENGTH.false c.zero.ensures c.put_u64.ensures c.put_u64-2.ensures c.put_kinds.ensures))
+returns c = simp (eq-eqb _ _ c.if-s-ne-LENGTH.false, sym c.kinds_ok.ensures, c.if-not-kinds_ok.false) (ap (λ l. freshened l 0) (fresh_stores _ c.args.s.now c.if-s-ne-LENGTH.false (c.fill.ensures.after (λ y e. e)) c.put_u64.ensures c.put_u64-2.ensures c.put_kinds.ensures))

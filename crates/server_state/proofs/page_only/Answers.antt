@@ -1,19 +1,8 @@
-use mathlib.Core.Path.{ap, ◌∙◌}
-use native.Mathlib.Numerals.{add-one}
-use native.Mathlib.Omega.{arith}
+-- `server_state::page_only` meets its contract.
 use borrow.Author.Rules.{rules}
-use Rattle.lists.specs.Tests.{all_to}
-use Rattle.server_state.specs.Valid.{page_only}
+use Rattle.server_state.specs.Valid.{page_only, page_only_at}
 use Rattle.server_state.proofs.page_only.Goals as goal
-
-pub loop-q-init : goal.loop-q-init
-unfolding all_to
-loop-q-init c = search rules
-
-pub loop-q-preserved : goal.loop-q-preserved
-unfolding all_to
-loop-q-preserved c = (search rules, rw add-one (cc))
 
 pub returns : goal.returns
 unfolding page_only
-returns c = c.loop-q.invariant.1 ∙ ap (all_to _) (omega arith)
+returns c = c.all_of.ensures (page_only_at c.args.s.now c.args.at c.args.p) (λ k r l p. search rules)

@@ -8,10 +8,10 @@ pub returns-then-not-locking : goal.returns-then-not-locking
 unfolding request_ok
 returns-then-not-locking c = simp (sym c.locking.ensures, c.if-not-locking.true)
 
-pub returns-then-want-eq1 : goal.returns-then-want-eq1
+pub returns-then-want : goal.returns-then-want
 unfolding request_ok
-returns-then-want-eq1 c = simp (sym c.locking.ensures, c.if-not-locking.false, sym c.want.ensures, eq-eqb _ _ c.if-want-eq1.true, sym c.request-a.ensures, sym c.only_in.ensures, sym c.none_in.ensures)
+returns-then-want c = simp (sym c.locking.ensures, c.if-not-locking.false, sym c.want.ensures, eq-eqb _ _ c.if-want.true, sym c.request-a.ensures, sym c.only_in.ensures, sym c.none_in.ensures)
 
 pub returns : goal.returns
 unfolding request_ok
-returns c = simp (sym c.locking.ensures, c.if-not-locking.false, sym c.want.ensures, ne_eqb _ _ c.if-want-eq1.false) c.write_ok.ensures
+returns c = simp (sym c.locking.ensures, c.if-not-locking.false, sym c.want.ensures, ne_eqb _ _ c.if-want.false) c.write_ok.ensures

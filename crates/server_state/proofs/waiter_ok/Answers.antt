@@ -12,10 +12,10 @@ pub returns-then-arrival-next_arrival : goal.returns-then-arrival-next_arrival
 unfolding waiter_ok
 returns-then-arrival-next_arrival c = simp (sym c.unfinished.ensures, ne_eqb _ _ c.if-unfinished-eq0.false, sym c.arrival.ensures, sym c.next_arrival.ensures, le-ltb _ _ c.if-arrival-next_arrival.true)
 
-pub returns-then-want-eq3 : goal.returns-then-want-eq3
+pub returns-then-want : goal.returns-then-want
 unfolding waiter_ok
-returns-then-want-eq3 c = simp (sym c.unfinished.ensures, ne_eqb _ _ c.if-unfinished-eq0.false, sym c.arrival.ensures, sym c.next_arrival.ensures, lt-ltb _ _ c.if-arrival-next_arrival.false, sym c.want.ensures, eq-eqb _ _ c.if-want-eq3.true, sym c.commit_ok.ensures)
+returns-then-want c = simp (sym c.unfinished.ensures, ne_eqb _ _ c.if-unfinished-eq0.false, sym c.arrival.ensures, sym c.next_arrival.ensures, lt-ltb _ _ c.if-arrival-next_arrival.false, sym c.want.ensures, eq-eqb _ _ c.if-want.true, sym c.commit_ok.ensures)
 
 pub returns : goal.returns
 unfolding waiter_ok
-returns c = simp (sym c.unfinished.ensures, ne_eqb _ _ c.if-unfinished-eq0.false, sym c.arrival.ensures, sym c.next_arrival.ensures, lt-ltb _ _ c.if-arrival-next_arrival.false, sym c.want.ensures, ne_eqb _ _ c.if-want-eq3.false, sym c.request_ok.ensures)
+returns c = simp (sym c.unfinished.ensures, ne_eqb _ _ c.if-unfinished-eq0.false, sym c.arrival.ensures, sym c.next_arrival.ensures, lt-ltb _ _ c.if-arrival-next_arrival.false, sym c.want.ensures, ne_eqb _ _ c.if-want.false, sym c.request_ok.ensures)

@@ -5,14 +5,14 @@ use Rattle.server_tests.specs.Tests.{earlier_b}
 use Rattle.server_tests.specs.Alone.{ahead_at}
 use Rattle.server_tests.proofs.ahead_at.Goals as goal
 
-pub returns-then-want-eq0 : goal.returns-then-want-eq0
+pub returns-then-want : goal.returns-then-want
 unfolding ahead_at earlier_b
-returns-then-want-eq0 c = simp (sym c.want.ensures, eq-eqb _ _ c.if-want-eq0.true)
+returns-then-want c = simp (sym c.want.ensures, eq-eqb _ _ c.if-want.true)
 
 pub returns-then-arrival : goal.returns-then-arrival
 unfolding ahead_at earlier_b
-returns-then-arrival c = simp (sym c.want.ensures, ne_eqb _ _ c.if-want-eq0.false, sym c.arrival.ensures, sym c.arrival-2.ensures, le-ltb _ _ c.if-arrival.true)
+returns-then-arrival c = simp (sym c.want.ensures, ne_eqb _ _ c.if-want.false, sym c.arrival.ensures, sym c.arrival-2.ensures, le-ltb _ _ c.if-arrival.true)
 
 pub returns : goal.returns
 unfolding ahead_at earlier_b
-returns c = simp (sym c.want.ensures, ne_eqb _ _ c.if-want-eq0.false, sym c.arrival.ensures, sym c.arrival-2.ensures, lt-ltb _ _ c.if-arrival.false, sym c.meet_on.ensures)
+returns c = simp (sym c.want.ensures, ne_eqb _ _ c.if-want.false, sym c.arrival.ensures, sym c.arrival-2.ensures, lt-ltb _ _ c.if-arrival.false, sym c.meet_on.ensures)

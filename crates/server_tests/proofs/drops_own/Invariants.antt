@@ -4,8 +4,5 @@ use Rattle.server_tests.specs.Tests.{drops_locked_b}
 use Rattle.server_tests.specs.Members.{LeftB}
 use Rattle.server_tests.proofs.drops_own.Given as goal
 
-abbrev pub invariant-loop-x : goal.invariant-loop-x
-invariant-loop-x l = (l.x < 2 ^ 32) × LeftB 32 (drops_locked_b l.s l.i l.d) l.x l.r
-
-abbrev pub decreases-loop-x : goal.decreases-loop-x
-decreases-loop-x l = l.x
+abbrev pub invariant-loop-p : goal.invariant-loop-p
+invariant-loop-p l = (l.p-iterator.left < 2 ^ 32) × LeftB 32 (drops_locked_b l.s l.i l.d) l.p-iterator.left l.r

@@ -1,22 +1,13 @@
-use mathlib.Core.Path.{sym, ap, ◌∙◌}
-use native.Mathlib.Numerals.{add-one}
-use native.Mathlib.Omega.{arith}
+-- `server_tests::holders_in` meets its contract.
+use mathlib.Core.Path.{sym, ◌∙◌}
 use borrow.Author.Rules.{rules}
-use Rattle.server_tests.specs.Blockers.{join_to}
-use Rattle.server_tests.specs.Groups.{holders_in, holders_idle}
+use Rattle.server_tests.specs.Blockers.{holders_on}
+use Rattle.server_tests.specs.Groups.{holders_in, holders_idle, in_group}
 use Rattle.server_tests.proofs.holders_in.Goals as goal
 
 pub returns-then-idle_in : goal.returns-then-idle_in
 returns-then-idle_in c = holders_idle _ _ _ (sym c.idle_in.ensures ∙ c.if-idle_in.true)
 
-pub loop-p-init : goal.loop-p-init
-unfolding join_to
-loop-p-init c = search rules
-
-pub loop-p-preserved : goal.loop-p-preserved
-unfolding join_to
-loop-p-preserved c = (search rules, rw add-one (cc))
-
 pub returns : goal.returns
 unfolding holders_in
-returns c = c.loop-p.invariant.1 ∙ ap (join_to _) (omega arith)
+returns c = c.join_of.ensures (in_group (holders_on c.args.s.now c.args.i) c.args.g) (λ k r l p. search rules)

@@ -4,8 +4,5 @@ use Rattle.server_tests.specs.Blockers.{holder_at}
 use Rattle.server_tests.specs.Members.{Left}
 use Rattle.server_tests.proofs.holders_on.Given as goal
 
-abbrev pub invariant-loop-x : goal.invariant-loop-x
-invariant-loop-x l = (l.x < 256) × (l.d < 256) × Left (holder_at l.s l.i l.p) l.x l.d
-
-abbrev pub decreases-loop-x : goal.decreases-loop-x
-decreases-loop-x l = l.x
+abbrev pub invariant-loop-o : goal.invariant-loop-o
+invariant-loop-o l = (l.o-iterator.left < 256) × (l.d < 256) × Left (holder_at l.s l.i l.p) l.o-iterator.left l.d

@@ -1,18 +1,8 @@
-use mathlib.Core.Path.{ap, ◌∙◌}
-use native.Mathlib.Numerals.{add-one}
-use native.Mathlib.Omega.{arith}
+-- `server_tests::locked` meets its contract.
+use mathlib.Core.Path.{◌∙◌}
 use borrow.Author.Rules.{rules}
-use Rattle.cells.specs.Loops.{any_to}
-use Rattle.server_tests.specs.Groups.{locked_all}
+use Rattle.server_tests.specs.Groups.{locked_all, locked_in}
 use Rattle.server_tests.proofs.locked.Goals as goal
 
-pub loop-g-init : goal.loop-g-init
-unfolding any_to
-loop-g-init c = search rules
-
-pub loop-g-preserved : goal.loop-g-preserved
-unfolding any_to
-loop-g-preserved c = (search rules, rw add-one (cc))
-
 pub returns : goal.returns
-returns c = c.loop-g.invariant.1 ∙ ap (any_to _) (omega arith) ∙ locked_all _ _
+returns c = c.any_of.ensures (locked_in c.args.s.now c.args.i) (λ k r l p. search rules) ∙ locked_all _ _

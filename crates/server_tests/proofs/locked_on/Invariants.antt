@@ -4,8 +4,5 @@ use Rattle.server_tests.specs.Tests.{locked_at_b}
 use Rattle.server_tests.specs.Members.{LeftB}
 use Rattle.server_tests.proofs.locked_on.Given as goal
 
-abbrev pub invariant-loop-x : goal.invariant-loop-x
-invariant-loop-x l = (l.x < 256) × LeftB 8 (locked_at_b l.s l.i l.p) l.x l.r
-
-abbrev pub decreases-loop-x : goal.decreases-loop-x
-decreases-loop-x l = l.x
+abbrev pub invariant-loop-o : goal.invariant-loop-o
+invariant-loop-o l = (l.o-iterator.left < 256) × LeftB 8 (locked_at_b l.s l.i l.p) l.o-iterator.left l.r

@@ -1,18 +1,8 @@
-use mathlib.Core.Path.{ap, ◌∙◌}
-use native.Mathlib.Numerals.{add-one}
-use native.Mathlib.Omega.{arith}
+-- `server_tests::meet` meets its contract.
 use borrow.Author.Rules.{rules}
-use Rattle.server_tests.specs.Blockers.{join_to, meet_set}
+use Rattle.server_tests.specs.Blockers.{meet_set, meet_on}
 use Rattle.server_tests.proofs.meet.Goals as goal
-
-pub loop-p-init : goal.loop-p-init
-unfolding join_to
-loop-p-init c = search rules
-
-pub loop-p-preserved : goal.loop-p-preserved
-unfolding join_to
-loop-p-preserved c = (search rules, rw add-one (cc))
 
 pub returns : goal.returns
 unfolding meet_set
-returns c = c.loop-p.invariant.1 ∙ ap (join_to _) (omega arith)
+returns c = c.join_of.ensures (meet_on c.args.s.now c.args.i c.args.j) (λ k r l p. search rules)

@@ -5,6 +5,3 @@ use Rattle.server_tests.proofs.page_alone.Goals as goal
 
 pub returns-then-elsewhere : goal.returns-then-elsewhere
 returns-then-elsewhere c = (search rules, alone_none _ _)
-
-pub returns : goal.returns
-returns c = (search rules, c.elsewhere.ensures c.if-elsewhere.false)

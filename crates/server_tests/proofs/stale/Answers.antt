@@ -1,18 +1,8 @@
-use mathlib.Core.Path.{ap, ◌∙◌}
-use native.Mathlib.Numerals.{add-one}
-use native.Mathlib.Omega.{arith}
+-- `server_tests::stale` meets its contract.
+use mathlib.Core.Path.{◌∙◌}
 use borrow.Author.Rules.{rules}
-use Rattle.cells.specs.Loops.{any_to}
-use Rattle.server_tests.specs.Groups.{stale_all}
+use Rattle.server_tests.specs.Groups.{stale_all, stale_in}
 use Rattle.server_tests.proofs.stale.Goals as goal
 
-pub loop-g-init : goal.loop-g-init
-unfolding any_to
-loop-g-init c = search rules
-
-pub loop-g-preserved : goal.loop-g-preserved
-unfolding any_to
-loop-g-preserved c = (search rules, rw add-one (cc))
-
 pub returns : goal.returns
-returns c = c.loop-g.invariant.1 ∙ ap (any_to _) (omega arith) ∙ stale_all _ _
+returns c = c.any_of.ensures (stale_in c.args.s.now c.args.i) (λ k r l p. search rules) ∙ stale_all _ _

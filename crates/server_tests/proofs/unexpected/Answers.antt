@@ -1,48 +1,49 @@
 -- `server_tests::unexpected` meets its contract.
 use mathlib.Core.Path.{sym, ◌∙◌}
 use Rattle.server_tests.specs.Tests.{unexpected_b}
-use Rattle.server_tests.specs.Kinds.{no_other}
 use native.Mathlib.Omega.{arith}
 use borrow.Author.Rules.{rules}
 use Rattle.server_tests.proofs.unexpected.Goals as goal
 
 pub unlocked-requires : goal.unlocked-requires
-unlocked-requires c = let p = c.requires.4 (sym c.kind.ensures ∙ c.in-3.is) in (search rules, search rules, p.0, p.1)
+unlocked-requires c =
+    let e = rw c.in-Ok-Commit.field-0-is at c.in-Ok-Commit.ensures in
+    let p = c.requires.4 (sym c.kind.ensures ∙ sym e) in
+    (search rules, search rules, p.0, p.1)
 
 pub lock_on-requires : goal.lock_on-requires
-lock_on-requires c = (search rules, search rules, omega (arith, c.requires.5 (sym c.kind.ensures ∙ c.in-5.is), c.page.ensures))
+lock_on-requires c =
+    let e = rw c.in-Ok-Purge.field-0-is at c.in-Ok-Purge.ensures in
+    (search rules, search rules, omega (arith, c.requires.5 (sym c.kind.ensures ∙ sym e), c.page.ensures))
 
-pub returns-in-1 : goal.returns-in-1
+pub returns-in-Ok-Read : goal.returns-in-Ok-Read
 unfolding unexpected_b
-returns-in-1 c = rw (← c.kind.ensures, c.in-1.is) (cc)
+returns-in-Ok-Read c = let e = rw c.in-Ok-Read.field-0-is at c.in-Ok-Read.ensures in rw (← c.kind.ensures, ← e) (cc)
 
-pub returns-in-2 : goal.returns-in-2
+pub returns-in-Ok-Write : goal.returns-in-Ok-Write
 unfolding unexpected_b
-returns-in-2 c = rw (← c.kind.ensures, c.in-2.is) (cc)
+returns-in-Ok-Write c = let e = rw c.in-Ok-Write.field-0-is at c.in-Ok-Write.ensures in rw (← c.kind.ensures, ← e) (cc)
 
-pub returns-in-3 : goal.returns-in-3
+pub returns-in-Ok-Commit : goal.returns-in-Ok-Commit
 unfolding unexpected_b
-returns-in-3 c = rw (← c.kind.ensures, c.in-3.is) (cc)
+returns-in-Ok-Commit c = let e = rw c.in-Ok-Commit.field-0-is at c.in-Ok-Commit.ensures in rw (← c.kind.ensures, ← e) (cc)
 
-pub returns-in-4 : goal.returns-in-4
+pub returns-in-Ok-Abort : goal.returns-in-Ok-Abort
 unfolding unexpected_b
-returns-in-4 c = rw (← c.kind.ensures, c.in-4.is) (cc)
+returns-in-Ok-Abort c = let e = rw c.in-Ok-Abort.field-0-is at c.in-Ok-Abort.ensures in rw (← c.kind.ensures, ← e) (cc)
 
-pub returns-in-5 : goal.returns-in-5
+pub returns-in-Ok-Purge : goal.returns-in-Ok-Purge
 unfolding unexpected_b
-returns-in-5 c = rw (← c.kind.ensures, c.in-5.is) (cc)
+returns-in-Ok-Purge c = let e = rw c.in-Ok-Purge.field-0-is at c.in-Ok-Purge.ensures in rw (← c.kind.ensures, ← e) (cc)
 
-pub returns-in-6 : goal.returns-in-6
+pub returns-in-Ok-Busy : goal.returns-in-Ok-Busy
 unfolding unexpected_b
-returns-in-6 c = rw (← c.kind.ensures, c.in-6.is) (cc)
+returns-in-Ok-Busy c = let e = rw c.in-Ok-Busy.field-0-is at c.in-Ok-Busy.ensures in rw (← c.kind.ensures, ← e) (cc)
 
-pub returns-in-7 : goal.returns-in-7
+pub returns-in-Ok-Done : goal.returns-in-Ok-Done
 unfolding unexpected_b
-returns-in-7 c = rw (← c.kind.ensures, c.in-7.is) (cc)
+returns-in-Ok-Done c = let e = rw c.in-Ok-Done.field-0-is at c.in-Ok-Done.ensures in rw (← c.kind.ensures, ← e) (cc)
 
-pub returns-in-8 : goal.returns-in-8
+pub returns-in-Ok-WrittenSet : goal.returns-in-Ok-WrittenSet
 unfolding unexpected_b
-returns-in-8 c = rw (← c.kind.ensures, c.in-8.is) (cc)
-
-pub returns-in_default : goal.returns-in_default
-returns-in_default c = let r = c.in_default.in_default-own.rest in absurd (no_other c.kind.result (rw c.kind.ensures c.requires.3) r.0.0.0.0.0.0.0.1 r.0.0.0.0.0.0.1 r.0.0.0.0.0.1 r.0.0.0.0.1 r.0.0.0.1 r.0.0.1 r.0.1 r.1)
+returns-in-Ok-WrittenSet c = let e = rw c.in-Ok-WrittenSet.field-0-is at c.in-Ok-WrittenSet.ensures in rw (← c.kind.ensures, ← e) (cc)

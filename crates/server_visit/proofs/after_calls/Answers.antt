@@ -13,16 +13,16 @@ returns-then-pend-ne0 c = no_post _ _ _ _ _ _ (ne_eqb _ _ (λ e. c.if-pend-ne0.t
 
 pub grant-requires : goal.grant-requires
 unfolding after_calls_b
-grant-requires c = (search rules, search rules, yes_room _ _ _ _ _ _ (eq-eqb _ _ c.if-w-eq2.true) (yes_room _ _ _ _ _ _ (eq-eqb _ _ (sym c.pend.ensures ∙ c.if-pend-ne0.false)) c.requires.3))
+grant-requires c = (search rules, search rules, yes_room _ _ _ _ _ _ (eq-eqb _ _ c.if-w.true) (yes_room _ _ _ _ _ _ (eq-eqb _ _ (sym c.pend.ensures ∙ c.if-pend-ne0.false)) c.requires.3))
 
-pub returns-then-w-eq2 : goal.returns-then-w-eq2
+pub returns-then-w : goal.returns-then-w
 unfolding after_calls_b
-returns-then-w-eq2 c = yes_post _ _ _ _ _ _ (eq-eqb _ _ (sym c.pend.ensures ∙ c.if-pend-ne0.false)) (yes_post _ _ _ _ _ _ (eq-eqb _ _ c.if-w-eq2.true) c.grant.ensures)
+returns-then-w c = yes_post _ _ _ _ _ _ (eq-eqb _ _ (sym c.pend.ensures ∙ c.if-pend-ne0.false)) (yes_post _ _ _ _ _ _ (eq-eqb _ _ c.if-w.true) c.grant.ensures)
 
 pub install-requires : goal.install-requires
 unfolding after_calls_b
-install-requires c = (search rules, search rules, c.requires.2 c.if-w-eq2.false, no_room _ _ _ _ _ _ (ne_eqb _ _ c.if-w-eq2.false) (yes_room _ _ _ _ _ _ (eq-eqb _ _ (sym c.pend.ensures ∙ c.if-pend-ne0.false)) c.requires.3))
+install-requires c = (search rules, search rules, c.requires.2 c.if-w.false, no_room _ _ _ _ _ _ (ne_eqb _ _ c.if-w.false) (yes_room _ _ _ _ _ _ (eq-eqb _ _ (sym c.pend.ensures ∙ c.if-pend-ne0.false)) c.requires.3))
 
 pub returns : goal.returns
 unfolding after_calls_b
-returns c = yes_post _ _ _ _ _ _ (eq-eqb _ _ (sym c.pend.ensures ∙ c.if-pend-ne0.false)) (no_post _ _ _ _ _ _ (ne_eqb _ _ c.if-w-eq2.false) c.install.ensures)
+returns c = yes_post _ _ _ _ _ _ (eq-eqb _ _ (sym c.pend.ensures ∙ c.if-pend-ne0.false)) (no_post _ _ _ _ _ _ (ne_eqb _ _ c.if-w.false) c.install.ensures)

@@ -1,6 +1,5 @@
-use native.Mathlib.Omega.{arith}
 use borrow.Author.Rules.{rules}
-use Rattle.server_actions.specs.Posting.{turn_none, turn_room, turn_posted, turn_end}
+use Rattle.server_actions.specs.Posting.{turn_none, turn_room, turn_posted}
 use Rattle.server_actions.specs.Parts.{turns_asks}
 use Rattle.server_visit.specs.Visits.{ask_keeps}
 use Rattle.server_visit.proofs.ask_all.Goals as goal
@@ -13,6 +12,3 @@ ask-e-requires c = (search rules, search rules, search rules, c.loop-p.invariant
 
 pub loop-p-preserved : goal.loop-p-preserved
 loop-p-preserved c = (search rules, search rules, search rules, search rules, ask_keeps _ _ _ _ _ _ _ c.ask-e.ensures c.loop-p.invariant.4, turn_posted (turns_asks _ _) _ _ _ _ 32 _ c.loop-p.invariant.5 c.ask-e.ensures)
-
-pub returns : goal.returns
-returns c = turn_end (turns_asks _ _) _ _ _ _ 32 _ c.loop-p.invariant.5 (omega arith)

@@ -9,6 +9,3 @@ use Rattle.server_visit.proofs.ask_all.Given as goal
 
 abbrev pub invariant-loop-p : goal.invariant-loop-p
 invariant-loop-p l = (l.p ≤ 32) × (length l.s ≡ length l.initial.s) × (length l.o ≡ length l.initial.o) × (length l.q ≡ length l.initial.q) × Held l.s × (posted l.s l.o l.q l.b ≡ post l.initial.o l.initial.q l.initial.b (ask_to l.kept l.i (from l.initial.s) l.p))
-
-abbrev pub decreases-loop-p : goal.decreases-loop-p
-decreases-loop-p l = 32 - l.p

@@ -1,6 +1,5 @@
-use native.Mathlib.Omega.{arith}
 use borrow.Author.Rules.{rules}
-use Rattle.server_actions.specs.Posting.{turn_none, turn_room, turn_posted, turn_end}
+use Rattle.server_actions.specs.Posting.{turn_none, turn_room, turn_posted}
 use Rattle.server_actions.specs.Parts.{turns_calls}
 use Rattle.server_visit.proofs.call_all.Goals as goal
 
@@ -12,6 +11,3 @@ call_one-e-requires c = (search rules, search rules, search rules, turn_room (tu
 
 pub loop-j-preserved : goal.loop-j-preserved
 loop-j-preserved c = (search rules, search rules, search rules, turn_posted (turns_calls _ _ _) _ _ _ _ 8 _ c.loop-j.invariant.3 c.call_one-e.ensures)
-
-pub returns : goal.returns
-returns c = turn_end (turns_calls _ _ _) _ _ _ _ 8 _ c.loop-j.invariant.3 (omega arith)

@@ -8,6 +8,3 @@ use Rattle.server_visit.proofs.call_all.Given as goal
 
 abbrev pub invariant-loop-j : goal.invariant-loop-j
 invariant-loop-j l = (l.j ≤ 8) × (length l.o ≡ length l.initial.o) × (length l.q ≡ length l.initial.q) × (posted l.s l.o l.q l.b ≡ post l.initial.o l.initial.q l.initial.b (call_to l.i l.d l.s (from l.s) l.j))
-
-abbrev pub decreases-loop-j : goal.decreases-loop-j
-decreases-loop-j l = 8 - l.j

@@ -7,17 +7,17 @@ use Rattle.server_visit.proofs.proceed.Goals as goal
 
 pub serve_read-requires : goal.serve_read-requires
 unfolding proceed_b
-serve_read-requires c = (search rules, search rules, yes_room _ _ _ _ _ _ (eq-eqb _ _ c.if-w-eq1.true) c.requires.3)
+serve_read-requires c = (search rules, search rules, yes_room _ _ _ _ _ _ (eq-eqb _ _ c.if-w.true) c.requires.3)
 
-pub returns-then-w-eq1 : goal.returns-then-w-eq1
+pub returns-then-w : goal.returns-then-w
 unfolding proceed_b
-returns-then-w-eq1 c = yes_post _ _ _ _ _ _ (eq-eqb _ _ c.if-w-eq1.true) c.serve_read.ensures
+returns-then-w c = yes_post _ _ _ _ _ _ (eq-eqb _ _ c.if-w.true) c.serve_read.ensures
 
 pub call_once-b-requires : goal.call_once-b-requires
-call_once-b-requires c = (search rules, search rules, proceed_first _ _ _ _ _ _ c.if-w-eq1.false c.requires.3)
+call_once-b-requires c = (search rules, search rules, proceed_first _ _ _ _ _ _ c.if-w.false c.requires.3)
 
 pub after_calls-requires : goal.after_calls-requires
-after_calls-requires c = (search rules, search rules, λ n. rw (once_last _ _ _ _ _ c.call_once-b.ensures) (c.requires.2 c.if-w-eq1.false n), proceed_next _ _ _ _ _ _ c.if-w-eq1.false c.call_once-b.ensures c.requires.3)
+after_calls-requires c = (search rules, search rules, λ n. rw (once_last _ _ _ _ _ c.call_once-b.ensures) (c.requires.2 c.if-w.false n), proceed_next _ _ _ _ _ _ c.if-w.false c.call_once-b.ensures c.requires.3)
 
 pub returns : goal.returns
-returns c = proceed_chain _ _ _ _ _ _ c.if-w-eq1.false c.call_once-b.ensures c.after_calls.ensures
+returns c = proceed_chain _ _ _ _ _ _ c.if-w.false c.call_once-b.ensures c.after_calls.ensures

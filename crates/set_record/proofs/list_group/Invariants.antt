@@ -3,12 +3,7 @@ use Prim.Native.Nat.{◌*◌}
 use mathlib.Core.Path.{◌≡◌}
 use lib.ListN.{length}
 use Rattle.set_record.specs.Spans.{Scanned}
-use Rattle.set_record.proofs.list_group.Reads as reads
-use Rattle.set_record.proofs.list_group.Lts as lts
 use Rattle.set_record.proofs.list_group.Given as goal
 
-abbrev pub invariant-loop-x : goal.invariant-loop-x
-invariant-loop-x l = (length l.list ≡ length l.initial.list) × Scanned l.initial.list l.s l.at l.i (l.g * 64) l.x l.list l.j
-
-abbrev pub decreases-loop-x : goal.decreases-loop-x
-decreases-loop-x l = l.x
+abbrev pub invariant-loop-k : goal.invariant-loop-k
+invariant-loop-k l = (length l.list ≡ length l.initial.list) × Scanned l.initial.list l.s l.at l.i (l.g * 64) l.k-iterator.left l.list l.j

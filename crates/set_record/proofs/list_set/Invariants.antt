@@ -9,6 +9,3 @@ use Rattle.set_record.proofs.list_set.Given as goal
 
 abbrev pub invariant-loop-g : goal.invariant-loop-g
 invariant-loop-g l = (l.g ≤ 4) × (length l.list ≡ length l.initial.list) × (l.j ≡ l.i + rank (member l.s l.at) (l.g * 64)) × (l.list ≡ entries_to l.initial.list l.s l.at l.i (l.g * 64))
-
-abbrev pub decreases-loop-g : goal.decreases-loop-g
-decreases-loop-g l = 4 - l.g

@@ -9,6 +9,3 @@ use Rattle.set_record.proofs.put_values.Given as goal
 
 abbrev pub invariant-loop-c : goal.invariant-loop-c
 invariant-loop-c l = (l.c ≤ l.n) × (length l.part ≡ length l.initial.part) × (l.part ≡ sets l.initial.part (l.i * value_length) (values_for l.s l.values (take l.c l.addresses)))
-
-abbrev pub decreases-loop-c : goal.decreases-loop-c
-decreases-loop-c l = l.n - l.c

@@ -8,6 +8,3 @@ use Rattle.station_callbacks.proofs.do_all_kept.Given as goal
 
 abbrev pub invariant-loop-r : goal.invariant-loop-r
 invariant-loop-r l = (l.r ≤ 8) × Room l.i l.n l.r l.k × (length l.s ≡ length l.initial.s) × (length l.o ≡ length l.initial.o) × (posted l.s l.o l.k ≡ kept_posted_to l.i l.initial.s l.initial.o l.n l.r)
-
-abbrev pub decreases-loop-r : goal.decreases-loop-r
-decreases-loop-r l = 8 - l.r

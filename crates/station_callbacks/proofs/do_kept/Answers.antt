@@ -1,17 +1,8 @@
 -- `station_callbacks::do_kept` meets its contract.
 use mathlib.Core.Path.{sym, ◌∙◌}
-use Rattle.station_callbacks.specs.Callbacks.{kept_posted}
 use Rattle.station_callbacks.specs.Posting.{kept_other}
 use borrow.Author.Rules.{rules}
 use Rattle.station_callbacks.proofs.do_kept.Goals as goal
 
-pub returns-then-not_kept : goal.returns-then-not_kept
-unfolding kept_posted
-returns-then-not_kept c = simp (sym c.not_kept.ensures, c.if-not_kept.true)
-
 pub do_callback-requires : goal.do_callback-requires
 do_callback-requires c = (search rules, c.requires.1 (kept_other _ _ _ (sym c.not_kept.ensures ∙ c.if-not_kept.false)), search rules)
-
-pub returns : goal.returns
-unfolding kept_posted
-returns c = simp (sym c.not_kept.ensures, c.if-not_kept.false, sym c.kept-t.ensures, sym c.sets_at-x.ensures, sym c.unkeep.ensures) c.do_callback.ensures

@@ -18,10 +18,10 @@ pub overflow_add-at : goal.overflow_add-at
 overflow_add-at c = let front = commit_parts c.args.s.now _ c.requires.1 in omega (arith, front, c.put_versions-k.ensures.1)
 
 pub put_record-requires : goal.put_record-requires
-put_record-requires c = let fits = record_fits _ _ c.number-t.ensures (c.wide-station.ensures.0 ∙ c.station-2.ensures) (c.wide-kind.ensures.0 ∙ c.kind.ensures) c.put_versions-k.ensures.1 c.requires.1 in (search rules, search rules, search rules, search rules, omega (arith, fits), search rules, search rules)
+put_record-requires c = let fits = record_fits _ _ c.number-t.ensures (c.from-station.ensures ∙ c.station-2.ensures) (c.from-kind.ensures ∙ c.kind.ensures) c.put_versions-k.ensures.1 c.requires.1 in (search rules, search rules, search rules, search rules, omega (arith, fits), search rules, search rules)
 
 pub overflow_add-result : goal.overflow_add-result
 overflow_add-result c = let front = commit_parts c.args.s.now _ c.requires.1 in omega (arith, front, c.put_versions-k.ensures.1)
 
 pub returns : goal.returns
-returns c = commit_filled_lem _ _ c.number-t.ensures c.used_pages.ensures (c.wide-station.ensures.0 ∙ c.station-2.ensures) (c.wide-kind.ensures.0 ∙ c.kind.ensures) (rw (sym c.station.ensures) c.put_up.ensures) c.put_versions-k.ensures c.put_record.ensures.0
+returns c = commit_filled_lem _ _ c.number-t.ensures c.used_pages.ensures (c.from-station.ensures ∙ c.station-2.ensures) (c.from-kind.ensures ∙ c.kind.ensures) (rw (sym c.station.ensures) c.put_up.ensures) c.put_versions-k.ensures c.put_record.ensures.0

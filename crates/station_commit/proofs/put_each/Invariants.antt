@@ -9,6 +9,3 @@ use Rattle.station_commit.proofs.put_each.Given as goal
 
 abbrev pub invariant-loop-e : goal.invariant-loop-e
 invariant-loop-e l = (l.e ≤ l.n) × (length l.c ≡ length l.initial.c) × (l.c ≡ sets l.initial.c versions_at (versions_for l.s (take l.e l.addresses)))
-
-abbrev pub decreases-loop-e : goal.decreases-loop-e
-decreases-loop-e l = l.n - l.e

@@ -10,7 +10,7 @@ use Rattle.station_owner.specs.Facts.{ready_is, rests_passed, begin_back, begin_
 use Rattle.station_owner.proofs.begin.Goals as goal
 
 pub returns-then-not-at_rest : goal.returns-then-not-at_rest
-returns-then-not-at_rest c = begin_back _ _ _ (sym c.at_rest.ensures ∙ c.if-not-at_rest.true) c.no_begin.ensures c.refuse.ensures
+returns-then-not-at_rest c = begin_back _ _ _ (sym c.at_rest.ensures ∙ c.if-not-at_rest.true) (c.number.ensures ∙ c.no_begin.ensures) c.refuse.ensures
 
 pub number-n-requires : goal.number-n-requires
 number-n-requires c = (ready_is _ _ _ (rests_passed _ _ _ (sym c.at_rest.ensures ∙ c.if-not-at_rest.false)).0).size

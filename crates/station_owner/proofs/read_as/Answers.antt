@@ -14,7 +14,3 @@ returns-then-member c = simp (sym c.member.ensures, c.if-member.true) (hand_none
 pub returns-then-member-2 : goal.returns-then-member-2
 unfolding read_as_b
 returns-then-member-2 c = simp (sym c.member.ensures, c.if-member.false, sym c.member-2.ensures, c.if-member-2.true) (hand_none _ _ _ refl (c.say-then-member-2.ensures ∙ ap (λ (v : ℕ). said (Value v) 0 0) c.get_u64-then-member-2.ensures))
-
-pub returns : goal.returns
-unfolding read_as_b
-returns c = simp (sym c.member.ensures, c.if-member.false, sym c.member-2.ensures, c.if-member-2.false) c.read_here.ensures

@@ -5,4 +5,4 @@ use Rattle.station_owner.proofs.write.Goals as goal
 
 pub returns : goal.returns
 unfolding own_write_b
-returns c = simp (sym c.only-values.ensures, sym c.bit8.ensures, sym c.wide.ensures.0) c.write_set.ensures
+returns c = simp (sym c.only-values.ensures, sym c.bit8.ensures, sym c.from.ensures) c.write_set.ensures

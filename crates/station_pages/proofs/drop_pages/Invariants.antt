@@ -5,8 +5,5 @@ use Rattle.cells.proofs.Each.{Leads}
 use Rattle.station_pages.specs.Pages.{drop_page_b, drop_to}
 use Rattle.station_pages.proofs.drop_pages.Given as goal
 
-abbrev pub invariant-loop-x : goal.invariant-loop-x
-invariant-loop-x l = (length l.s ≡ length l.initial.s) × Leads drop_page_b 32 l.x l.s (drop_to l.initial.s l.d 32)
-
-abbrev pub decreases-loop-x : goal.decreases-loop-x
-decreases-loop-x l = l.x
+abbrev pub invariant-loop-p : goal.invariant-loop-p
+invariant-loop-p l = (length l.s ≡ length l.initial.s) × Leads drop_page_b 32 l.p-iterator.left l.s (drop_to l.initial.s l.d 32)

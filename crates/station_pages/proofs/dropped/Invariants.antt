@@ -7,6 +7,3 @@ use Rattle.station_pages.proofs.dropped.Given as goal
 
 abbrev pub invariant-loop-g : goal.invariant-loop-g
 invariant-loop-g l = (l.g ≤ 4) × (l.d ≡ mask_to (drops_b l.sets l.s) (l.g * 8))
-
-abbrev pub decreases-loop-g : goal.decreases-loop-g
-decreases-loop-g l = 4 - l.g

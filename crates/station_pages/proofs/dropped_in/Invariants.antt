@@ -7,6 +7,3 @@ use Rattle.station_pages.proofs.dropped_in.Given as goal
 
 abbrev pub invariant-loop-p : goal.invariant-loop-p
 invariant-loop-p l = (l.p ≤ 8) × (l.d ≡ mask_from (drops_b l.sets l.s) (l.g * 8) l.p)
-
-abbrev pub decreases-loop-p : goal.decreases-loop-p
-decreases-loop-p l = 8 - l.p

@@ -7,10 +7,6 @@ use Rattle.station_pages.specs.Pages.{mark_b}
 use Rattle.station_pages.specs.Groups.{mark_run}
 use Rattle.station_pages.proofs.mark.Goals as goal
 
-pub loop-g-init : goal.loop-g-init
-unfolding run
-loop-g-init c = search rules
-
 pub loop-g-preserved : goal.loop-g-preserved
 loop-g-preserved c = (search rules, search rules, run_group _ _ _ _ _ _ _ c.loop-g.invariant.2 c.mark_group.ensures (omega arith) (omega arith))
 

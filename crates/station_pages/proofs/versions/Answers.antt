@@ -7,10 +7,6 @@ use Rattle.station_state.specs.Runs.{run, run_group}
 use Rattle.station_pages.specs.Versions.{versions_run}
 use Rattle.station_pages.proofs.versions.Goals as goal
 
-pub loop-g-init : goal.loop-g-init
-unfolding run
-loop-g-init c = search rules
-
 pub loop-g-preserved : goal.loop-g-preserved
 loop-g-preserved c = (search rules, search rules, run_group _ _ _ _ _ _ _ c.loop-g.invariant.2 c.version_group.ensures (omega arith) (omega arith))
 

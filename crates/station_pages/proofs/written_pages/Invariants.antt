@@ -7,6 +7,3 @@ use Rattle.station_pages.proofs.written_pages.Given as goal
 
 abbrev pub invariant-loop-p : goal.invariant-loop-p
 invariant-loop-p l = (l.p ≤ 32) × (l.d ≡ mask_to (wrote_page_b l.s) l.p)
-
-abbrev pub decreases-loop-p : goal.decreases-loop-p
-decreases-loop-p l = 32 - l.p

@@ -1,18 +1,12 @@
-use Rattle.station_state.specs.Changes.{clear_to}
-use mathlib.Core.Path.{ap, ◌∙◌}
-use lib.ListN.{length-set}
-use native.Mathlib.Numerals.{add-one}
-use native.Mathlib.Omega.{arith}
-use borrow.Author.Rules.{rules}
+-- `station_state::clear` meets its contract.
+use Rattle.std.proofs.Common.{◌≡◌, ◌+◌, ◌-◌, replicate, arith, sym, ◌∙◌, rules}
+use Rattle.lists.specs.Stores.{put_part}
+use Rattle.station_state.specs.Layout.{set_row}
+use Rattle.station_state.proofs.Runs.{clear_to_is}
 use Rattle.station_state.proofs.clear.Goals as goal
 
-pub loop-i-init : goal.loop-i-init
-unfolding clear_to
-loop-i-init c = search rules
-
-pub loop-i-preserved : goal.loop-i-preserved
-unfolding clear_to
-loop-i-preserved c = (search rules, simp length-set (search rules), rw add-one (cc))
-
 pub returns : goal.returns
-returns c = c.loop-i.invariant.2 ∙ ap (clear_to _ _) (omega arith)
+returns c =
+    let g = c.args in
+    let z : c.fill.new.self ≡ replicate set_row 0 = search rules in
+    put_part (replicate set_row 0) _ g.s.now g.at (g.at + set_row - g.at) z (omega arith) (omega arith) ∙ sym (clear_to_is g.s.now g.at set_row)

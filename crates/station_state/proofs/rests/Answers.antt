@@ -11,4 +11,4 @@ pub returns-then-get_u32-ge-RESTING : goal.returns-then-get_u32-ge-RESTING
 returns-then-get_u32-ge-RESTING c = rests_not c.args.s.now (omega (arith, c.if-get_u32-ge-RESTING.true, c.get_u32.ensures))
 
 pub returns : goal.returns
-returns c = rw c.station.ensures (rests_joined c.args.s.now c.if-s-ne-LENGTH.false (omega (arith, c.if-get_u32-ge-RESTING.false, c.get_u32.ensures)) c.joined.ensures c.joined-2.ensures (c.long.ensures ∙ c.passing_whole.ensures) c.joined-3.ensures c.joined-4.ensures)
+returns c = rw c.station.ensures (rests_joined c.args.s.now c.if-s-ne-LENGTH.false (omega (arith, c.if-get_u32-ge-RESTING.false, c.get_u32.ensures)) c.joined.ensures c.joined-2.ensures (c.from.ensures ∙ c.passing_whole.ensures) c.joined-3.ensures c.joined-4.ensures)

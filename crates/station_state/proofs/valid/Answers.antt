@@ -1,5 +1,7 @@
 -- `station_state::valid` meets its contract.
 use mathlib.Core.Path.{sym, ◌∙◌}
+use native.Mathlib.Omega.{arith}
+use Rattle.std.proofs.lemmas.Grind.{common_steps}
 use borrow.Author.Tests.{eq-eqb, ne_eqb, le-leb, lt-leb}
 use Rattle.station_state.specs.Valid.{valid}
 use Rattle.station_state.specs.Facts.{valid_rests}
@@ -13,8 +15,8 @@ pub returns-then-station-gt7 : goal.returns-then-station-gt7
 unfolding valid
 returns-then-station-gt7 c = simp (eq-eqb _ _ c.if-s-ne-LENGTH.false, sym c.station.ensures, lt-leb _ _ c.if-station-gt7.true)
 
-pub returns-then-opened-eq0 : goal.returns-then-opened-eq0
-returns-then-opened-eq0 c = c.rests.ensures ∙ valid_rests _ (sym c.opened.ensures ∙ c.if-opened-eq0.true)
+pub returns-then-not-is_open : goal.returns-then-not-is_open
+returns-then-not-is_open c = c.rests.ensures ∙ valid_rests _ (grind (arith, common_steps))
 
 pub returns-then-not-fields_ok-own_kept : goal.returns-then-not-fields_ok-own_kept
 unfolding valid

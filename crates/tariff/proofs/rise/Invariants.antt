@@ -7,6 +7,3 @@ use Rattle.tariff.proofs.rise.Given as goal
 
 abbrev pub invariant-loop-i : goal.invariant-loop-i
 invariant-loop-i l = (1 ≤ l.i) × (l.i - 1 ≤ l.k - 1) × (l.ok ≡ all_to (rise_at l.table) (l.i - 1))
-
-abbrev pub decreases-loop-i : goal.decreases-loop-i
-decreases-loop-i l = l.k - l.i

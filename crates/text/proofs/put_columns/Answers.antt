@@ -1,12 +1,9 @@
 use native.Mathlib.Omega.{arith}
 use borrow.Author.Rules.{rules}
-use Rattle.text.specs.Stores.{column_store, columns_begin, columns_done}
+use Rattle.text.specs.Stores.{column_store, columns_done}
 use mathlib.Core.Path.{refl, ◌∙◌}
 use lib.ListN.{length-set}
 use Rattle.text.proofs.put_columns.Goals as goal
-
-pub loop-i-init : goal.loop-i-init
-loop-i-init c = (search rules, search rules, columns_begin _ _ _ _)
 
 pub loop-i-preserved : goal.loop-i-preserved
 loop-i-preserved c = (search rules, simp length-set (search rules), column_store _ _ _ _ _ c.loop-i-test.true c.parted.ensures ∙ c.loop-i.invariant.2)

@@ -13,11 +13,11 @@ pub put_text-at-requires : goal.put_text-at-requires
 put_text-at-requires c = omega (arith, has_room _ _ _ c.room.ensures (ap not c.if-not-room.false))
 
 pub put_field-at-requires : goal.put_field-at-requires
-put_field-at-requires c = omega (arith, has_room _ _ _ c.room.ensures (ap not c.if-not-room.false), field_within 10 c.long.result 58 (omega arith) (omega arith) (omega arith))
+put_field-at-requires c = omega (arith, has_room _ _ _ c.room.ensures (ap not c.if-not-room.false), field_within 10 c.from.result 58 (omega arith) (omega arith) (omega arith))
 
 pub put_text-requires : goal.put_text-requires
-put_text-requires c = omega (arith, has_room _ _ _ c.room.ensures (ap not c.if-not-room.false), field_within 10 c.long.result 58 (omega arith) (omega arith) (omega arith))
+put_text-requires c = omega (arith, has_room _ _ _ c.room.ensures (ap not c.if-not-room.false), field_within 10 c.from.result 58 (omega arith) (omega arith) (omega arith))
 
 pub returns : goal.returns
 unfolding at_line
-returns c = line_put _ _ _ _ c.room.ensures (ap not c.if-not-room.false) (put_join _ _ _ _ c.put_text-at.ensures.0 (put_join _ _ _ _ (rw c.long.ensures at c.put_field-at.ensures.0) c.put_text.ensures.0))
+returns c = line_put _ _ _ _ c.room.ensures (ap not c.if-not-room.false) (put_join _ _ _ _ c.put_text-at.ensures.0 (put_join _ _ _ _ (rw c.from.ensures at c.put_field-at.ensures.0) c.put_text.ensures.0))

@@ -6,6 +6,3 @@ use Rattle.totals.proofs.count.Given as goal
 
 abbrev pub invariant-loop-c : goal.invariant-loop-c
 invariant-loop-c l = (l.c ≤ l.m) × (l.counts ≡ counted_to l.part l.initial.counts l.n l.c)
-
-abbrev pub decreases-loop-c : goal.decreases-loop-c
-decreases-loop-c l = l.m - l.c

@@ -2,4 +2,4 @@
 use Rattle.words.proofs.say.Goals as goal
 
 pub returns : goal.returns
-returns c = rw c.long.ensures at c.say_long.ensures
+returns c = rw c.from.ensures at c.say_long.ensures

@@ -1,8 +1,0 @@
-use Rattle.std.proofs.Common.{length, ◌≤◌, ◌-◌}
-use Rattle.fees.proofs.line_end.Given as goal
-
-abbrev pub invariant-loop-e : goal.invariant-loop-e
-invariant-loop-e l = (l.at ≤ l.e) × (l.e ≤ length l.text)
-
-abbrev pub decreases-loop-e : goal.decreases-loop-e
-decreases-loop-e l = length l.text - l.e

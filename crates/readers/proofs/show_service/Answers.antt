@@ -1,0 +1,22 @@
+-- `readers::show_service` meets its contract.
+use native.Mathlib.Omega.{arith}
+use mathlib.Core.Path.{ap, ◌∙◌}
+use Rattle.refusals.specs.Laws.{passed_on}
+use Rattle.archive.specs.Told.{told}
+use borrow.Author.Tests.{lt-ltb}
+use Rattle.readers.specs.Readers.{service_at}
+use Rattle.readers.specs.Facts.{service_told_lem, service_put}
+use Rattle.readers.proofs.show_service.Goals as goal
+
+pub returns-then-out-lt-SERVICE : goal.returns-then-out-lt-SERVICE
+unfolding service_at
+returns-then-out-lt-SERVICE c = simp (lt-ltb _ _ c.if-out-lt-SERVICE.true)
+
+pub returns-in-Some : goal.returns-in-Some
+returns-in-Some c = service_put c.args.archive.now c.args.out.now _ _ (omega arith) (rw c.in-Some.is at c.in_ok-f.ensures) c.put_service.ensures
+
+pub returns-in-None : goal.returns-in-None
+returns-in-None c = service_told_lem c.args.archive.now c.args.out.now _ _ (omega arith) (rw c.in-None.is at c.in_ok-f.ensures)
+
+pub returns-in_err-f : goal.returns-in_err-f
+returns-in_err-f c = ap (told _) (passed_on _ c.in_err-f.field-0.0 c.from_residual.ensures.1) ∙ service_told_lem c.args.archive.now c.args.out.now _ _ (omega arith) c.in_err-f.ensures

@@ -1,0 +1,2 @@
+-- Runs that the library stores at once.
+pub mod Runs
