@@ -1,6 +1,7 @@
 #![tactic(auto)]
 // The reader of a counts file (docs/COUNTS.md): the counts of an archive's records, one behind the other.
-ghost use Rattle.std.specs.Prelude.{◌≡◌};
+ghost use Rattle.std.specs.Prelude.{◌≡◌, ◌+◌, ◌≤◌, length};
+ghost use Rattle.record.specs.Check.{rises};
 ghost use Rattle.refusals.specs.Refusals.{code};
 ghost use Rattle.archive.specs.Told.{told};
 ghost use Rattle.counts_file.specs.Answered.{next_of};
@@ -53,6 +54,18 @@ pub enum Written {
     Nothing,
 }
 
+// Whether the n addresses from a rise strictly. One is nothing to compare, and many counts have no more.
+#[tactic(auto, unfolding(record::specs::Check::rises, record::specs::Check::rise_at))]
+fn rises(s: &[u8], a: usize, n: usize) -> bool
+    requires { a + n ≤ length s.now }
+    ensures { result ≡ rises s.now a n }
+{
+    if n < 2 {
+        return true;
+    }
+    record::rises(s, a, n)
+}
+
 // Why the first counts of these bytes are refused: `Short` where they end inside them, then `Record` where they write more than 256
 // objects or their addresses do not rise strictly.
 #[tactic(auto, unfolding(crate::specs::File::check_counts))]
@@ -67,7 +80,7 @@ fn check(bytes: &[u8]) -> Result<(), Refusal>
     if bytes.len() < counts::HEADER + record::ENTRY * m {
         return Err(Refusal::Short);
     }
-    if (writes <= record::MOST) & record::rises(bytes, counts::HEADER, m) {
+    if (writes <= record::MOST) & rises(bytes, counts::HEADER, m) {
         return Ok(());
     }
     Err(Refusal::Record)

@@ -1,5 +1,5 @@
 -- Laws of the definitions: a list of eight by its elements, and what a turn over eight lines leaves.
-use Rattle.std.specs.Prelude.{◌≡◌, refl, ℕ, zero, suc, ◌+◌, ◌<◌, ◌≢◌, Bool, true, false, cond, length, set, replicate, eqb, Result, Ok, Err, IsErrAnd}
+use Rattle.std.specs.Prelude.{◌≡◌, refl, ℕ, zero, suc, ◌+◌, ◌<◌, ◌≢◌, Bool, true, false, not, cond, length, set, replicate, T, eqb, Result, Ok, Err, IsErrAnd}
 use Rattle.std.proofs.Common.{sym, ◌∙◌, subst, le_of_suc-le-suc, arith, eq-eqb, ne_eqb}
 use Rattle.std.proofs.Math.Path.{ap}
 use Rattle.std.proofs.Math.Nat.{suc_inj}
@@ -25,10 +25,10 @@ by_elements_lem (x ∷ ls) zero h = absurd (omega arith)
 by_elements_lem (x ∷ ls) (suc n) h = ap (λ (m : List Line). x ∷ m) (by_elements_lem ls n (suc_inj h))
 
 -- the first eight elements of a list
-abbrev first_eight : List Line → List Line
+abbrev pub first_eight : List Line → List Line
 first_eight ls = line_at ls 0 ∷ line_at ls 1 ∷ line_at ls 2 ∷ line_at ls 3 ∷ line_at ls 4 ∷ line_at ls 5 ∷ line_at ls 6 ∷ line_at ls 7 ∷ []
 
-first_eight_lem : (ls : List Line) → length ls ≡ 8 → first_eight ls ≡ ls
+pub first_eight_lem : (ls : List Line) → length ls ≡ 8 → first_eight ls ≡ ls
 first_eight_lem ls h = by_elements_lem ls 8 h
 
 -- ---- what the loops leave: a number of each of the first i lines, and the first i lines with no turn given
@@ -94,6 +94,10 @@ recount_at [] gs k j n b e = absurd (omega arith)
 recount_at (l ∷ ls) gs k zero n b e = ap (of gs) (omega arith)
 recount_at (l ∷ ls) gs k (suc j) n b e = recount_at ls gs (suc k) j n (le_of_suc-le-suc b) (omega arith)
 
+pub is_not : (t : Bool) → T (not t) → t ≡ false
+is_not true h = absurd h
+is_not false h = refl
+
 -- ---- what a call leaves, by what the code has chosen
 pub not_eight : (ls : List Line) (i : ℕ) → length ls ≢ 8 → turned ls i 1 ≡ taken_of ls i
 unfolding taken_of
@@ -107,12 +111,20 @@ module _ (ls : List Line) (c : Outcome) (eight : length ls ≡ 8) (is : c ≡ ch
       ap (λ (x : Outcome). turned (with_counts ls (counts_after (counts_of ls) x)) (cond (eqb x.number 0) x.line i) x.number) is
       ∙ ap (λ (t : Bool). cond t (taken ls i) (turned ls i 1)) (sym (eq-eqb _ _ eight))
 
-  pub refused_done : (why : Refusal) (r : Result ℕ Refusal) → c ≡ refused (number_of why) → IsErrAnd r (λ y. y ≡ why) → (i : ℕ) → turned ls (line_told i r) (number_told r) ≡ taken_of ls i
-  refused_done why (Err y) e same i =
+  refused_as : (i : ℕ) → eqb c.number 0 ≡ false → turned ls i c.number ≡ taken_of ls i
+  refused_as i n = ap (λ (l : List Line). turned l i c.number) (own_counts ls eight) ∙ (rw n at (by_choice i))
+
+  -- a turn that is refused changes nothing
+  pub refused_done : (i : ℕ) → T (not (eqb c.number 0)) → turned ls i c.number ≡ taken_of ls i
+  refused_done i bad = refused_as i (is_not (eqb c.number 0) bad)
+
+  -- .. as the code tells it
+  pub refused_told : (why : Refusal) (r : Result ℕ Refusal) → c ≡ refused (number_of why) → IsErrAnd r (λ y. y ≡ why) → (i : ℕ) → turned ls (line_told i r) (number_told r) ≡ taken_of ls i
+  refused_told why (Err y) e same i =
       let n : eqb c.number 0 ≡ false = ap (λ (x : Outcome). eqb x.number 0) e ∙ not_accepted why in
       let k : number_of y ≡ c.number = ap number_of same ∙ sym (ap (λ (x : Outcome). x.number) e) in
-      ap (turned ls i) k ∙ ap (λ (l : List Line). turned l i c.number) (own_counts ls eight) ∙ (rw n at (by_choice i))
-  refused_done why (Ok x) e same i = absurd same
+      ap (turned ls i) k ∙ refused_as i n
+  refused_told why (Ok x) e same i = absurd same
 
   module _ (given : c.number ≡ 0) where
     pub line_below : c.line < 8

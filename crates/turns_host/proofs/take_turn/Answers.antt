@@ -1,6 +1,6 @@
 -- `turns_host::take_turn` meets its contract.
 use Rattle.std.proofs.Common.{refl, arith}
-use Rattle.turns_host.specs.Laws.{not_eight, refused_done, line_below, room, given_done}
+use Rattle.turns_host.specs.Laws.{not_eight, refused_told, line_below, room, given_done}
 use Rattle.turns_host.proofs.take_turn.Goals as goal
 
 pub returns-then-lines-ne-LINES : goal.returns-then-lines-ne-LINES
@@ -9,7 +9,7 @@ returns-then-lines-ne-LINES c = λ i. not_eight _ i c.if-lines-ne-LINES.true
 pub returns-in_err-choice : goal.returns-in_err-choice
 returns-in_err-choice c =
     let e = rw (c.shares.ensures, c.counts.ensures, c.marks.ensures) at c.in_err-choice.ensures in
-    refused_done c.args.lines.now _ c.if-lines-ne-LINES.false e c.in_err-choice.field-0.0 _ refl c.from_residual.ensures.1
+    refused_told c.args.lines.now _ c.if-lines-ne-LINES.false e c.in_err-choice.field-0.0 _ refl c.from_residual.ensures.1
 
 pub offset_bounds-lines-i : goal.offset_bounds-lines-i
 offset_bounds-lines-i c =
